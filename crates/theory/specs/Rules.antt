@@ -1,0 +1,47 @@
+-- The rules as one relation: in an open state any applicable rule may be taken with any permitted literal.
+use mathlib.Core.Path.{_≡_}
+use mathlib.Core.Bool.{Bool, true, false}
+use mathlib.Core.List.{List, [], _∷_, _++_}
+use Prim.Native.Nat.{ℕ, suc}
+use lib.IntN.{ℤ, negℤ}
+use Rattle.words.specs.Lists.{In}
+use Rattle.formula.specs.Formula.{Formula, existential, universal}
+use Rattle.theory.specs.Record.{Entry, entry, Record, trueIn, without}
+use Rattle.theory.specs.Tests.{conflict, unitOn, monotoneWide, isOpen, allAssigned}
+
+-- "open, Valid or Unsat": an open state goes on from its record
+pub data State : Type 0 where
+  going : Record → State
+  valid unsat : State
+
+module _ (F : Formula) where
+  -- what holds of a record: some clause in conflict, or none; everything assigned
+  abbrev pub Conflict : Record → Type 0
+  Conflict r = conflict (F .prefix) (F .clauses) (trueIn r) ≡ true
+
+  abbrev pub Quiet : Record → Type 0
+  Quiet r = conflict (F .prefix) (F .clauses) (trueIn r) ≡ false
+
+  abbrev pub Full : Record → Type 0
+  Full r = allAssigned (F .prefix) (trueIn r) ≡ true
+
+  pub data Step : Record → State → Type 0 where
+    -- "Cut the record at its last kind 1 entry and put the opposite there, kind 0."
+    backtrack-exists : {r : Record} → Conflict r → (a b : Record) (l : ℤ) → r ≡ a ++ entry 1 l ∷ b → without 1 b ≡ true → Step r (going (a ++ entry 0 (negℤ l) ∷ []))
+    -- "With no such entry: Fail, session Unsat."
+    fail : {r : Record} → Conflict r → without 1 r ≡ true → Step r unsat
+    -- "Append l, kind 0."
+    unit : {r : Record} → Quiet r → (C : List ℤ) → In C (F .clauses) → (l : ℤ) → unitOn (F .prefix) (trueIn r) C l ≡ true → Step r (going (r ++ entry 0 l ∷ []))
+    monotone : {r : Record} → Quiet r → (l : ℤ) → monotoneWide (F .prefix) (F .clauses) (trueIn r) l ≡ true → Step r (going (r ++ entry 0 l ∷ []))
+    -- "Append the proposed literal .. Kind 1 or 2 by quantifier."
+    decide-exists : {r : Record} → Quiet r → (l : ℤ) → isOpen (F .prefix) (trueIn r) l ≡ true → existential (F .prefix) l ≡ true → Step r (going (r ++ entry 1 l ∷ []))
+    decide-forall : {r : Record} → Quiet r → (l : ℤ) → isOpen (F .prefix) (trueIn r) l ≡ true → universal (F .prefix) l ≡ true → Step r (going (r ++ entry 2 l ∷ []))
+    -- "cutting at the last kind 2 entry and putting the opposite, kind 0"
+    backtrack-forall : {r : Record} → Quiet r → Full r → (a b : Record) (l : ℤ) → r ≡ a ++ entry 2 l ∷ b → without 2 b ≡ true → Step r (going (a ++ entry 0 (negℤ l) ∷ []))
+    -- "With none: Succeed, session Valid."
+    succeed : {r : Record} → Quiet r → Full r → without 2 r ≡ true → Step r valid
+
+  -- a path of n rules
+  pub data Path : ℕ → State → State → Type 0 where
+    stop : {s : State} → Path 0 s s
+    take : {n : ℕ} {r : Record} {s t : State} → Step r s → Path n s t → Path (suc n) (going r) t

@@ -1,0 +1,60 @@
+-- The tests that the rules make of a clause, of a literal and of a record. p is the prefix, m the clauses, ρ says which literals are true.
+use Prim.Native.Nat.{ℕ}
+use mathlib.Core.Bool.{Bool, true, false, not, _&&_, _||_}
+use mathlib.Core.List.{List, [], _∷_}
+use lib.Dec.{leb, ltb}
+use lib.IntN.{ℤ, negℤ}
+use Rattle.words.specs.Lists.{any, all}
+use Rattle.words.specs.Words.{eqZ, mem}
+use Rattle.formula.specs.Formula.{existential, universal, level}
+use Rattle.theory.specs.Record.{Assignment, assigned}
+
+-- an unassigned existential literal, an unassigned universal literal
+unfoldable pub unassignedE : List ℤ → Assignment → ℤ → Bool
+unassignedE p ρ x = existential p x && not (assigned ρ x)
+
+unfoldable pub unassignedU : List ℤ → Assignment → ℤ → Bool
+unassignedU p ρ x = universal p x && not (assigned ρ x)
+
+-- "A clause is in conflict if it has no true literal and no unassigned existential literal."
+unfoldable pub inConflict : List ℤ → Assignment → List ℤ → Bool
+inConflict p ρ C = not (any ρ C) && not (any (unassignedE p ρ) C)
+
+-- "Some clause in conflict"
+unfoldable pub conflict : List ℤ → List (List ℤ) → Assignment → Bool
+conflict p m ρ = any (inConflict p ρ) m
+
+-- "no true literal, exactly one unassigned existential literal l, and each unassigned universal literal at a higher level than l"
+unfoldable pub unitOn : List ℤ → Assignment → List ℤ → ℤ → Bool
+unitOn p ρ C l =
+    not (any ρ C)
+    && (mem l C && unassignedE p ρ l)
+    && all (λ x. not (unassignedE p ρ x) || eqZ x l) C
+    && all (λ x. not (unassignedU p ρ x) || ltb (level p l) (level p x)) C
+
+-- "occurs with one sign only over the whole matrix": l occurs and its opposite does not
+unfoldable pub occurs : List (List ℤ) → ℤ → Bool
+occurs m l = any (mem l) m
+
+unfoldable pub oneSign : List (List ℤ) → ℤ → Bool
+oneSign m l = occurs m l && not (occurs m (negℤ l))
+
+-- "An existential one takes that sign, a universal one the opposite."
+unfoldable pub monotone : List ℤ → List (List ℤ) → Assignment → ℤ → Bool
+monotone p m ρ l = (unassignedE p ρ l && oneSign m l) || (unassignedU p ρ l && oneSign m (negℤ l))
+
+-- the widest that is sound: l stands in no clause that lacks a true literal
+unfoldable pub absent : List (List ℤ) → Assignment → ℤ → Bool
+absent m ρ l = all (λ C. any ρ C || not (mem l C)) m
+
+unfoldable pub monotoneWide : List ℤ → List (List ℤ) → Assignment → ℤ → Bool
+monotoneWide p m ρ l = (unassignedE p ρ l && absent m ρ (negℤ l)) || (unassignedU p ρ l && absent m ρ l)
+
+-- "A literal is open if its variable is unassigned and no variable of a lower level is."
+unfoldable pub isOpen : List ℤ → Assignment → ℤ → Bool
+isOpen p ρ l =
+    (unassignedE p ρ l || unassignedU p ρ l) && all (λ q. assigned ρ q || leb (level p l) (level p q)) p
+
+-- "All assigned"
+unfoldable pub allAssigned : List ℤ → Assignment → Bool
+allAssigned p ρ = all (assigned ρ) p

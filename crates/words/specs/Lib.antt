@@ -1,0 +1,4 @@
+-- Signed words as literals, and the lists that every room speaks of.
+pub mod Bools
+pub mod Lists
+pub mod Words

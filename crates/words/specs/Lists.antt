@@ -1,0 +1,66 @@
+-- Lists: membership, tests of all and of some elements, and the list as a loop sees it. Each by induction on the list.
+use mathlib.Core.Path.{_≡_, refl}
+use mathlib.Core.Logic.{_⊎_, inl, inr}
+use mathlib.Core.Bool.{Bool, true, false, _&&_, _||_}
+use mathlib.Core.List.{List, [], _∷_}
+use Prim.Native.Nat.{ℕ, _+_, _≤_, _<_}
+use native.Mathlib.Numerals.{add-one}
+use lib.ListN.{length, getD, drop, drop-of-length-le}
+use lib.Seq.{drop-cons}
+use Rattle.words.specs.Bools.{clash, and-l, and-r, and-i, or-e, or-l, or-r, to-false}
+
+-- x stands in the list
+pub data In {ℓ} {A : Type ℓ} (x : A) : List A → Type ℓ where
+  here : {y : A} {xs : List A} → x ≡ y → In x (y ∷ xs)
+  there : {y : A} {xs : List A} → In x xs → In x (y ∷ xs)
+
+module _ {A : Type 0} where
+  -- every element passes; some element passes
+  unfoldable pub all : (A → Bool) → List A → Bool
+  all f [] = true
+  all f (x ∷ xs) = f x && all f xs
+
+  unfoldable pub any : (A → Bool) → List A → Bool
+  any f [] = false
+  any f (x ∷ xs) = f x || any f xs
+
+  pub all-e : (f : A → Bool) (xs : List A) → all f xs ≡ true → {x : A} → In x xs → f x ≡ true
+  unfolding all
+  all-e f (y ∷ xs) h (here e) = rw e (and-l (f y) (all f xs) h)
+  all-e f (y ∷ xs) h (there i) = all-e f xs (and-r (f y) (all f xs) h) i
+
+  pub all-i : (f : A → Bool) (xs : List A) → ((x : A) → In x xs → f x ≡ true) → all f xs ≡ true
+  unfolding all
+  all-i f [] h = refl
+  all-i f (x ∷ xs) h = and-i (h x (here refl)) (all-i f xs (λ y i. h y (there i)))
+
+  pub any-i : (f : A → Bool) {x : A} {xs : List A} → In x xs → f x ≡ true → any f xs ≡ true
+  unfolding any
+  any-i f (here {xs = xs} e) h = or-l (any f xs) (rw e at h)
+  any-i f (there {y = y} i) h = or-r (f y) (any-i f i h)
+
+  pub any-e : (f : A → Bool) (xs : List A) → any f xs ≡ true → (x : A) × In x xs × (f x ≡ true)
+  unfolding any
+  any-e f [] h = clash h refl
+  any-e f (y ∷ xs) h = go (or-e (f y) (any f xs) h) (any-e f xs)
+    where
+      go : (f y ≡ true) ⊎ (any f xs ≡ true) → (any f xs ≡ true → (x : A) × In x xs × (f x ≡ true)) → (x : A) × In x (y ∷ xs) × (f x ≡ true)
+      go (inl e) ih = (y, here refl, e)
+      go (inr e) ih = let r = ih e in (r .0, there (r .1), r .2)
+
+  -- no element passes
+  pub any-f : (f : A → Bool) (xs : List A) → ((x : A) → In x xs → f x ≡ false) → any f xs ≡ false
+  any-f f xs h = to-false _ (λ e. let r = any-e f xs e in clash (r .2) (h (r .0) (r .1)))
+
+  pub any-none : (f : A → Bool) (xs : List A) → any f xs ≡ false → {x : A} → In x xs → f x ≡ false
+  any-none f xs h {x} i = to-false (f x) (λ e. clash (any-i f i e) h)
+
+  pub all-f : (f : A → Bool) (xs : List A) {x : A} → In x xs → f x ≡ false → all f xs ≡ false
+  all-f f xs i h = to-false _ (λ e. clash (all-e f xs e i) h)
+
+  -- what a loop at i has before it: the element at i and then the rest; at the end nothing
+  pub next : (xs : List A) (i : ℕ) (d : A) → i < length xs → drop i xs ≡ getD xs i d ∷ drop (i + 1) xs
+  next xs i d h = rw add-one (drop-cons xs i d h)
+
+  pub ended : (xs : List A) (i : ℕ) → length xs ≤ i → drop i xs ≡ []
+  ended xs i h = drop-of-length-le xs h
