@@ -1,12 +1,13 @@
--- A signed word as a literal: "A literal is +v or -v; its opposite is its negation." Its variable is its size, `natAbs`; its opposite `negℤ`.
+-- A signed word as a literal: "A literal is +v or -v; its opposite is its negation." Its variable is its size, `natAbs`; its opposite its negation, `negℤ`.
 use mathlib.Core.Path.{_≡_, refl, sym, _∙_, ap}
 use mathlib.Core.Logic.{_⊎_, inl, inr}
-use mathlib.Core.Bool.{Bool, true, false, _||_}
+use mathlib.Core.Bool.{Bool, true, false, cond, _||_}
 use mathlib.Core.List.{List, [], _∷_}
-use Prim.Native.Nat.{ℕ, zero, suc}
+use Prim.Native.Nat.{ℕ, zero, suc, _≤_, _<_}
 use native.Mathlib.Omega.{arith}
-use lib.Dec.{eqb, eqb→eq, eqb-refl}
+use lib.Dec.{leb, eqb, eqb→eq, eqb-refl}
 use lib.IntN.{ℤ, pos, negsuc, negℤ, natAbs}
+use borrow.Author.Tests.{le-leb, lt-leb}
 use Rattle.words.specs.Bools.{clash, T→eq, eq→T, or-e, or-l, or-r, to-false}
 use Rattle.words.specs.Lists.{In, here, there}
 
@@ -14,6 +15,10 @@ use Rattle.words.specs.Lists.{In, here, there}
 abbrev pub negative : ℤ → Bool
 negative (pos n) = false
 negative (negsuc n) = true
+
+-- the opposite of a word is its negation, but for the least 32-bit word, which has none: for it stands 0, which is no literal
+unfoldable pub opposite : ℤ → ℤ
+opposite x = cond (leb (natAbs x) 2147483647) (negℤ x) (pos 0)
 
 -- two words are the same
 unfoldable pub eqZ : ℤ → ℤ → Bool
@@ -46,7 +51,16 @@ eqZ-ne {x} {y} f = to-false _ (λ e. f (eqZ-eq x y e))
 pub neq : {x y : ℤ} → eqZ x y ≡ false → x ≡ y → ⊥
 neq {x} {y} h e = clash (rw e (eqZ-refl y)) h
 
--- the opposite of the opposite; a literal and its opposite have one variable
+-- the opposite of every word but the least is its negation
+pub opposite-is : (x : ℤ) → natAbs x ≤ 2147483647 → opposite x ≡ negℤ x
+unfolding opposite
+opposite-is x h = rw (le-leb (natAbs x) 2147483647 h)
+
+pub opposite-none : (x : ℤ) → 2147483647 < natAbs x → opposite x ≡ pos 0
+unfolding opposite
+opposite-none x h = rw (lt-leb (natAbs x) 2147483647 h)
+
+-- the negation of the negation; a literal and its opposite have one variable
 pub negneg : (x : ℤ) → negℤ (negℤ x) ≡ x
 negneg (pos zero) = refl
 negneg (pos (suc n)) = refl

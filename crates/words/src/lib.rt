@@ -1,4 +1,43 @@
-// Signed words as literals.
+// Signed words as literals. Every function answers for every word, the least one too.
+ghost use mathlib.Core.Path.{_≡_};
+ghost use lib.IntN.{pos, natAbs};
+ghost use lib.ListN.{getD};
+ghost use Rattle.words.specs.Words as words;
 
 // A literal is +v or -v; any other word may be handed in, and is refused where it matters.
 pub struct Literal(pub i32);
+
+// Whether a word is below zero.
+pub fn negative(x: i32) -> bool
+    ensures { λ r. ⌜ r ≡ words.negative x ⌝ }
+{
+    x < 0
+}
+
+// A word's size. It is widened first: the least word is never negated.
+pub fn size(x: i32) -> usize
+    ensures { λ r. ⌜ r ≡ natAbs x ⌝ }
+{
+    let y = x as i64;
+    if y < 0 { (0 - y) as usize } else { y as usize }
+}
+
+// The opposite of a literal. The least word has none: it is answered with 0, which is no literal.
+pub fn opposite(x: i32) -> i32
+    ensures { λ r. ⌜ r ≡ words.opposite x ⌝ }
+{
+    if x == -2147483648 { 0 } else { -x }
+}
+
+// The size of the word at an index, and whether it is below zero. Past the end there is the word 0.
+pub fn size_at(ws: &[i32], i: usize) -> usize
+    ensures { λ r. ⌜ r ≡ natAbs (getD (now (ws .entry)) i (pos 0)) ⌝ }
+{
+    if i < ws.len() { size(ws[i]) } else { 0 }
+}
+
+pub fn negative_at(ws: &[i32], i: usize) -> bool
+    ensures { λ r. ⌜ r ≡ words.negative (getD (now (ws .entry)) i (pos 0)) ⌝ }
+{
+    if i < ws.len() { negative(ws[i]) } else { false }
+}

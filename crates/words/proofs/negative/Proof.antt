@@ -1,0 +1,13 @@
+-- The test reads the word itself back.
+use mathlib.Core.Path.{_∙_, ap}
+use lib.IntN.{ℤ, pos}
+use lib.Signed.{ltZ}
+use Rattle.words.proofs.Machine.{below-zero, read}
+use Rattle.words.proofs.negative.Statement.{statement}
+use Rattle.words.proofs.negative.Tie as tie
+
+returns : tie.Need-returns
+returns c = rw (read _ (c .fits .x)) (below-zero (c .args .x))
+
+pub negative-spec : {M : Type 1} → statement M
+negative-spec = tie.close (tie.spec returns)

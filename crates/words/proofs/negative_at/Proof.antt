@@ -1,0 +1,33 @@
+-- Within the list it is the sign of the element read; past the end `getD` gives its default, 0, which is not below zero.
+use mathlib.Core.Path.{ap, sym, _∙_}
+use lib.IntN.{pos}
+use lib.ListN.{getD, List·getD-eq-default}
+use mir.Syntax.{w32}
+use mir.ValLaws.{toZ-ofZ}
+use Rattle.words.specs.Words.{negative}
+use borrow.Author.Needs.{needs, sfits-of}
+use Rattle.words.proofs.negative_at.Statement.{statement}
+use Rattle.words.proofs.negative_at.Tie as tie
+
+mul-negative : tie.Need-mul-negative
+mul-negative c = search needs
+
+shared-slice-copy-out-negative : tie.Need-shared-slice-copy-out-negative
+shared-slice-copy-out-negative c = search needs
+
+negative-requires : tie.Need-negative-requires
+negative-requires c κs = search needs
+
+returns : tie.Need-returns
+returns c =
+    let start = c .before .before .before in
+    c .negative .ensures ∙ ap negative (toZ-ofZ w32 (getD (start .args .ws .now) (start .args .i) (pos 0)) (sfits-of (c .before .negative-arg .given)))
+
+returns-2 : tie.Need-returns-2
+returns-2 c =
+    let start = c .before in
+    sym (ap negative (List·getD-eq-default (start .args .ws .now) (pos 0) (c .if1 .left)))
+
+pub negative-at-spec : {M : Type 1} → statement M
+negative-at-spec =
+    tie.close (tie.spec mul-negative shared-slice-copy-out-negative negative-requires returns returns-2)
