@@ -1,6 +1,6 @@
 -- "The due rule is the first that applies."
 use Prim.Native.Nat.{ℕ, suc}
-use mathlib.Core.Bool.{Bool, true, false, not, cond}
+use mathlib.Core.Bool.{Bool, true, false}
 use mathlib.Core.List.{List, [], _∷_}
 use lib.Dec.{eqb}
 use lib.IntN.{ℤ, pos, negℤ, natAbs}
@@ -13,6 +13,10 @@ use Rattle.rules.specs.declared.Rule.{Rule}
 use Rattle.rules.specs.declared.Rule.the-variants.{BacktrackExists, Fail, Unit, Monotone, Decide, BacktrackForall, Succeed}
 use Rattle.rules.specs.declared.Found.{Found}
 use Rattle.rules.specs.declared.Found.the-variants.{At, Nothing}
+use Rattle.rules.specs.declared.Picked.{Picked}
+use Rattle.rules.specs.declared.Picked.the-variants.{Is, NoLiteral}
+use Rattle.rules.specs.declared.UnitFound.{UnitFound}
+use Rattle.rules.specs.declared.UnitFound.the-variants.{On, NoUnit}
 
 abbrev pub literal : ℤ → Literal
 literal l = record { 0 = l }
@@ -26,6 +30,14 @@ module _ {A : Type 0} where
   abbrev pub onFound : Found → (ℕ → A) → A → A
   onFound (At i) f b = f i
   onFound Nothing f b = b
+
+  abbrev pub onUnit : UnitFound → (Literal → ℕ → A) → A → A
+  onUnit (On l c) f b = f l c
+  onUnit NoUnit f b = b
+
+  abbrev pub onPicked : Picked → (Literal → A) → A → A
+  onPicked (Is l) f b = f l
+  onPicked NoLiteral f b = b
 
 -- the lowest clause that passes, the first of them being number n
 module _ {A : Type 0} where
@@ -47,15 +59,21 @@ candidate p ρ (x ∷ C) = pick (unassignedE p ρ x) x (candidate p ρ C)
 abbrev pub isUnit : List ℤ → Assignment → List ℤ → Bool
 isUnit p ρ C = unitOn p ρ C (candidate p ρ C)
 
--- of the words qs of the prefix p the first whose variable is monotone: its literal, 0 if there is none
-unfoldable pub firstMonotone : List ℤ → List (List ℤ) → Assignment → List ℤ → ℤ
-firstMonotone p m ρ [] = pos 0
-firstMonotone p m ρ (q ∷ qs) = pick (monotone p m ρ q) q (pick (monotone p m ρ (negℤ q)) (negℤ q) (firstMonotone p m ρ qs))
+-- "Unit: the lowest clause with ..", and its literal
+unfoldable pub lowestUnit : List ℤ → Assignment → List (List ℤ) → UnitFound
+lowestUnit p ρ m = onFound (lowest (isUnit p ρ) 0 m) (λ c. On (literal (candidate p ρ (getD m c []))) c) NoUnit
 
--- "the first unassigned variable in prefix order, true", 0 if there is none
-unfoldable pub firstUnassigned : Assignment → List ℤ → ℤ
-firstUnassigned ρ [] = pos 0
-firstUnassigned ρ (q ∷ qs) = pick (assigned ρ q) (firstUnassigned ρ qs) (pos (natAbs q))
+-- "the first unassigned variable in prefix order that occurs with one sign only": the literal that it takes; qs are words of the prefix p
+unfoldable pub firstMonotone : List ℤ → List (List ℤ) → Assignment → List ℤ → Picked
+firstMonotone p m ρ [] = NoLiteral
+firstMonotone p m ρ (q ∷ qs) =
+    pick (monotone p m ρ q) (Is (literal q))
+    (pick (monotone p m ρ (negℤ q)) (Is (literal (negℤ q))) (firstMonotone p m ρ qs))
+
+-- "the first unassigned variable in prefix order, true"
+unfoldable pub firstUnassigned : Assignment → List ℤ → Picked
+firstUnassigned ρ [] = NoLiteral
+firstUnassigned ρ (q ∷ qs) = pick (assigned ρ q) (firstUnassigned ρ qs) (Is (literal (pos (natAbs q))))
 
 module _ (F : Formula) (r : Record) where
   -- 5: "All assigned: Backtrack-forall, cutting at the last kind 2 entry .. With none: Succeed"
@@ -63,22 +81,20 @@ module _ (F : Formula) (r : Record) where
   dueAssigned = onFound (last 2 0 r) (λ i. BacktrackForall i) Succeed
 
   -- 4: "Decide: some variable is unassigned."
-  abbrev pub dueDecide : ℤ → Rule
-  dueDecide l = pick (eqb (natAbs l) 0) dueAssigned (Decide (literal l))
+  abbrev pub dueDecide : Rule
+  dueDecide = onPicked (firstUnassigned (trueIn r) (F .prefix)) (λ l. Decide l) dueAssigned
 
-  -- 3: "Monotone: the first unassigned variable in prefix order that occurs with one sign only"
-  abbrev pub dueMonotone : ℤ → Rule
-  dueMonotone l = pick (eqb (natAbs l) 0) (dueDecide (firstUnassigned (trueIn r) (F .prefix))) (Monotone (literal l))
+  -- 3: "Monotone"
+  abbrev pub dueMonotone : Rule
+  dueMonotone = onPicked (firstMonotone (F .prefix) (F .clauses) (trueIn r) (F .prefix)) (λ l. Monotone l) dueDecide
 
-  -- 2: "Unit: the lowest clause .."
-  abbrev pub dueUnit : Found → Rule
-  dueUnit found =
-      onFound found (λ c. Unit (literal (candidate (F .prefix) (trueIn r) (getD (F .clauses) c []))) c)
-      (dueMonotone (firstMonotone (F .prefix) (F .clauses) (trueIn r) (F .prefix)))
+  -- 2: "Unit"
+  abbrev pub dueUnit : Rule
+  dueUnit = onUnit (lowestUnit (F .prefix) (trueIn r) (F .clauses)) (λ l c. Unit l c) dueMonotone
 
   -- 1: "Some clause in conflict: Backtrack-exists. Cut the record at its last kind 1 entry .. With no such entry: Fail"
   abbrev pub dueConflict : ℕ → Rule
   dueConflict c = onFound (last 1 0 r) (λ i. BacktrackExists i c) (Fail c)
 
   unfoldable pub due : Rule
-  due = onFound (lowest (inConflict (F .prefix) (trueIn r)) 0 (F .clauses)) dueConflict (dueUnit (lowest (isUnit (F .prefix) (trueIn r)) 0 (F .clauses)))
+  due = onFound (lowest (inConflict (F .prefix) (trueIn r)) 0 (F .clauses)) dueConflict dueUnit

@@ -1,4 +1,7 @@
 -- The due rule, and what one rule does to the lent buffers.
 pub mod Due
+pub mod Preferred
 pub mod Apply
 pub mod Check
+pub mod Ready
+pub mod Tables

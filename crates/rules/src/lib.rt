@@ -8,16 +8,14 @@ pub enum State {
     Unsat,
 }
 
-// The due rule, with the places and the clause that decide it. Clauses and places count from 0.
+// The due rule, with the place and the clause that decide it. Places and clauses count from 0.
 pub enum Rule {
-    // The place of the last kind 1 entry, and the lowest clause in conflict.
     BacktrackExists { at: usize, clause: usize },
     Fail { clause: usize },
     Unit { literal: Literal, clause: usize },
     Monotone { literal: Literal },
     // The literal that proposal 0 stands for.
     Decide { first: Literal },
-    // The place of the last kind 2 entry.
     BacktrackForall { at: usize },
     Succeed,
 }
@@ -26,4 +24,22 @@ pub enum Rule {
 pub enum Found {
     At(usize),
     Nothing,
+}
+
+// What a search for a literal finds.
+pub enum Picked {
+    Is(Literal),
+    NoLiteral,
+}
+
+// What the search for a unit clause finds.
+pub enum UnitFound {
+    On { literal: Literal, clause: usize },
+    NoUnit,
+}
+
+// Where a rule leaves a search: the record's length, and the state.
+pub struct Reached {
+    pub count: usize,
+    pub state: State,
 }

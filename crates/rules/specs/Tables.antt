@@ -1,0 +1,45 @@
+-- Tables by variable: what each place of a table says.
+use Prim.Native.Nat.{ℕ, _+_}
+use mathlib.Core.Path.{_≡_}
+use mathlib.Core.Bool.{Bool, true, false}
+use mathlib.Core.List.{List, [], _∷_}
+use lib.Dec.{eqb}
+use lib.IntN.{ℤ, pos, negsuc, negℤ, natAbs}
+use lib.ListN.{getD}
+use Rattle.words.specs.Lists.{any}
+use Rattle.words.specs.Words.{mem}
+use Rattle.formula.specs.Formula.{universal, levelOf}
+use Rattle.formula.specs.Block.{names}
+use Rattle.theory.specs.Record.{Assignment}
+use Rattle.rules.specs.Due.{pick}
+
+-- 1 for a positive word, 2 for a negative one
+abbrev pub signOf : ℤ → ℕ
+signOf (pos n) = 1
+signOf (negsuc n) = 2
+
+-- the value of a variable: 0 unassigned, 1 true, 2 false
+abbrev pub valueOf : Assignment → ℕ → ℕ
+valueOf ρ v = pick (ρ (pos v)) 1 (pick (ρ (negℤ (pos v))) 2 0)
+
+-- the signs with which a variable occurs: 0 none, 1 positive, 2 negative, 3 both
+abbrev pub signsOf : List ℤ → ℕ → ℕ
+signsOf ls v = pick (mem (pos v) ls) (pick (mem (negℤ (pos v)) ls) 3 1) (pick (mem (negℤ (pos v)) ls) 2 0)
+
+-- two occurrences together
+abbrev pub join : ℕ → ℕ → ℕ
+join a b = pick (eqb a 0) b (pick (eqb a b) a 3)
+
+-- each table, at every variable
+abbrev pub Values : Assignment → List ℕ → Type 0
+Values ρ t = (v : ℕ) → getD t v 0 ≡ valueOf ρ v
+
+abbrev pub Universals : List ℤ → List ℕ → Type 0
+Universals p t = (v : ℕ) → getD t v 0 ≡ pick (universal p (pos v)) 1 0
+
+abbrev pub Levels : List ℤ → List ℕ → Type 0
+Levels p t = (v : ℕ) → any (names v) p ≡ true → getD t v 0 ≡ levelOf p v
+
+-- of words whose variables are from 1 on
+abbrev pub Signs : List ℤ → List ℕ → Type 0
+Signs ls t = (v : ℕ) → getD t v 0 ≡ signsOf ls v

@@ -1,0 +1,5 @@
+-- Open, step and run: what each answers and leaves, for every input.
+pub mod Refusals
+pub mod Outcome
+pub mod Run
+pub mod Play

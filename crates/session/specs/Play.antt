@@ -1,0 +1,48 @@
+-- "any history of calls": a desk after a list of calls, each given that formula, that record and the latest session.
+use Prim.Native.Nat.{ℕ, _+_}
+use mathlib.Core.List.{List, [], _∷_}
+use lib.IntN.{ℤ}
+use Rattle.words.specs.declared.Literal.{Literal}
+use Rattle.session.specs.declared.Revision.{Revision}
+use Rattle.session.specs.declared.Session.{Session}
+use Rattle.session.specs.declared.Answer.{Answer}
+use Rattle.session.specs.declared.Answer.the-variants.{To, Refused}
+use Rattle.session.specs.declared.Ran.{Ran}
+use Rattle.session.specs.declared.Ran.the-variants.{Until, Stopped}
+use Rattle.session.specs.Outcome.{Outcome, stepOutcome}
+use Rattle.session.specs.Run.{RunOutcome, runOf}
+
+-- the latest session, the two buffers, and the accepted steps so far
+pub record Desk : Type 0 where
+  pub latest : Session
+  pub lits : List ℤ
+  pub kinds : List ℕ
+  pub steps : ℕ
+
+abbrev pub desk : Session → List ℤ → List ℕ → ℕ → Desk
+desk s ls ks n = record { latest = s; lits = ls; kinds = ks; steps = n }
+
+pub data Call : Type 0 where
+  step : Revision → Literal → Call
+  run : Revision → ℕ → List ℤ → Call
+
+-- an answer's session and accepted steps; a refused call leaves both
+abbrev pub afterStep : Desk → Answer → List ℤ → List ℕ → Desk
+afterStep d (To s) ls ks = desk s ls ks (d .steps + 1)
+afterStep d (Refused n) ls ks = desk (d .latest) ls ks (d .steps)
+
+abbrev pub afterRun : Desk → Ran → List ℤ → List ℕ → Desk
+afterRun d (Until s n) ls ks = desk s ls ks (d .steps + n)
+afterRun d (Stopped n) ls ks = desk (d .latest) ls ks (d .steps)
+
+unfoldable pub call : List ℤ → Desk → Call → Desk
+call b d (step seen l) =
+    let o = stepOutcome (d .latest) b (d .lits) (d .kinds) seen l in
+    afterStep d (o .answer) (o .lits) (o .kinds)
+call b d (run seen budget preferred) =
+    let o = runOf (d .latest) b (d .lits) (d .kinds) seen budget preferred in
+    afterRun d (o .answer) (o .lits) (o .kinds)
+
+unfoldable pub play : List ℤ → Desk → List Call → Desk
+play b d [] = d
+play b d (c ∷ cs) = play b (call b d c) cs

@@ -1,0 +1,63 @@
+-- "A run takes the seen revision, a budget of steps and a list of preferred literals of any content. At Decide it proposes the first open
+-- one in the list, else 0. It answers the session and the count of accepted steps; it pauses exactly if it isn't ended when the budget is used."
+use Prim.Native.Nat.{ℕ, zero, suc, _+_}
+use mathlib.Core.List.{List, [], _∷_}
+use lib.IntN.{ℤ, pos}
+use Rattle.formula.specs.Formula.{Formula, formulaOf}
+use Rattle.theory.specs.Record.{trueIn}
+use Rattle.rules.specs.declared.State.{State}
+use Rattle.rules.specs.declared.State.the-variants.{Open, Valid, Unsat}
+use Rattle.rules.specs.Due.{due}
+use Rattle.rules.specs.Preferred.{firstOpen}
+use Rattle.rules.specs.Apply.{Search, recordOf, apply}
+use Rattle.session.specs.declared.Revision.{Revision}
+use Rattle.session.specs.declared.Session.{Session}
+use Rattle.session.specs.declared.Ran.{Ran}
+use Rattle.session.specs.declared.Ran.the-variants.{Until, Stopped}
+use Rattle.session.specs.Refusals.{runRefusal}
+use Rattle.session.specs.Outcome.{moved, searchOf}
+
+pub record RunOutcome : Type 0 where
+  pub answer : Ran
+  pub lits : List ℤ
+  pub kinds : List ℕ
+
+abbrev pub runOutcome : Ran → List ℤ → List ℕ → RunOutcome
+runOutcome a ls ks = record { answer = a; lits = ls; kinds = ks }
+
+-- where a number of steps lead, and how many they are
+pub record Trip : Type 0 where
+  pub reached : Search
+  pub steps : ℕ
+
+abbrev pub trip : Search → ℕ → Trip
+trip t n = record { reached = t; steps = n }
+
+abbrev pub whileOpen : State → Trip → Trip → Trip
+whileOpen Open a b = a
+whileOpen Valid a b = b
+whileOpen Unsat a b = b
+
+module _ (F : Formula) (preferred : List ℤ) where
+  -- one accepted step, with the proposal that the preferences give
+  unfoldable pub advance : Search → Search
+  advance t =
+      let r = recordOf (t .lits) (t .kinds) (t .count) in
+      apply (F .prefix) (due F r) (firstOpen (F .prefix) (trueIn r) preferred) t
+
+  -- at most n steps, `steps` being done
+  unfoldable pub runFrom : ℕ → Search → ℕ → Trip
+  runFrom zero t steps = trip t steps
+  runFrom (suc n) t steps = whileOpen (t .state) (runFrom n (advance t) (steps + 1)) (trip t steps)
+
+abbrev pub ran : Session → Trip → RunOutcome
+ran s u = runOutcome (Until (moved s (u .steps) (u .reached)) (u .steps)) (u .reached .lits) (u .reached .kinds)
+
+abbrev pub unlessRun : ℕ → List ℤ → List ℕ → RunOutcome → RunOutcome
+unlessRun zero ls ks o = o
+unlessRun (suc n) ls ks o = runOutcome (Stopped (suc n)) ls ks
+
+unfoldable pub runOf : Session → List ℤ → List ℤ → List ℕ → Revision → ℕ → List ℤ → RunOutcome
+runOf s b ls ks seen budget preferred =
+    unlessRun (runRefusal s b ls ks seen budget) ls ks
+    (ran s (runFrom (formulaOf b) preferred budget (searchOf s ls ks) 0))
