@@ -1,0 +1,14 @@
+//! The judge: an independent reading of the solver's scope (document 01), to
+//! compare answers with. It shares nothing with the solver.
+
+pub mod block;
+pub mod cases;
+pub mod console;
+pub mod dice;
+pub mod hits;
+pub mod page;
+pub mod record;
+pub mod rules;
+pub mod session;
+pub mod shapes;
+pub mod truth;
