@@ -48,8 +48,8 @@ pub struct Desk {
     pub kinds: Vec<u8>,
     pub output: Vec<u32>,
     pub session: Session,
-    /// The rules that its calls have applied so far.
-    pub hits: Hits,
+    /// The rules that its steps, runs and pages have applied so far.
+    pub hits: [Hits; 3],
 }
 
 impl Default for Desk {
@@ -64,7 +64,7 @@ impl Default for Desk {
                 revision: 0,
                 state: State::Open,
             },
-            hits: Hits::default(),
+            hits: [Hits::default(); 3],
         }
     }
 }
@@ -140,7 +140,7 @@ impl Desk {
         let (block, lent, _) = self.lend();
         Some(match session.step(block, lent, seen, proposal) {
             Ok(done) => {
-                self.hits.add(&done.hits);
+                self.hits[0].add(&done.hits);
                 format!("step 0 {}", self.taken(done.session))
             }
             Err(number) => format!("step {number}"),
@@ -156,7 +156,7 @@ impl Desk {
         let (block, lent, _) = self.lend();
         Some(match session.run(block, lent, seen, budget, &preferred) {
             Ok(done) => {
-                self.hits.add(&done.hits);
+                self.hits[1].add(&done.hits);
                 format!("run 0 {} {}", self.taken(done.session), done.count)
             }
             Err(number) => format!("run {number}"),
@@ -176,7 +176,7 @@ impl Desk {
         let (block, lent, output) = self.lend();
         Some(match page::page(block, lent, ask, output) {
             Ok(done) => {
-                self.hits.add(&done.hits);
+                self.hits[2].add(&done.hits);
                 let written = &self.output[..2 * done.entries as usize];
                 let paused = u8::from(done.paused);
                 let head = format!("page 0 {} {} {paused}", done.next, done.entries);

@@ -4,6 +4,8 @@
 pub mod block;
 pub mod cases;
 pub mod console;
+pub mod damage;
+pub mod desks;
 pub mod dice;
 pub mod hits;
 pub mod page;
@@ -11,4 +13,6 @@ pub mod record;
 pub mod rules;
 pub mod session;
 pub mod shapes;
+pub mod tally;
 pub mod truth;
+pub mod yardstick;

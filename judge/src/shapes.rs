@@ -8,8 +8,11 @@ use crate::dice::Dice;
 pub struct Shape {
     pub variables: usize,
     pub clauses: usize,
-    /// The most literals of a clause, repeated ones not counted.
-    pub width: usize,
+    /// The fewest and the most literals of a clause, repeated ones not counted,
+    /// as far as there are variables.
+    pub widths: (usize, usize),
+    /// How many of them are existential at least, in most clauses.
+    pub existential: usize,
     /// How likely the quantifier changes from one variable to the next, in 100.
     pub changes: usize,
 }
@@ -33,36 +36,42 @@ pub fn prefix(dice: &mut Dice, shape: Shape, k: Option<usize>) -> Vec<i32> {
     words
 }
 
-/// Random clauses over the prefix, no variable with both signs in one. Most
-/// hold an existential literal, so that not every formula fails at once.
+/// Random clauses over the prefix, no variable with both signs in one.
 pub fn clauses(dice: &mut Dice, shape: Shape, prefix: &[i32]) -> Vec<Vec<i32>> {
     (0..shape.clauses)
-        .map(|_| clause(dice, shape.width, prefix))
+        .map(|_| clause(dice, shape, prefix))
         .collect()
 }
 
-fn clause(dice: &mut Dice, width: usize, prefix: &[i32]) -> Vec<i32> {
-    if prefix.is_empty() || dice.chance(1, 150) {
+/// Most clauses hold their existential literals and hardly any is empty, so
+/// that not every formula fails at once.
+fn clause(dice: &mut Dice, shape: Shape, prefix: &[i32]) -> Vec<i32> {
+    if prefix.is_empty() || dice.chance(1, 400) {
         return Vec::new();
     }
-    let wanted = 1 + dice.below(width.min(prefix.len()));
-    let mut variables: Vec<i32> = Vec::new();
-    if dice.chance(9, 10) {
-        let existential: Vec<i32> = prefix.iter().copied().filter(|&w| w > 0).collect();
-        variables.push(dice.pick(&existential));
+    let (least, most) = shape.widths;
+    let wanted = (least + dice.below(most + 1 - least)).min(prefix.len());
+    let mut variables: Vec<i32> = prefix.iter().map(|word| word.abs()).collect();
+    dice.shuffle(&mut variables);
+    if dice.chance(29, 30) {
+        let mut first = prefix.iter().copied().filter(|&word| word > 0).collect();
+        bring_forward(dice, &mut variables, &mut first, shape.existential);
     }
-    while variables.len() < wanted {
-        let variable = dice.pick(prefix).abs();
-        if !variables.contains(&variable) {
-            variables.push(variable);
-        }
-    }
+    variables.truncate(wanted);
     let mut literals: Vec<i32> = variables.iter().map(|&v| v * dice.pick(&[1, -1])).collect();
     if dice.chance(1, 12) {
         literals.push(dice.pick(&literals));
     }
     dice.shuffle(&mut literals);
     literals
+}
+
+/// Puts some of the `first` before all other variables.
+fn bring_forward(dice: &mut Dice, variables: &mut Vec<i32>, first: &mut Vec<i32>, count: usize) {
+    dice.shuffle(first);
+    first.truncate(count);
+    variables.retain(|variable| !first.contains(variable));
+    variables.splice(0..0, first.iter().copied());
 }
 
 /// The block of a random formula.
@@ -76,10 +85,24 @@ pub fn block(dice: &mut Dice, shape: Shape, k: Option<usize>) -> Vec<i32> {
 pub fn small(dice: &mut Dice, most: usize) -> Shape {
     let variables = dice.below(most + 1);
     let clauses = dice.below(3 * variables + 3);
+    let least = dice.pick(&[1, 1, 2, 2, 3]);
     Shape {
         variables,
         clauses: dice.pick(&[clauses, clauses, variables]),
-        width: 1 + dice.below(4),
+        widths: (least, least + dice.below(3)),
+        existential: dice.pick(&[1, 1, 2]),
         changes: dice.pick(&[0, 20, 40, 60, 100]),
+    }
+}
+
+/// A shape whose searches are longer: no short clauses, two existential literals
+/// in each, and about as many clauses as make both verdicts likely.
+pub fn harder(dice: &mut Dice, variables: usize) -> Shape {
+    Shape {
+        variables,
+        clauses: 2 * variables + dice.below(2 * variables + 1),
+        widths: (3, 3 + dice.below(2)),
+        existential: 2,
+        changes: dice.pick(&[5, 20, 50, 70]),
     }
 }
