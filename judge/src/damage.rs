@@ -1,8 +1,9 @@
-//! Damage to an accepted block, aimed at one row of the check each time. Not
-//! every try lands (a block may lack the part that it would break); the check
+//! Damage to an accepted block, aimed at one row of the check each time, and to
+//! an accepted record. Not every try lands (a block may lack the part that it would break); the check
 //! says what came of it.
 
 use crate::dice::Dice;
+use crate::record::Entry;
 
 /// Words at the edges of 32 bits, and the small ones beside 0.
 pub const EDGES: [i32; 8] = [0, 1, -1, i32::MIN, i32::MIN + 1, i32::MAX, i32::MAX - 1, -2];
@@ -136,5 +137,20 @@ fn both_signs(dice: &mut Dice, words: &mut [i32]) {
     if places.len() > 1 {
         let place = places.start + dice.below(places.len() - 1);
         words[place + 1] = words[place].wrapping_neg();
+    }
+}
+
+/// One entry that row 12 refuses, if the record has any.
+pub fn break_entry(dice: &mut Dice, record: &mut [Entry], v: i32) {
+    if record.is_empty() {
+        return;
+    }
+    let place = dice.below(record.len());
+    let other = record[dice.below(record.len())].literal;
+    match dice.below(4) {
+        0 => record[place].literal = dice.pick(&[0, v + 1, -v - 1, i32::MIN, i32::MAX]),
+        1 => record[place].literal = dice.pick(&[other, -other]),
+        2 => record[place].kind = dice.pick(&[3, 4, 255]),
+        _ => record[place].kind = dice.pick(&[1, 2]),
     }
 }

@@ -5,9 +5,10 @@
 use std::io::{self, Write};
 
 use crate::block::Formula;
-use crate::console::{line, Desk, OUTPUT_ROOM, RECORD_ROOM};
-use crate::damage::{damaged, EDGES};
+use crate::console::{line, Desk};
+use crate::damage::{break_entry, damaged, EDGES};
 use crate::dice::Dice;
+use crate::nonsense;
 use crate::record::{self, Entry};
 use crate::rules;
 use crate::session::State;
@@ -105,9 +106,9 @@ impl Play {
                 let k = 1 + dice.below(variables.min(4));
                 (shapes::harder(dice, variables), Some(k))
             }
-            4 => wide(dice),
-            5 => (large(dice), None),
-            _ => (full(), None),
+            4 => shapes::wide(dice),
+            5 => (shapes::large(dice), None),
+            _ => (shapes::full(), None),
         }
     }
 
@@ -351,23 +352,6 @@ impl Play {
         self.say(format!("session {length} {revision} {state}"));
     }
 
-    /// A record that the check accepts, though no search may lead to it.
-    fn sound_record(&mut self, formula: &Formula) -> Vec<Entry> {
-        let mut variables: Vec<i32> = formula.order().collect();
-        if self.dice.chance(2, 3) {
-            self.dice.shuffle(&mut variables);
-        }
-        variables.truncate(self.dice.below(variables.len() + 1));
-        let entry = |&variable: &i32| {
-            let decision = if formula.existential(variable) { 1 } else { 2 };
-            Entry {
-                literal: variable * self.dice.pick(&[1, -1]),
-                kind: self.dice.pick(&[0, decision]),
-            }
-        };
-        variables.iter().map(entry).collect()
-    }
-
     /// Lends buffers with this record, and anything past it.
     fn say_record(&mut self, record: &[Entry], variables: usize) {
         let more = self.dice.pick(&[0, 0, 2]);
@@ -385,7 +369,7 @@ impl Play {
         let Some(formula) = self.formula.clone() else {
             return self.calls_of_each_kind();
         };
-        let record = self.sound_record(&formula);
+        let record = shapes::record(&mut self.dice, &formula);
         self.say_record(&record, formula.variables());
         let revision = self.desk.session.revision;
         self.say(format!("session {} {revision} 0", record.len()));
@@ -401,7 +385,7 @@ impl Play {
         if v > 0 && self.dice.chance(1, 3) {
             self.short_buffers(v);
         } else {
-            let mut record = self.sound_record(&formula);
+            let mut record = shapes::record(&mut self.dice, &formula);
             break_entry(&mut self.dice, &mut record, v as i32);
             self.say_record(&record, v);
             let revision = self.desk.session.revision;
@@ -448,126 +432,8 @@ impl Play {
         self.say(line.to_string());
     }
 
-    /// A line that is no command, or whose numbers don't fit.
     fn no_command(&mut self) {
-        if self.dice.chance(1, 60) {
-            return self.more_than_the_room();
-        }
-        let revision = self.desk.session.revision;
-        let bad = self.dice.pick(&BAD_NUMBERS);
-        let line = match self.dice.below(12) {
-            0 => format!("open {bad}"),
-            1 => format!("step {revision} {bad}"),
-            2 => format!("step {bad} 0"),
-            3 => format!("run {revision} {bad}"),
-            4 => format!("run {revision} 1 1 {bad} 2"),
-            5 => format!("page {bad} 1"),
-            6 => format!("page 0 1 {bad}"),
-            7 => format!("session {bad} 0 0"),
-            8 => format!("block 0 0 0 6 6 {}", self.dice.pick(&BAD_WORDS)),
-            9 => format!("kinds 0 {bad}"),
-            10 => format!("out 1 {bad}"),
-            _ => self.dice.pick(&BAD_LINES).to_string(),
-        };
+        let line = nonsense::line(&mut self.dice, self.desk.session.revision);
         self.say(line);
-    }
-
-    fn more_than_the_room(&mut self) {
-        let (command, room) = self.dice.pick(&[
-            ("lits", RECORD_ROOM),
-            ("kinds", RECORD_ROOM),
-            ("out", OUTPUT_ROOM),
-        ]);
-        let count = room + self.dice.below(2);
-        self.say(line(command, &vec![0; count]));
-    }
-}
-
-/// Numbers that fit no place, or one kind of place only.
-const BAD_NUMBERS: [&str; 14] = [
-    "-1",
-    "-2147483648",
-    "-2147483649",
-    "2147483647",
-    "2147483648",
-    "4294967295",
-    "4294967296",
-    "18446744073709551616",
-    "340282366920938463463374607431768211456",
-    "256",
-    "+1",
-    "-",
-    "0x1",
-    "1,",
-];
-
-/// Words that no block can hold.
-const BAD_WORDS: [&str; 6] = ["2147483648", "-2147483649", "4294967302", "+6", "6.", "--6"];
-
-const BAD_LINES: [&str; 16] = [
-    "help",
-    "Show",
-    "show 1",
-    "shows",
-    "open",
-    "open 1 1",
-    "step 0",
-    "step 0 0 0",
-    "run 0",
-    "run",
-    "page 0",
-    "session 0 0 3",
-    "session 0 0",
-    "session 1 1 1 1",
-    "show\t",
-    " #",
-];
-
-/// One entry that row 12 refuses, if the record has any.
-fn break_entry(dice: &mut Dice, record: &mut [Entry], v: i32) {
-    if record.is_empty() {
-        return;
-    }
-    let place = dice.below(record.len());
-    let other = record[dice.below(record.len())].literal;
-    match dice.below(4) {
-        0 => record[place].literal = dice.pick(&[0, v + 1, -v - 1, i32::MIN, i32::MAX]),
-        1 => record[place].literal = dice.pick(&[other, -other]),
-        2 => record[place].kind = dice.pick(&[3, 4, 255]),
-        _ => record[place].kind = dice.pick(&[1, 2]),
-    }
-}
-
-/// A first group of about the size where a listing is refused.
-fn wide(dice: &mut Dice) -> (Shape, Option<usize>) {
-    let k = 14 + dice.below(6);
-    let shape = Shape {
-        variables: k + dice.below(4),
-        clauses: dice.below(30),
-        widths: (3, 3),
-        existential: 2,
-        changes: 50,
-    };
-    (shape, Some(k))
-}
-
-fn large(dice: &mut Dice) -> Shape {
-    Shape {
-        variables: dice.pick(&[30, 60, 128, 255, 256]),
-        clauses: dice.below(120),
-        widths: (2, 4),
-        existential: 2,
-        changes: dice.pick(&[0, 3, 50]),
-    }
-}
-
-/// As many variables and clauses as a block may have.
-fn full() -> Shape {
-    Shape {
-        variables: 256,
-        clauses: 1024,
-        widths: (3, 4),
-        existential: 2,
-        changes: 10,
     }
 }

@@ -8,6 +8,7 @@ pub mod damage;
 pub mod desks;
 pub mod dice;
 pub mod hits;
+pub mod nonsense;
 pub mod page;
 pub mod record;
 pub mod rules;

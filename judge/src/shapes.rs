@@ -1,7 +1,8 @@
-//! Random formulas, as prefix and clauses.
+//! Random formulas of several shapes, and random records of a formula.
 
-use crate::block::lay_out;
+use crate::block::{lay_out, Formula};
 use crate::dice::Dice;
+use crate::record::Entry;
 
 /// What a random formula is like.
 #[derive(Clone, Copy, Debug)]
@@ -105,4 +106,55 @@ pub fn harder(dice: &mut Dice, variables: usize) -> Shape {
         existential: 2,
         changes: dice.pick(&[5, 20, 50, 70]),
     }
+}
+
+/// A first group of about the size where a listing is refused.
+pub fn wide(dice: &mut Dice) -> (Shape, Option<usize>) {
+    let k = 14 + dice.below(6);
+    let shape = Shape {
+        variables: k + dice.below(4),
+        clauses: dice.below(30),
+        widths: (3, 3),
+        existential: 2,
+        changes: 50,
+    };
+    (shape, Some(k))
+}
+
+pub fn large(dice: &mut Dice) -> Shape {
+    Shape {
+        variables: dice.pick(&[30, 60, 128, 255, 256]),
+        clauses: dice.below(120),
+        widths: (2, 4),
+        existential: 2,
+        changes: dice.pick(&[0, 3, 50]),
+    }
+}
+
+/// As many variables and clauses as a block may have.
+pub fn full() -> Shape {
+    Shape {
+        variables: 256,
+        clauses: 1024,
+        widths: (3, 4),
+        existential: 2,
+        changes: 10,
+    }
+}
+
+/// A record that the check accepts, though no search may lead to it.
+pub fn record(dice: &mut Dice, formula: &Formula) -> Vec<Entry> {
+    let mut variables: Vec<i32> = formula.order().collect();
+    if dice.chance(2, 3) {
+        dice.shuffle(&mut variables);
+    }
+    variables.truncate(dice.below(variables.len() + 1));
+    let entry = |&variable: &i32| {
+        let decision = if formula.existential(variable) { 1 } else { 2 };
+        Entry {
+            literal: variable * dice.pick(&[1, -1]),
+            kind: dice.pick(&[0, decision]),
+        }
+    };
+    variables.iter().map(entry).collect()
 }

@@ -25,6 +25,22 @@ pub struct Session {
     pub state: u8,
 }
 
+impl Session {
+    /// Refusals 13 to 15.
+    fn guard(&self, seen: u64, budget: u32) -> Result<(), u8> {
+        if self.state != OPEN {
+            return Err(13);
+        }
+        if seen != self.revision {
+            return Err(14);
+        }
+        match self.revision.checked_add(u64::from(budget)) {
+            Some(_) => Ok(()),
+            None => Err(15),
+        }
+    }
+}
+
 /// A run: the next session and the count of accepted steps, or the number of
 /// its refusal (1 to 15), which leaves everything as it was.
 pub fn run(
@@ -39,15 +55,7 @@ pub fn run(
     let parts = Parts::of(block)?;
     let mut tables = Tables::of(&parts);
     tables.take_record(&parts, literals, kinds, session.length)?;
-    if session.state != OPEN {
-        return Err(13);
-    }
-    if seen != session.revision {
-        return Err(14);
-    }
-    if session.revision.checked_add(u64::from(budget)).is_none() {
-        return Err(15);
-    }
+    session.guard(seen, budget)?;
     let mut search = Search {
         parts,
         tables,

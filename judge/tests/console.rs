@@ -22,48 +22,46 @@ fn asked(block: &[i32], lines: &[&str]) -> Vec<String> {
     answers(&all).split_off(1)
 }
 
+/// Lines with their answers, on one desk.
+type Talk<'a> = &'a [(&'a str, &'a str)];
+
+fn check(talk: Talk) {
+    let lines: Vec<&str> = talk.iter().map(|pair| pair.0).collect();
+    for (pair, got) in talk.iter().zip(answers(&lines)) {
+        assert_eq!(got, pair.1, "{}", pair.0);
+    }
+}
+
+const A_WHOLE_DESK: Talk = &[
+    ("show", "show 0 0 0 lits kinds out"),
+    (
+        "block 4 5 13 6 10 15 1 -2 3 4 3 5 7 10 13 -1 -2 3 -2 -3 3 4 1 -2 -4 2 3 -4",
+        "block 0",
+    ),
+    ("lits 7 7 7 7 7", "lits 5"),
+    ("kinds 7 7 7 7", "kinds 4"),
+    ("out 9 9", "out 2"),
+    ("open 0", "open 0 0 0 0"),
+    ("step 0 3", "step 17"),
+    ("step 0 1", "step 0 1 1 0"),
+    ("step 0 -2", "step 14"),
+    ("step 1 -2", "step 0 2 2 0"),
+    ("show", "show 2 2 0 lits 1 -2 0 0 7 kinds 1 2 0 0 out 9 9"),
+    ("run 2 1 -3", "run 0 3 3 0 1"),
+    ("show", "show 3 3 0 lits 1 -2 -3 0 7 kinds 1 2 1 0 out 9 9"),
+    ("run 3 4294967295 -3", "run 0 4 13 2 10"),
+    ("step 13 0", "step 13"),
+    ("show", "show 4 13 2 lits -1 2 -3 4 7 kinds 0 2 0 0 out 9 9"),
+    ("page 0 100", "page 0 2 0 0"),
+    ("page 0 0", "page 0 0 0 1"),
+    ("page 2 0", "page 0 2 0 0"),
+    ("page 3 0", "page 20"),
+    ("show", "show 4 13 2 lits 0 0 0 0 7 kinds 0 0 0 0 out 9 9"),
+];
+
 #[test]
 fn a_whole_desk() {
-    let lines = [
-        "show",
-        "lits 7 7 7 7 7",
-        "kinds 7 7 7 7",
-        "out 9 9",
-        "open 0",
-        "step 0 3",
-        "step 0 1",
-        "step 0 -2",
-        "step 1 -2",
-        "show",
-        "run 2 100 -3",
-        "show",
-        "step 9 0",
-        "page 0 100",
-        "page 0 0",
-        "page 2 0",
-        "show",
-    ];
-    let expected = [
-        "show 0 0 0 lits kinds out",
-        "lits 5",
-        "kinds 4",
-        "out 2",
-        "open 0 0 0 0",
-        "step 17",
-        "step 0 1 1 0",
-        "step 14",
-        "step 0 2 2 0",
-        "show 2 2 0 lits 1 -2 0 0 7 kinds 1 2 0 0 out 9 9",
-    ];
-    let got = asked(&cases::A, &lines);
-    assert_eq!(got[..expected.len()], expected);
-    assert!(got[10].starts_with("run 0 ") && got[10].contains(" 2 "));
-    assert_eq!(got[12], "step 13");
-    assert_eq!(
-        got[13..16],
-        ["page 0 2 0 0", "page 0 0 0 1", "page 0 2 0 0"]
-    );
-    assert!(got[16].ends_with("lits 0 0 0 0 7 kinds 0 0 0 0 out 9 9"));
+    check(A_WHOLE_DESK);
 }
 
 #[test]
@@ -79,85 +77,60 @@ fn listing_as_in_g() {
     assert_eq!(asked(&cases::G, &lines)[3], "page 0 3 2 0 1 1 2 1");
 }
 
+const WORDS_AND_NUMBERS: Talk = &[
+    ("", "-"),
+    ("   ", "-"),
+    ("#", "-"),
+    ("# show", "-"),
+    (" # show", "?"),
+    ("  show  ", "show 0 0 0 lits kinds out"),
+    ("Show", "?"),
+    ("show 0", "?"),
+    ("lits +5", "?"),
+    ("lits -", "?"),
+    ("lits --5", "?"),
+    ("lits 5\t", "?"),
+    ("show\r", "?"),
+    ("lits -0 007 -007", "lits 3"),
+    ("kinds -0 255", "kinds 2"),
+    ("kinds 256", "?"),
+    ("kinds -1", "?"),
+    ("lits 2147483647 -2147483648", "lits 2"),
+    ("lits 2147483648", "?"),
+    ("lits -2147483649", "?"),
+    ("out 4294967295", "out 1"),
+    ("out 4294967296", "?"),
+    (
+        "session 18446744073709551615 18446744073709551615 2",
+        "session",
+    ),
+    ("session 18446744073709551616 0 0", "?"),
+    ("session 0 0 3", "?"),
+    ("session 0 0", "?"),
+    ("session 0 0 0 0", "?"),
+    (
+        "lits 99999999999999999999999999999999999999999999999999999999999999999999999999",
+        "?",
+    ),
+    (
+        "lits 00000000000000000000000000000000000000000000000000000000000000000000000005",
+        "lits 1",
+    ),
+    ("block", "block 1"),
+    ("open", "?"),
+    ("open 0 0", "?"),
+    ("step 0", "?"),
+    ("run 0", "?"),
+    ("page 0", "?"),
+    (
+        "show",
+        "show 18446744073709551615 18446744073709551615 2 lits 5 kinds 0 255 out 4294967295",
+    ),
+];
+
 #[test]
 fn words_and_numbers() {
-    let lines = [
-        "",
-        "   ",
-        "#",
-        "# show",
-        " # show",
-        "  show  ",
-        "Show",
-        "show 0",
-        "lits +5",
-        "lits -",
-        "lits --5",
-        "lits 5\t",
-        "show\r",
-        "lits -0 007 -007",
-        "kinds -0 255",
-        "kinds 256",
-        "kinds -1",
-        "lits 2147483647 -2147483648",
-        "lits 2147483648",
-        "lits -2147483649",
-        "out 4294967295",
-        "out 4294967296",
-        "session 18446744073709551615 18446744073709551615 2",
-        "session 18446744073709551616 0 0",
-        "session 0 0 3",
-        "session 0 0",
-        "session 0 0 0 0",
-        "lits 99999999999999999999999999999999999999999999999999999999999999999999999999",
-        "lits 00000000000000000000000000000000000000000000000000000000000000000000000005",
-        "block",
-        "open",
-        "open 0 0",
-        "step 0",
-        "run 0",
-        "page 0",
-        "show",
-    ];
-    let expected = [
-        "-",
-        "-",
-        "-",
-        "-",
-        "?",
-        "show 0 0 0 lits kinds out",
-        "?",
-        "?",
-        "?",
-        "?",
-        "?",
-        "?",
-        "?",
-        "lits 3",
-        "kinds 2",
-        "?",
-        "?",
-        "lits 2",
-        "?",
-        "?",
-        "out 1",
-        "?",
-        "session",
-        "?",
-        "?",
-        "?",
-        "?",
-        "?",
-        "lits 1",
-        "block 1",
-        "?",
-        "?",
-        "?",
-        "?",
-        "?",
-        "show 18446744073709551615 18446744073709551615 2 lits 5 kinds 0 255 out 4294967295",
-    ];
-    assert_eq!(answers(&lines), expected);
+    check(WORDS_AND_NUMBERS);
 }
 
 #[test]
@@ -180,56 +153,42 @@ fn room() {
     assert_eq!(got, ["show 0 0 0 lits kinds out", "?", "?"]);
 }
 
-/// Case B, decided once, with everything after it broken: the lower row answers.
+/// On case B with the kinds 2 0: literals, session and call, everything after
+/// the wanted row broken too where it can be; and the answer.
+const TRIES: &[[&str; 4]] = &[
+    ["lits 0", "session 3 5 1", "step 0 1", "step 11"],
+    ["lits 0 0", "session 3 5 1", "step 0 1", "step 12"],
+    ["lits 0 0", "session 1 5 1", "run 0 1", "run 12"],
+    ["lits 1 1", "session 2 5 1", "step 0 1", "step 12"],
+    ["lits 3 0", "session 1 5 1", "step 0 1", "step 12"],
+    ["lits -2147483648 0", "session 1 5 1", "step 0 1", "step 12"],
+    ["lits 2 0", "session 1 5 1", "step 0 1", "step 12"],
+    ["lits 1 0", "session 1 5 1", "step 0 1", "step 13"],
+    ["lits 1 0", "session 1 5 2", "run 0 1", "run 13"],
+    ["lits 1 0", "session 1 LAST 0", "step 0 1", "step 14"],
+    ["lits 1 0", "session 1 LAST 0", "step LAST 1", "step 15"],
+    ["lits 1 0", "session 1 LAST 0", "run LAST 1", "run 15"],
+    [
+        "lits 1 0",
+        "session 1 LAST 0",
+        "run LAST 0",
+        "run 0 1 LAST 0 0",
+    ],
+    ["lits 1 0", "session 1 5 0", "step 5 9", "step 16"],
+    ["lits 1 0", "session 0 5 0", "step 5 2", "step 17"],
+    ["lits 1 0", "session 0 5 0", "step 5 -2147483648", "step 17"],
+    ["lits 1 0", "session 0 5 0", "step 5 -1", "step 0 1 6 0"],
+];
+
 #[test]
 fn refusals_11_to_17_in_order() {
-    let last = u64::MAX;
-    let good = ["kinds 0 0", "lits 0 0", "open 0", "step 0 0"];
-    let tries = [
-        ("lits 0", "session 3 5 1", "step 0 1", "step 11"),
-        ("lits 0 0", "session 3 5 1", "step 0 1", "step 12"),
-        ("lits 0 0", "session 1 5 1", "run 0 1", "run 12"),
-        ("lits 1 1", "session 2 5 1", "step 0 1", "step 12"),
-        ("lits 3 0", "session 1 5 1", "step 0 1", "step 12"),
-        ("lits -2147483648 0", "session 1 5 1", "step 0 1", "step 12"),
-        ("lits 2 0", "session 1 5 1", "step 0 1", "step 12"),
-        ("lits 1 0", "session 1 5 1", "step 0 1", "step 13"),
-        ("lits 1 0", "session 1 5 2", "run 0 1", "run 13"),
-        (
-            "lits 1 0",
-            &format!("session 1 {last} 0"),
-            "step 0 1",
-            "step 14",
-        ),
-        (
-            "lits 1 0",
-            &format!("session 1 {last} 0"),
-            &format!("step {last} 1"),
-            "step 15",
-        ),
-        (
-            "lits 1 0",
-            &format!("session 1 {last} 0"),
-            &format!("run {last} 1"),
-            "run 15",
-        ),
-        (
-            "lits 1 0",
-            &format!("session 1 {last} 0"),
-            &format!("run {last} 0"),
-            &format!("run 0 1 {last} 0 0"),
-        ),
-        ("lits 1 0", "session 1 5 0", "step 5 9", "step 16"),
-        ("lits 1 0", "session 0 5 0", "step 5 2", "step 17"),
-        ("lits 1 0", "session 0 5 0", "step 5 -2147483648", "step 17"),
-        ("lits 1 0", "session 0 5 0", "step 5 -1", "step 0 1 6 0"),
-    ];
-    for (lits, session, call, answer) in tries {
-        let mut lines = good.to_vec();
-        lines.extend(["kinds 2 0", lits, session, "show", call, "show"]);
+    for tried in TRIES {
+        let [lits, session, call, answer] =
+            tried.map(|line| line.replace("LAST", &u64::MAX.to_string()));
+        let lines = ["kinds 2 0", &lits, &session, "show", &call, "show"];
         let got = asked(&cases::b(), &lines);
-        assert_eq!(got[8], answer, "{lits}, {session}, {call}");
-        assert!(got[7] == got[9] || got[8].contains(" 0 "), "{call}");
+        assert_eq!(got[4], answer, "{tried:?}");
+        assert!(got[3] == got[5] || answer.contains(" 0 "), "{tried:?}");
     }
 }
 

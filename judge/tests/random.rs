@@ -4,10 +4,20 @@ use judge::block::Formula;
 use judge::dice::Dice;
 use judge::page::{page, Ask};
 use judge::session::{open, Lent, Session, State};
-use judge::shapes;
+use judge::shapes::{self, Shape};
 use judge::truth;
 
-const FORMULAS: usize = 6000;
+const FORMULAS: usize = 12_000;
+
+/// Half of the formulas are easy ones.
+fn shape(dice: &mut Dice, most: usize) -> Shape {
+    let variables = dice.between(3, most as i64) as usize;
+    if dice.chance(1, 2) {
+        shapes::small(dice, most)
+    } else {
+        shapes::harder(dice, variables)
+    }
+}
 
 fn preferences(dice: &mut Dice, variables: usize) -> Vec<i32> {
     let most = variables as i64 + 1;
@@ -41,7 +51,7 @@ fn runs_end_with_the_truth() {
     let mut dice = Dice::new(1);
     let mut verdicts = [0, 0];
     for _ in 0..FORMULAS {
-        let shape = shapes::small(&mut dice, 8);
+        let shape = shape(&mut dice, 8);
         let block = shapes::block(&mut dice, shape, None);
         let truth = truth::truth(&Formula::read(&block).unwrap());
         let preferred = preferences(&mut dice, shape.variables);
@@ -60,7 +70,7 @@ fn runs_end_with_the_truth() {
 fn runs_are_their_steps() {
     let mut dice = Dice::new(2);
     for _ in 0..FORMULAS / 3 {
-        let shape = shapes::small(&mut dice, 7);
+        let shape = shape(&mut dice, 7);
         let block = shapes::block(&mut dice, shape, None);
         let (mut literals, mut kinds) = (vec![3; shape.variables], vec![3; shape.variables]);
         let lent = Lent {
@@ -107,7 +117,7 @@ fn pages_list_the_winners() {
     let mut dice = Dice::new(3);
     let mut some_winners = 0;
     for _ in 0..FORMULAS / 3 {
-        let shape = shapes::small(&mut dice, 8);
+        let shape = shape(&mut dice, 8);
         let k = dice.below(shape.variables.min(5) + 1);
         let block = shapes::block(&mut dice, shape, Some(k));
         let formula = Formula::read(&block).unwrap();
