@@ -115,8 +115,8 @@ fn negate_last(words: &mut [i32]) {
     }
 }
 
-/// An end off by one, at an edge or changed with its neighbour; or a clause
-/// count of 0 beside literals.
+/// An end (the last one more often) off by one, at an edge or changed with its
+/// neighbour; or a clause count of 0 beside literals.
 fn break_end(dice: &mut Dice, words: &mut Vec<i32>) {
     let places = part(words, 1);
     if dice.chance(1, 6) {
@@ -126,6 +126,8 @@ fn break_end(dice: &mut Dice, words: &mut Vec<i32>) {
     } else if places.len() > 1 && dice.chance(1, 4) {
         let place = places.start + dice.below(places.len() - 1);
         words.swap(place, place + 1);
+    } else if dice.chance(1, 3) {
+        break_word(dice, words, places.end - places.len().min(1)..places.end);
     } else {
         break_word(dice, words, places);
     }

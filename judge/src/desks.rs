@@ -12,7 +12,7 @@ use crate::nonsense;
 use crate::record::{self, Entry};
 use crate::rules;
 use crate::session::State;
-use crate::shapes::{self, Shape};
+use crate::shapes;
 
 /// Revisions at the edges of 32 and 64 bits.
 const REVISIONS: [u64; 8] = [
@@ -78,15 +78,14 @@ impl Play {
 
     /// One formula and what is done with it.
     fn scene(&mut self) {
-        let (shape, k) = self.shape();
-        let block = shapes::block(&mut self.dice, shape, k);
+        let block = self.new_block();
         for _ in 0..self.dice.below(4) {
             let wrong = damaged(&mut self.dice, &block);
             self.say_block(&wrong);
             self.calls_of_each_kind();
         }
         self.say_block(&block);
-        self.lend_buffers(shape.variables);
+        self.lend_buffers(self.variables());
         self.say_output();
         self.say_open();
         for _ in 0..4 + self.dice.below(24) {
@@ -95,10 +94,10 @@ impl Play {
     }
 
     /// Mostly small formulas, with now and then a large or an edge count.
-    fn shape(&mut self) -> (Shape, Option<usize>) {
+    fn new_block(&mut self) -> Vec<i32> {
         let dice = &mut self.dice;
         let variables = 3 + dice.below(10);
-        match dice.weighted(&[160, 160, 340, 280, 100, 12, 1]) {
+        let (shape, k) = match dice.weighted(&[160, 160, 340, 280, 100, 12, 4]) {
             0 => (shapes::small(dice, 4), None),
             1 => (shapes::small(dice, 8), None),
             2 => (shapes::harder(dice, variables), None),
@@ -108,8 +107,9 @@ impl Play {
             }
             4 => shapes::wide(dice),
             5 => (shapes::large(dice), None),
-            _ => (shapes::full(), None),
-        }
+            _ => return shapes::full(dice),
+        };
+        shapes::block(dice, shape, k)
     }
 
     /// Buffers of V places or somewhat more, with anything in them.

@@ -110,7 +110,7 @@ pub fn harder(dice: &mut Dice, variables: usize) -> Shape {
 
 /// A first group of about the size where a listing is refused.
 pub fn wide(dice: &mut Dice) -> (Shape, Option<usize>) {
-    let k = 14 + dice.below(6);
+    let k = dice.pick(&[14, 15, 16, 16, 17, 17, 19]);
     let shape = Shape {
         variables: k + dice.below(4),
         clauses: dice.below(30),
@@ -131,15 +131,30 @@ pub fn large(dice: &mut Dice) -> Shape {
     }
 }
 
-/// As many variables and clauses as a block may have.
-pub fn full() -> Shape {
-    Shape {
-        variables: 256,
-        clauses: 1024,
-        widths: (3, 4),
-        existential: 2,
+/// A block with one count, or all of them, at the limit.
+pub fn full(dice: &mut Dice) -> Vec<i32> {
+    let (variables, count, words) = dice.pick(&[
+        (256, 3, 9),
+        (3, 1024, 2048),
+        (7, 5, 4096),
+        (256, 1024, 4096),
+    ]);
+    let shape = Shape {
+        variables,
+        clauses: count,
+        widths: (0, 0),
+        existential: 0,
         changes: 10,
+    };
+    let prefix = prefix(dice, shape, None);
+    let mut clauses = vec![Vec::new(); count];
+    for word in 0..words {
+        let clause: &mut Vec<i32> = &mut clauses[word * count / words];
+        let literal = dice.pick(&prefix).abs() * dice.pick(&[1, -1]);
+        let opposite = clause.contains(&-literal);
+        clause.push(if opposite { -literal } else { literal });
     }
+    lay_out(&prefix, &clauses)
 }
 
 /// A record that the check accepts, though no search may lead to it.
