@@ -14,7 +14,7 @@ pub fn line(dice: &mut Dice, revision: u64) -> String {
         0 => format!("open {bad}"),
         1 => format!("step {revision} {bad}"),
         2 => format!("step {bad} 0"),
-        3 => format!("run {revision} {bad}"),
+        3 => format!("run {revision} {}", dice.pick(&BAD_BUDGETS)),
         4 => format!("run {revision} 1 1 {bad} 2"),
         5 => format!("page {bad} 1"),
         6 => format!("page 0 1 {bad}"),
@@ -54,6 +54,9 @@ const BAD_NUMBERS: [&str; 14] = [
     "0x1",
     "1,",
 ];
+
+/// Numbers that are no budget. (A large one that fits could be a long search.)
+const BAD_BUDGETS: [&str; 6] = ["-1", "4294967296", "18446744073709551615", "+1", "-", "1e3"];
 
 /// Words that no block can hold.
 const BAD_WORDS: [&str; 6] = ["2147483648", "-2147483649", "4294967302", "+6", "6.", "--6"];

@@ -141,8 +141,8 @@ impl<'a> Values<'a> {
             .find(|&variable| !self.assigned(variable))
     }
 
-    /// The unassigned literals of a clause on one side, or none at all of them
-    /// (`None`) if the clause has a true literal.
+    /// The unassigned literals of a clause, by quantifier; `None` if it has a true
+    /// literal.
     fn left(&self, clause: usize) -> Option<Left> {
         let literals = &self.formula.clauses[clause];
         if literals.iter().any(|&literal| self.is_true(literal)) {

@@ -123,7 +123,7 @@ impl Session {
     }
 }
 
-/// A record under way, with the lent buffers that show it.
+/// A record under way, with the buffers that each step writes to.
 pub struct Search<'a> {
     formula: &'a Formula,
     record: Vec<Entry>,
@@ -133,7 +133,7 @@ pub struct Search<'a> {
 }
 
 impl<'a> Search<'a> {
-    /// Begins with a record that the buffers show already.
+    /// Begins with a record.
     pub fn from(formula: &'a Formula, record: Vec<Entry>, lent: Lent<'a>) -> Search<'a> {
         Search {
             formula,
