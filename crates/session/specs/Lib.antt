@@ -1,5 +1,8 @@
 -- Open, step and run: what each answers and leaves, for every input.
 pub mod Refusals
+pub mod Rows
 pub mod Outcome
 pub mod Run
 pub mod Play
+pub mod Refused
+pub mod Only
