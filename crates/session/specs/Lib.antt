@@ -6,3 +6,4 @@ pub mod Run
 pub mod Play
 pub mod Refused
 pub mod Only
+pub mod Cases
