@@ -178,6 +178,6 @@ worked c =
     let o = openOutcome (c .block) (replicate v (pos 7)) (replicate v 7) (record { 0 = 0 }) in
     opened (c .block) (c .steps) o (o .answer)
 
-claim : map worked table ≡ map (λ (c : Case). seen (c .said) (c .state)) table
+worked-by-hand : map worked table ≡ map (λ (c : Case). seen (c .said) (c .state)) table
 unfolding table caseA caseB caseD caseE caseF caseI caseJ caseK blockA all-0 worked stepping stepOutcome openOutcome stepRefusal openRefusal refusal limits twice badEnds bothSigns all any eqZ mem formulaOf clausesFrom existential universal change levelOf level literals assigned unassignedE unassignedU inConflict unitOn occurs oneSign isMonotone isOpen due lowest last candidate lowestUnit firstMonotone firstUnassigned recordOf wiped apply badEntries badRecord
-claim = refl
+worked-by-hand = refl
