@@ -5,3 +5,5 @@ pub mod Apply
 pub mod Check
 pub mod Ready
 pub mod Tables
+pub mod Buffers
+pub mod Records
