@@ -7,7 +7,7 @@ use Prim.Native.Nat.{ℕ, zero, suc}
 use native.Mathlib.Omega.{arith}
 use lib.Dec.{eqb, eqb→eq, eqb-refl}
 use lib.IntN.{ℤ, pos, negsuc, negℤ, natAbs}
-use Rattle.words.specs.Bools.{clash, T→eq, eq→T, or-e, or-l, or-r, to-false}
+use Rattle.words.specs.Bools.{clash, T→eq, eq→T, or-e, or-l, or-r, to-false, bool-eq, eqb-eq, eqb-i}
 use Rattle.words.specs.Lists.{In, here, there}
 
 -- a word is below zero
@@ -68,6 +68,26 @@ var-cases (pos (suc m)) (negsuc n) e = inr (ap pos e)
 var-cases (negsuc m) (pos zero) e = absurd (omega arith)
 var-cases (negsuc m) (pos (suc n)) e = let z : m ≡ n = omega arith in inr (ap negsuc z)
 var-cases (negsuc m) (negsuc n) e = let z : m ≡ n = omega arith in inl (ap negsuc z)
+
+-- "one of the two literals of x's variable is l" is "x and l have one variable"
+pub same-variable : (x l : ℤ) → (eqZ x l || eqZ (negℤ x) l) ≡ eqb (natAbs l) (natAbs x)
+same-variable x l = bool-eq _ _ there-it (λ e. back (var-cases x l (sym (eqb-eq (natAbs l) (natAbs x) e))))
+  where
+    there-it : (eqZ x l || eqZ (negℤ x) l) ≡ true → eqb (natAbs l) (natAbs x) ≡ true
+    there-it h = elim (or-e (eqZ x l) (eqZ (negℤ x) l) h) [
+      | inl e ↦ eqb-i (ap natAbs (sym (eqZ-eq x l e)))
+      | inr e ↦ eqb-i (ap natAbs (sym (eqZ-eq (negℤ x) l e)) ∙ natAbs-neg x)
+    ]
+
+    back : (x ≡ l) ⊎ (x ≡ negℤ l) → (eqZ x l || eqZ (negℤ x) l) ≡ true
+    back (inl e) = or-l {a = eqZ x l} (eqZ (negℤ x) l) (rw e (eqZ-refl l))
+    back (inr e) = or-r (eqZ x l) {b = eqZ (negℤ x) l} (rw (e, negneg l) (eqZ-refl l))
+
+-- only 0 is its own opposite
+pub own-opposite : (x : ℤ) → x ≡ negℤ x → natAbs x ≡ 0
+own-opposite (pos zero) e = refl
+own-opposite (pos (suc n)) e = let z : _≡_ {A = ℕ} 0 1 = cc in absurd (omega arith)
+own-opposite (negsuc n) e = let z : _≡_ {A = ℕ} 0 1 = cc in absurd (omega arith)
 
 pub mem-i : {x : ℤ} {xs : List ℤ} → In x xs → mem x xs ≡ true
 unfolding mem
