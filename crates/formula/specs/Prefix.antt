@@ -12,8 +12,9 @@ use lib.IntN.{ℤ, pos, negsuc, negℤ, natAbs}
 use Rattle.words.specs.Bools.{clash, look, or-e, or-fl, or-fr, or-l, or-r, bool-eq, to-false, eqb-eq, eqb-same, eqb-i, eqb-ne}
 use Rattle.words.specs.Lists.{In, here, there, any, any-i, any-e}
 use Rattle.words.specs.Words.{negative, eqZ, eqZ-eq, mem, mem-i, mem-e, negneg, neg-swap, natAbs-neg, var-cases, own-opposite}
-use Rattle.formula.specs.Formula.{existential, universal, change, levelOf, level}
+use Rattle.formula.specs.Formula.{Formula, existential, universal, change, levelOf, level}
 use Rattle.formula.specs.Block.{names, twice, bothSigns}
+use Rattle.formula.specs.Proper.{Proper}
 
 -- ---- the variable of l stands in the list
 unfoldable pub stands : List ℤ → ℤ → Bool
@@ -26,6 +27,15 @@ stands-i l i e = any-i (names (natAbs l)) i (eqb-i e)
 pub stands-e : (ws : List ℤ) (l : ℤ) → stands ws l ≡ true → (w : ℤ) × In w ws × (natAbs l ≡ natAbs w)
 unfolding stands
 stands-e ws l h = let r = any-e (names (natAbs l)) ws h in (r .0, r .1, eqb-eq (natAbs l) (natAbs (r .0)) (r .2))
+
+-- it is the first word's, or stands further on
+pub stands-cons : (q : ℤ) (p : List ℤ) (l : ℤ) → stands (q ∷ p) l ≡ true → (natAbs l ≡ natAbs q) ⊎ ((eqb (natAbs l) (natAbs q) ≡ false) × (stands p l ≡ true))
+unfolding stands any
+stands-cons q p l h = elim (look (eqb (natAbs l) (natAbs q))) [ inl e ↦ inl (eqb-eq (natAbs l) (natAbs q) e) | inr e ↦ inr (e, rw e at h) ]
+
+pub stands-none : (l : ℤ) → stands [] l ≡ false
+unfolding stands any
+stands-none l = refl
 
 pub stands-neg : (ws : List ℤ) (l : ℤ) → stands ws (negℤ l) ≡ stands ws l
 unfolding stands
@@ -117,34 +127,35 @@ stands-bound p l h = let r = stands-e p l h in go (r .0) (r .1) (r .2)
     go (pos n) i e = inl (rw e (mem-i i))
     go (negsuc n) i e = inr (rw e (mem-i i))
 
--- ---- a proper prefix
-module _ (P : List ℤ) (named : mem (pos 0) P ≡ false) (once : twice P ≡ false) where
+-- ---- a proper formula's prefix
+module _ {F : Formula} (ok : Proper F) where
   -- "+v binds variable v existentially, -v universally": the word's sign says it
-  word-universal : (q : ℤ) → In q P → universal P q ≡ negative q
+  pub word-universal : (q : ℤ) → In q (F .prefix) → universal (F .prefix) q ≡ negative q
   unfolding universal
-  word-universal (pos n) i = to-false _ (λ e. zero-word (own-opposite (pos n) (one-sign P once (pos n) i (mem-e (negℤ (pos n)) P e))))
+  word-universal (pos n) i = to-false _ (λ e. zero-word (own-opposite (pos n) (one-sign (F .prefix) (ok .once) (pos n) i (mem-e (negℤ (pos n)) (F .prefix) e))))
     where
       zero-word : n ≡ 0 → ⊥
-      zero-word e = clash (mem-i (rw e at i)) named
+      zero-word e = clash (mem-i (rw e at i)) (ok .named)
   word-universal (negsuc n) i = mem-i i
 
-  word-existential : (q : ℤ) → In q P → existential P q ≡ not (negative q)
+  pub word-existential : (q : ℤ) → In q (F .prefix) → existential (F .prefix) q ≡ not (negative q)
   unfolding existential
   word-existential (pos n) i = mem-i i
-  word-existential (negsuc n) i = to-false _ (λ e. let z = own-opposite (negsuc n) (one-sign P once (negsuc n) i (mem-e (pos (suc n)) P e)) in absurd (omega arith))
+  word-existential (negsuc n) i = to-false _ (λ e. let z = own-opposite (negsuc n) (one-sign (F .prefix) (ok .once) (negsuc n) i (mem-e (pos (suc n)) (F .prefix) e)) in absurd (omega arith))
 
   -- no variable has both quantifiers
-  pub universal-existential : (l : ℤ) → universal P l ≡ true → existential P l ≡ false
-  universal-existential l h = let r = stands-e P l (universal-stands P l h) in
-      existential-var P l (r .0) (r .2) ∙ word-existential (r .0) (r .1) ∙ ap not (sym (word-universal (r .0) (r .1)) ∙ sym (universal-var P l (r .0) (r .2)) ∙ h)
+  pub universal-existential : (l : ℤ) → universal (F .prefix) l ≡ true → existential (F .prefix) l ≡ false
+  universal-existential l h =
+      let r = stands-e (F .prefix) l (universal-stands (F .prefix) l h) in
+      existential-var (F .prefix) l (r .0) (r .2) ∙ word-existential (r .0) (r .1) ∙ ap not (sym (word-universal (r .0) (r .1)) ∙ sym (universal-var (F .prefix) l (r .0) (r .2)) ∙ h)
 
-  pub existential-universal : (l : ℤ) → existential P l ≡ true → universal P l ≡ false
-  existential-universal l h = to-false (universal P l) (λ e. clash h (universal-existential l e))
+  pub existential-universal : (l : ℤ) → existential (F .prefix) l ≡ true → universal (F .prefix) l ≡ false
+  existential-universal l h = to-false (universal (F .prefix) l) (λ e. clash h (universal-existential l e))
 
-  -- a bound variable is not 0
-  pub existential-named : (l : ℤ) → existential P l ≡ true → natAbs l ≡ 0 → ⊥
+  -- an existential variable is not 0
+  pub existential-named : (l : ℤ) → existential (F .prefix) l ≡ true → natAbs l ≡ 0 → ⊥
   unfolding existential
-  existential-named l h e = clash (rw e at h) named
+  existential-named l h e = clash (rw e at h) (ok .named)
 
 -- what is known of a part p of the prefix P that goes on to P's end: no variable twice; a word's sign is its quantifier; later words have
 -- no lower level, and those of the same level the same quantifier
@@ -186,6 +197,6 @@ ordered-from P (q ∷ p) h s c lv =
     order : (x : ℤ) → In x p → (level P q ≤ level P x) × (level P q ≡ level P x → negative q ≡ negative x)
     order x i = let k = deep x i in let t = top in (omega arith, λ e. level-zero q p (twice-tail _ _ h) x i (omega arith))
 
-pub ordered : (P : List ℤ) → mem (pos 0) P ≡ false → twice P ≡ false → Ordered P P
+pub ordered : {F : Formula} → Proper F → Ordered (F .prefix) (F .prefix)
 unfolding level
-ordered P n o = ordered-from P P o (λ x i. (word-universal P n o x i, word-existential P n o x i)) 0 (λ x i. omega arith)
+ordered {F} ok = ordered-from (F .prefix) (F .prefix) (ok .once) (λ x i. (word-universal ok x i, word-existential ok x i)) 0 (λ x i. omega arith)

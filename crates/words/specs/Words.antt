@@ -1,8 +1,8 @@
 -- A signed word as a literal: "A literal is +v or -v; its opposite is its negation." Its variable is its size, `natAbs`; its opposite `negℤ`.
 use mathlib.Core.Path.{_≡_, refl, sym, _∙_, ap}
 use mathlib.Core.Logic.{_⊎_, inl, inr}
-use mathlib.Core.Bool.{Bool, true, false, _||_}
-use mathlib.Core.List.{List, [], _∷_}
+use mathlib.Core.Bool.{Bool, true, false, _||_, or-assoc}
+use mathlib.Core.List.{List, [], _∷_, _++_}
 use Prim.Native.Nat.{ℕ, zero, suc}
 use native.Mathlib.Omega.{arith}
 use lib.Dec.{eqb, eqb→eq, eqb-refl}
@@ -89,6 +89,11 @@ own-opposite (pos zero) e = refl
 own-opposite (pos (suc n)) e = let z : _≡_ {A = ℕ} 0 1 = cc in absurd (omega arith)
 own-opposite (negsuc n) e = let z : _≡_ {A = ℕ} 0 1 = cc in absurd (omega arith)
 
+-- a word below zero is not 0
+pub negative-named : (x : ℤ) → negative x ≡ true → natAbs x ≡ 0 → ⊥
+negative-named (pos n) h e = clash h refl
+negative-named (negsuc n) h e = omega arith
+
 pub mem-i : {x : ℤ} {xs : List ℤ} → In x xs → mem x xs ≡ true
 unfolding mem
 mem-i {x} (here {y = y} {xs = xs} e) = or-l {a = eqZ x y} (mem x xs) (rw e (eqZ-refl y))
@@ -102,3 +107,8 @@ mem-e x (y ∷ ys) h = go (or-e (eqZ x y) (mem x ys) h) (mem-e x ys)
     go : (eqZ x y ≡ true) ⊎ (mem x ys ≡ true) → (mem x ys ≡ true → In x ys) → In x (y ∷ ys)
     go (inl e) ih = here (eqZ-eq x y e)
     go (inr e) ih = there (ih e)
+
+pub mem-append : (x : ℤ) (xs ys : List ℤ) → mem x (xs ++ ys) ≡ (mem x xs || mem x ys)
+unfolding mem
+mem-append x [] ys = refl
+mem-append x (z ∷ xs) ys = rw (mem-append x xs ys) (sym (or-assoc (eqZ x z) (mem x xs) (mem x ys)))
