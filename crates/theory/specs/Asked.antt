@@ -1,5 +1,6 @@
 -- The question that a variable asks of the answers for its two literals: `asked`, "one of its two values" or "both". By cases.
 use mathlib.Core.Path.{_≡_, refl, sym}
+use mathlib.Core.Logic.{_⊎_, inl, inr}
 use mathlib.Core.Bool.{Bool, true, false, and-comm, or-comm}
 use Rattle.words.specs.Bools.{and-l, and-r, and-i, or-l, or-r}
 use Rattle.formula.specs.Truth.{asked}
@@ -34,6 +35,18 @@ asked-first false false true f g = sym (f refl refl)
 asked-first false false false f g = refl
 asked-first true true y f g = g refl refl
 asked-first true false y f g = refl
+
+-- "both" fails if one fails; either question fails if both fail
+pub asked-false : (x y : Bool) → (x ≡ false) ⊎ (y ≡ false) → asked true x y ≡ false
+unfolding asked
+asked-false x y (inl h) = rw h
+asked-false true y (inr h) = h
+asked-false false y (inr h) = refl
+
+pub asked-both-false : (b x y : Bool) → x ≡ false → y ≡ false → asked b x y ≡ false
+unfolding asked
+asked-both-false false x y h k = rw (h, k)
+asked-both-false true x y h k = rw h
 
 -- better answers, better result
 pub asked-more : (b x y z w : Bool) → (x ≡ true → z ≡ true) → (y ≡ true → w ≡ true) → asked b x y ≡ true → asked b z w ≡ true

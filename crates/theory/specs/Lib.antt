@@ -7,3 +7,5 @@ pub mod Asked
 pub mod Value
 pub mod Tested
 pub mod Choices
+pub mod Conflict
+pub mod Forced
