@@ -9,3 +9,4 @@ pub mod Tested
 pub mod Choices
 pub mod Conflict
 pub mod Forced
+pub mod Monotone
