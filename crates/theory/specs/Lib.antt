@@ -2,3 +2,11 @@
 pub mod Record
 pub mod Tests
 pub mod Rules
+pub mod Assignment
+pub mod Asked
+pub mod Value
+pub mod Tested
+pub mod Choices
+pub mod Conflict
+pub mod Forced
+pub mod Monotone

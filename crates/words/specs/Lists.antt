@@ -48,6 +48,10 @@ module _ {A : Type 0} where
       go (inl e) ih = (y, here refl, e)
       go (inr e) ih = let r = ih e in (r .0, there (r .1), r .2)
 
+  -- the same elements pass, or more
+  pub any-more : (f g : A → Bool) (xs : List A) → ((x : A) → In x xs → f x ≡ true → g x ≡ true) → any f xs ≡ true → any g xs ≡ true
+  any-more f g xs h e = let r = any-e f xs e in any-i g (r .1) (h (r .0) (r .1) (r .2))
+
   -- no element passes
   pub any-f : (f : A → Bool) (xs : List A) → ((x : A) → In x xs → f x ≡ false) → any f xs ≡ false
   any-f f xs h = to-false _ (λ e. let r = any-e f xs e in clash (r .2) (h (r .0) (r .1)))
