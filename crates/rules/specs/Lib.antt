@@ -7,3 +7,5 @@ pub mod Ready
 pub mod Tables
 pub mod Buffers
 pub mod Records
+pub mod Searches
+pub mod Reasons
