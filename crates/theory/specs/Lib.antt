@@ -10,3 +10,4 @@ pub mod Choices
 pub mod Conflict
 pub mod Forced
 pub mod Monotone
+pub mod Invariant
