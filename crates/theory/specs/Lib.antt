@@ -11,3 +11,6 @@ pub mod Conflict
 pub mod Forced
 pub mod Monotone
 pub mod Invariant
+pub mod Sound
+pub mod Moves
+pub mod Good

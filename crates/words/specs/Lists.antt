@@ -1,7 +1,7 @@
 -- Lists: membership, tests of all and of some elements, and the list as a loop sees it. Each by induction on the list.
 use mathlib.Core.Path.{_≡_, refl, sym, ap₂}
 use mathlib.Core.Logic.{_⊎_, inl, inr}
-use mathlib.Core.Bool.{Bool, true, false, _&&_, _||_, and-assoc}
+use mathlib.Core.Bool.{Bool, true, false, _&&_, _||_, and-assoc, or-assoc}
 use mathlib.Core.List.{List, [], _∷_, _++_, head-eq-of-cons-eq, tail-eq-of-cons-eq}
 use Prim.Native.Nat.{ℕ, _+_, _≤_, _<_}
 use native.Mathlib.Numerals.{add-one}
@@ -62,11 +62,16 @@ module _ {A : Type 0} where
   pub all-f : (f : A → Bool) (xs : List A) {x : A} → In x xs → f x ≡ false → all f xs ≡ false
   all-f f xs i h = to-false _ (λ e. clash (all-e f xs e i) h)
 
-  -- all of two lists
+  -- two lists
   pub all-append : (f : A → Bool) (xs ys : List A) → all f (xs ++ ys) ≡ (all f xs && all f ys)
   unfolding all
   all-append f [] ys = refl
   all-append f (x ∷ xs) ys = rw (all-append f xs ys) (sym (and-assoc (f x) (all f xs) (all f ys)))
+
+  pub any-append : (f : A → Bool) (xs ys : List A) → any f (xs ++ ys) ≡ (any f xs || any f ys)
+  unfolding any
+  any-append f [] ys = refl
+  any-append f (x ∷ xs) ys = rw (any-append f xs ys) (sym (or-assoc (f x) (any f xs) (any f ys)))
 
   -- an element that fails stands past those that all pass
   pub past : (f : A → Bool) (xs s a b : List A) (e : A) → all f xs ≡ true → f e ≡ false → xs ++ s ≡ a ++ e ∷ b → (c : List A) × (a ≡ xs ++ c) × (s ≡ c ++ e ∷ b)
