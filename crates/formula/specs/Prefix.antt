@@ -4,13 +4,13 @@
 use mathlib.Core.Path.{_≡_, refl, sym, _∙_, ap}
 use mathlib.Core.Logic.{_⊎_, inl, inr}
 use mathlib.Core.Bool.{Bool, true, false, not, cond, _&&_, _||_, Bool·beq}
-use mathlib.Core.List.{List, [], _∷_}
+use mathlib.Core.List.{List, [], _∷_, _++_}
 use Prim.Native.Nat.{ℕ, zero, suc, _+_, _≤_, _<_}
 use native.Mathlib.Omega.{arith}
 use lib.Dec.{eqb}
 use lib.IntN.{ℤ, pos, negsuc, negℤ, natAbs}
-use Rattle.words.specs.Bools.{clash, look, or-e, or-fl, or-fr, or-l, or-r, bool-eq, to-false, eqb-eq, eqb-same, eqb-i, eqb-ne}
-use Rattle.words.specs.Lists.{In, here, there, any, any-i, any-e}
+use Rattle.words.specs.Bools.{clash, look, or-e, or-fl, or-fr, or-l, or-r, bool-eq, to-false, eqb-eq, eqb-same, eqb-i, eqb-ne, eqb-comm}
+use Rattle.words.specs.Lists.{In, here, there, any, any-i, any-e, any-append}
 use Rattle.words.specs.Words.{negative, eqZ, eqZ-eq, mem, mem-i, mem-e, negneg, neg-swap, natAbs-neg, var-cases, own-opposite}
 use Rattle.formula.specs.Formula.{Formula, existential, universal, change, levelOf, level}
 use Rattle.formula.specs.Block.{names, twice, bothSigns}
@@ -27,6 +27,10 @@ stands-i l i e = any-i (names (natAbs l)) i (eqb-i e)
 pub stands-e : (ws : List ℤ) (l : ℤ) → stands ws l ≡ true → (w : ℤ) × In w ws × (natAbs l ≡ natAbs w)
 unfolding stands
 stands-e ws l h = let r = any-e (names (natAbs l)) ws h in (r .0, r .1, eqb-eq (natAbs l) (natAbs (r .0)) (r .2))
+
+pub stands-step : (q : ℤ) (p : List ℤ) (l : ℤ) → stands (q ∷ p) l ≡ (eqb (natAbs l) (natAbs q) || stands p l)
+unfolding stands any
+stands-step q p l = refl
 
 -- it is the first word's, or stands further on
 pub stands-cons : (q : ℤ) (p : List ℤ) (l : ℤ) → stands (q ∷ p) l ≡ true → (natAbs l ≡ natAbs q) ⊎ ((eqb (natAbs l) (natAbs q) ≡ false) × (stands p l ≡ true))
@@ -52,6 +56,10 @@ stands-mem ws l = bool-eq _ _ go (λ h. let r = stands-e ws l h in back (r .0) (
     back w i (inl e) = or-l {a = mem l ws} (mem (negℤ l) ws) (rw e (mem-i i))
     back w i (inr e) = or-r (mem l ws) {b = mem (negℤ l) ws} (rw (e, negneg w) (mem-i i))
 
+pub stands-append : (xs ys : List ℤ) (l : ℤ) → stands (xs ++ ys) l ≡ (stands xs l || stands ys l)
+unfolding stands
+stands-append xs ys l = any-append (names (natAbs l)) xs ys
+
 -- ---- no variable twice
 pub twice-head : (q : ℤ) (p : List ℤ) → twice (q ∷ p) ≡ false → stands p q ≡ false
 unfolding twice stands
@@ -64,6 +72,24 @@ twice-tail q p h = or-fr (any (names (natAbs q)) p) (twice p) h
 pub twice-cons : (q : ℤ) (p : List ℤ) → stands p q ≡ false → twice p ≡ false → twice (q ∷ p) ≡ false
 unfolding twice stands
 twice-cons q p s t = rw (s, t)
+
+-- before a word l the list has no variable twice, and not that of l; and a list so may go on with l
+pub twice-before : (xs : List ℤ) (l : ℤ) (ys : List ℤ) → twice (xs ++ l ∷ ys) ≡ false → (twice xs ≡ false) × (stands xs l ≡ false)
+unfolding twice
+twice-before [] l ys h = (refl, stands-none l)
+twice-before (x ∷ xs) l ys h =
+    let (a, b) = twice-before xs l ys (twice-tail x (xs ++ l ∷ ys) h) in
+    let s = rw stands-append at (twice-head x (xs ++ l ∷ ys) h) in
+    let t = rw stands-step at (or-fr (stands xs x) (stands (l ∷ ys) x) s) in
+    (twice-cons x xs (or-fl (stands xs x) (stands (l ∷ ys) x) s) a, rw (stands-step x xs l, b, eqb-comm (natAbs l) (natAbs x), or-fl (eqb (natAbs x) (natAbs l)) (stands ys x) t))
+
+pub twice-snoc : (xs : List ℤ) (l : ℤ) → twice xs ≡ false → stands xs l ≡ false → twice (xs ++ l ∷ []) ≡ false
+unfolding twice any
+twice-snoc [] l h s = refl
+twice-snoc (x ∷ xs) l h s =
+    let t = rw (stands-step x xs l, eqb-comm (natAbs l) (natAbs x)) at s in
+    let e = or-fl (eqb (natAbs x) (natAbs l)) (stands xs l) t in
+    twice-cons x (xs ++ l ∷ []) (rw (stands-append xs (l ∷ []) x, twice-head x xs h, stands-step l [] x, stands-none x, e)) (twice-snoc xs l (twice-tail x xs h) (or-fr (eqb (natAbs x) (natAbs l)) (stands xs l) t))
 
 -- a word that stands elsewhere has another variable
 pub other : (q : ℤ) {x : ℤ} {p : List ℤ} → stands p q ≡ false → In x p → natAbs q ≡ natAbs x → ⊥

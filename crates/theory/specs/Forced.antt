@@ -22,7 +22,7 @@ use Rattle.theory.specs.Tests.{unassignedE, unassignedU, unitOn, absent,
 use Rattle.theory.specs.Assignment.{put, put-new, put-old, put-e, put-comm, assigned-var, assigned-own, assigned-still, assigned-put, assigned-other, assigned-sign}
 use Rattle.theory.specs.Asked.{asked-first, asked-more}
 use Rattle.theory.specs.Value.{value, valueOf, value-set, value-ask, value-at, value-own}
-use Rattle.theory.specs.Tested.{unassignedE-e, unassignedU-e, unassignedE-i, unassignedU-i, unassignedE-put, unassignedU-put, untrue-put, true-put, Dead, UnitAt, unit-e, Absent, absent-e, absent-put}
+use Rattle.theory.specs.Tested.{unassignedE-e, unassignedU-e, unassignedE-i, unassignedU-i, unassignedE-put, unassignedU-put, untrue-put, true-put, Dead, UnitAt, unit-e, Absent, absent-e, absent-put, wide-e}
 use Rattle.theory.specs.Choices.{unset-put}
 use Rattle.theory.specs.Conflict.{dead-false}
 
@@ -148,15 +148,9 @@ module _ (F : Formula) (ok : Proper F) (ρ : Assignment) where
       descend (F .prefix) (F .clauses) l (Absent (F .clauses) a) (λ τ q y b le d f e t. absent-put (F .clauses) a y τ t) (λ τ p o t. met τ p t) (F .prefix) (ordered ok) i ρ u (absent-e (F .clauses) ρ a h)
 
   pub monotone-law : (l : ℤ) → monotoneWide (F .prefix) (F .clauses) ρ l ≡ true → valueOf F ρ ≡ valueOf F (put l ρ)
-  unfolding monotoneWide
-  monotone-law l h = go (or-e (unassignedE (F .prefix) ρ l && absent (F .clauses) ρ (negℤ l)) (unassignedU (F .prefix) ρ l && absent (F .clauses) ρ l) h)
-    where
-      go : ((unassignedE (F .prefix) ρ l && absent (F .clauses) ρ (negℤ l)) ≡ true) ⊎ ((unassignedU (F .prefix) ρ l && absent (F .clauses) ρ l) ≡ true) → valueOf F ρ ≡ valueOf F (put l ρ)
-      go (inl k) =
-          let (e, u) = unassignedE-e (F .prefix) ρ l (and-l (unassignedE (F .prefix) ρ l) _ k) in
-          spare l (negℤ l) (existential-stands (F .prefix) l e) u (and-r (unassignedE (F .prefix) ρ l) _ k)
+  monotone-law l h = elim (wide-e (F .prefix) (F .clauses) ρ l h) [
+    | inl k ↦ let (e, u) = unassignedE-e (F .prefix) ρ l (k .0) in spare l (negℤ l) (existential-stands (F .prefix) l e) u (k .1)
           (λ τ p t. asked-first (universal (F .prefix) l) _ _ (λ b. give-way (F .clauses) p τ (negℤ l) l (assigned-sign l τ) t) (λ b. clash b (existential-universal ok l e)))
-      go (inr k) =
-          let (e, u) = unassignedU-e (F .prefix) ρ l (and-l (unassignedU (F .prefix) ρ l) _ k) in
-          spare l l (universal-stands (F .prefix) l e) u (and-r (unassignedU (F .prefix) ρ l) _ k)
+    | inr k ↦ let (e, u) = unassignedU-e (F .prefix) ρ l (k .0) in spare l l (universal-stands (F .prefix) l e) u (k .1)
           (λ τ p t. asked-first (universal (F .prefix) l) _ _ (λ b. clash e b) (λ b. give-way (F .clauses) p τ l (negℤ l) (λ x. sym (assigned-sign l τ x)) t))
+  ]

@@ -10,3 +10,7 @@ pub mod Choices
 pub mod Conflict
 pub mod Forced
 pub mod Monotone
+pub mod Invariant
+pub mod Sound
+pub mod Moves
+pub mod Good

@@ -40,3 +40,7 @@ assigned ρ l = ρ l || ρ (negℤ l)
 -- no entry has the kind
 unfoldable pub without : ℕ → Record → Bool
 without k r = all (λ e. not (eqb (e .kind) k)) r
+
+-- every entry is forced
+unfoldable pub forced : Record → Bool
+forced r = all (λ e. eqb (e .kind) 0) r

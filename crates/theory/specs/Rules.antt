@@ -14,6 +14,11 @@ pub data State : Type 0 where
   going : Record → State
   valid unsat : State
 
+-- the answer to a formula that is true, and to one that is false
+abbrev pub verdict : Bool → State
+verdict true = valid
+verdict false = unsat
+
 module _ (F : Formula) where
   -- what holds of a record: some clause in conflict, or none; everything assigned
   abbrev pub Conflict : Record → Type 0

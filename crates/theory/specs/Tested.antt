@@ -13,7 +13,7 @@ use Rattle.words.specs.Words.{eqZ, eqZ-eq, mem, mem-i, mem-e}
 use Rattle.formula.specs.Formula.{existential, universal, level}
 use Rattle.formula.specs.Prefix.{stands, existential-stands, universal-stands}
 use Rattle.theory.specs.Record.{Assignment, assigned}
-use Rattle.theory.specs.Tests.{unassignedE, unassignedU, inConflict, unitOn, absent, isOpen}
+use Rattle.theory.specs.Tests.{unassignedE, unassignedU, inConflict, unitOn, absent, monotoneWide, isOpen}
 use Rattle.theory.specs.Assignment.{put, put-old, put-e, assigned-still}
 
 -- ---- an unassigned literal of a quantifier
@@ -173,3 +173,12 @@ absent-e m ρ a h C i = elim (or-e (any ρ C) (not (mem a C)) (all-e (λ C. any 
 
 pub absent-put : (m : List (List ℤ)) (a y : ℤ) (ρ : Assignment) → Absent m a ρ → Absent m a (put y ρ)
 absent-put m a y ρ h C i = elim (h C i) [ inl e ↦ inl (true-put C y ρ e) | inr f ↦ inr f ]
+
+-- ---- a monotone literal
+pub wide-e : (p : List ℤ) (m : List (List ℤ)) (ρ : Assignment) (l : ℤ) → monotoneWide p m ρ l ≡ true
+    → ((unassignedE p ρ l ≡ true) × (absent m ρ (negℤ l) ≡ true)) ⊎ ((unassignedU p ρ l ≡ true) × (absent m ρ l ≡ true))
+unfolding monotoneWide
+wide-e p m ρ l h = elim (or-e (unassignedE p ρ l && absent m ρ (negℤ l)) (unassignedU p ρ l && absent m ρ l) h) [
+  | inl k ↦ inl (and-l (unassignedE p ρ l) (absent m ρ (negℤ l)) k, and-r (unassignedE p ρ l) (absent m ρ (negℤ l)) k)
+  | inr k ↦ inr (and-l (unassignedU p ρ l) (absent m ρ l) k, and-r (unassignedU p ρ l) (absent m ρ l) k)
+]
