@@ -9,3 +9,5 @@ pub mod Buffers
 pub mod Records
 pub mod Searches
 pub mod Reasons
+pub mod Passed
+pub mod Steps
