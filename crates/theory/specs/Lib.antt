@@ -14,3 +14,5 @@ pub mod Invariant
 pub mod Sound
 pub mod Moves
 pub mod Good
+pub mod Free
+pub mod Finite

@@ -93,6 +93,12 @@ value-rest (q ∷ p) m σ h = go (look (assigned (among σ) q)) (λ τ. value-re
     go (inl a) ih = rw a (ih σ)
     go (inr a) ih = rw (a, ih (q ∷ σ), ih (negℤ q ∷ σ), new, opp)
 
+-- what is left depends on which variables are assigned
+pub rest-same : (p : List ℤ) (ρ τ : Assignment) → ((x : ℤ) → assigned ρ x ≡ assigned τ x) → rest p ρ ≡ rest p τ
+unfolding rest
+rest-same [] ρ τ h = refl
+rest-same (q ∷ p) ρ τ h = rw (h q, rest-same p ρ τ h)
+
 pub rest-append : (a b : List ℤ) (ρ : Assignment) → rest (a ++ b) ρ ≡ rest a ρ ++ rest b ρ
 unfolding rest
 rest-append [] b ρ = refl
