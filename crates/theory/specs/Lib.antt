@@ -16,3 +16,6 @@ pub mod Moves
 pub mod Good
 pub mod Free
 pub mod Finite
+pub mod Paths
+pub mod Progress
+pub mod Theorem
