@@ -1,8 +1,8 @@
 -- Finite: every rule lowers a number, the work that a state leaves. A search with n variables unassigned has at most 2^(n+1) - 1 rules to go,
 -- the nodes of a full tree of n levels; a decision besides owes the tree of its opposite. From what each rule does to the record.
-use mathlib.Core.Path.{_≡_, refl, sym, _∙_, ap}
-use mathlib.Core.Logic.{_⊎_, inl, inr}
-use mathlib.Core.Bool.{Bool, true, false, cond, _&&_}
+use mathlib.Core.Path.{_≡_, refl, sym}
+use mathlib.Core.Logic.{inl, inr}
+use mathlib.Core.Bool.{true, false, cond}
 use mathlib.Core.List.{List, [], _∷_, _++_}
 use Prim.Native.Nat.{ℕ, zero, suc, _+_, _-_, _^_, _≤_, _<_}
 use native.Mathlib.Omega.{arith}

@@ -2,7 +2,7 @@
 -- prefix are at most as many as its words, and while one variable is unassigned there is room for its literal.
 use mathlib.Core.Path.{_≡_, refl, sym, _∙_, ap}
 use mathlib.Core.Logic.{_⊎_, inl, inr}
-use mathlib.Core.Bool.{Bool, true, false}
+use mathlib.Core.Bool.{true, false}
 use mathlib.Core.List.{List, [], _∷_}
 use Prim.Native.Nat.{ℕ, suc, _+_, _≤_, _<_}
 use native.Mathlib.Omega.{arith}
@@ -15,7 +15,7 @@ use Rattle.words.specs.Words.{mem}
 use Rattle.formula.specs.Formula.{Formula}
 use Rattle.formula.specs.Block.{twice}
 use Rattle.formula.specs.Prefix.{stands, stands-cons, stands-none, twice-head, twice-tail}
-use Rattle.theory.specs.Record.{Entry, Record, literals, Assignment, among, trueIn, assigned}
+use Rattle.theory.specs.Record.{Record, literals, Assignment, among, trueIn, assigned}
 use Rattle.theory.specs.Tests.{allAssigned}
 use Rattle.theory.specs.Assignment.{put, assigned-var, assigned-own, assigned-still, assigned-sign, assigned-among}
 use Rattle.theory.specs.Value.{rest, rest-same, rest-unset}

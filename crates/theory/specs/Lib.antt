@@ -19,3 +19,4 @@ pub mod Finite
 pub mod Paths
 pub mod Progress
 pub mod Theorem
+pub mod Examples

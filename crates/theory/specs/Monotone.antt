@@ -1,6 +1,6 @@
 -- Which Monotone rules the theory covers: `monotoneWide` is the widest, and both the one that counts every clause and the one that counts
 -- only clauses with no true literal are cases of it, since a sign that does not occur in the counted clauses is absent from those that count.
-use mathlib.Core.Path.{_≡_, refl}
+use mathlib.Core.Path.{_≡_}
 use mathlib.Core.Logic.{_⊎_, inl, inr}
 use mathlib.Core.Bool.{Bool, true, false, not, cond, _&&_, _||_}
 use mathlib.Core.List.{List, [], _∷_}
@@ -35,7 +35,7 @@ module _ (m n : List (List ℤ)) (ρ : Assignment) (counted : (C : List ℤ) →
   counted-wide p l h = elim (or-e (unassignedE p ρ l && oneSign n l) (unassignedU p ρ l && oneSign n (negℤ l)) h) [
     | inl k ↦ or-l (unassignedU p ρ l && absent m ρ l) (and-i (and-l (unassignedE p ρ l) (oneSign n l) k) (absent-i (negℤ l) (lacks l (and-r (unassignedE p ρ l) (oneSign n l) k))))
     | inr k ↦ or-r (unassignedE p ρ l && absent m ρ (negℤ l))
-          (and-i (and-l (unassignedU p ρ l) (oneSign n (negℤ l)) k) (absent-i l (rw negneg at (lacks (negℤ l) (and-r (unassignedU p ρ l) (oneSign n (negℤ l)) k)))))
+        (and-i (and-l (unassignedU p ρ l) (oneSign n (negℤ l)) k) (absent-i l (rw negneg at (lacks (negℤ l) (and-r (unassignedU p ρ l) (oneSign n (negℤ l)) k)))))
   ]
     where
       lacks : (x : ℤ) → oneSign n x ≡ true → not (occurs n (negℤ x)) ≡ true

@@ -1,6 +1,5 @@
 -- Paths put together: one after another, and one more rule at the end, as a history of steps grows.
 use mathlib.Core.Path.{_≡_}
-use mathlib.Core.List.{List, [], _∷_}
 use Prim.Native.Nat.{ℕ, suc, _+_}
 use native.Mathlib.Omega.{arith}
 use Rattle.formula.specs.Formula.{Formula}

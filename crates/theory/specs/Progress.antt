@@ -1,9 +1,9 @@
 -- Never stuck: in every open state some rule applies. In conflict the last existential decision is taken back, or there is none; without
 -- conflict the first unassigned variable is open, or everything is assigned and the last universal decision is taken back, or there is
 -- none. With finiteness: from every state some path leads to an answer.
-use mathlib.Core.Path.{_≡_, refl, sym, _∙_, ap}
+use mathlib.Core.Path.{_≡_, refl, ap}
 use mathlib.Core.Logic.{_⊎_, inl, inr}
-use mathlib.Core.Bool.{Bool, true, false, not, _&&_}
+use mathlib.Core.Bool.{Bool, true, false}
 use mathlib.Core.List.{List, [], _∷_, _++_}
 use Prim.Native.Nat.{ℕ, zero, suc, _≤_, _<_}
 use native.Mathlib.Omega.{arith}
@@ -13,9 +13,9 @@ use Rattle.words.specs.Bools.{clash, look, and-i, not-f, eqb-eq}
 use Rattle.words.specs.Lists.{In, here, there, all}
 use Rattle.formula.specs.Formula.{Formula, existential, universal, level}
 use Rattle.formula.specs.Proper.{Proper}
-use Rattle.formula.specs.Prefix.{stands-i, stands-bound, Ordered, none, more, ordered}
-use Rattle.theory.specs.Record.{Entry, entry, Record, Assignment, trueIn, assigned, without}
-use Rattle.theory.specs.Tests.{conflict, isOpen, allAssigned}
+use Rattle.formula.specs.Prefix.{stands-i, stands-bound, Ordered, more, ordered}
+use Rattle.theory.specs.Record.{entry, Record, Assignment, trueIn, assigned, without}
+use Rattle.theory.specs.Tests.{conflict, allAssigned}
 use Rattle.theory.specs.Rules.{State, going, valid, unsat, verdict, Conflict, Quiet, Full, Step, backtrack-exists, fail, decide-exists, decide-forall, backtrack-forall, succeed, Path, stop, take}
 use Rattle.theory.specs.Tested.{unassignedE-i, unassignedU-i, open-i}
 use Rattle.theory.specs.Finite.{work, step-less}

@@ -4,8 +4,8 @@
 -- (`dead-false`), and a unit's opposite leaves a clause in conflict (`unit-dead`). Examples has a formula that shows why it is asked.
 use mathlib.Core.Path.{_≡_, refl, sym, _∙_, ap}
 use mathlib.Core.Bool.{Bool, true, false}
-use mathlib.Core.List.{List, [], _∷_}
-use Prim.Native.Nat.{ℕ, suc, _-_, _^_, _<_}
+use mathlib.Core.List.{[]}
+use Prim.Native.Nat.{ℕ, suc, _^_, _<_}
 use lib.ListN.{length}
 use Rattle.words.specs.Lists.{all}
 use Rattle.formula.specs.Formula.{Formula}

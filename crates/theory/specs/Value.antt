@@ -1,10 +1,9 @@
 -- The value of a formula under an assignment: truth that passes over the prefix variables that are assigned already. Records assign inner
 -- variables early, so the laws are about the value; `value-rest` says that it is the truth of what is left of the formula.
-use mathlib.Core.Path.{_≡_, refl, sym, _∙_, ap}
+use mathlib.Core.Path.{_≡_, refl, sym, _∙_}
 use mathlib.Core.Logic.{_⊎_, inl, inr}
 use mathlib.Core.Bool.{Bool, true, false, cond}
 use mathlib.Core.List.{List, [], _∷_, _++_}
-use Prim.Native.Nat.{ℕ}
 use lib.Dec.{eqb}
 use lib.IntN.{ℤ, negℤ, natAbs}
 use Rattle.words.specs.Bools.{clash, look, or-fl, or-fr}
