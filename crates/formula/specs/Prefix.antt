@@ -3,15 +3,15 @@
 -- quantifier. By induction on the prefix.
 use mathlib.Core.Path.{_≡_, refl, sym, _∙_, ap}
 use mathlib.Core.Logic.{_⊎_, inl, inr}
-use mathlib.Core.Bool.{Bool, true, false, not, cond, _&&_, _||_, Bool·beq}
+use mathlib.Core.Bool.{Bool, true, false, not, cond, _||_, Bool·beq}
 use mathlib.Core.List.{List, [], _∷_, _++_}
-use Prim.Native.Nat.{ℕ, zero, suc, _+_, _≤_, _<_}
+use Prim.Native.Nat.{ℕ, suc, _+_, _≤_}
 use native.Mathlib.Omega.{arith}
 use lib.Dec.{eqb}
 use lib.IntN.{ℤ, pos, negsuc, negℤ, natAbs}
 use Rattle.words.specs.Bools.{clash, look, or-e, or-fl, or-fr, or-l, or-r, bool-eq, to-false, eqb-eq, eqb-same, eqb-i, eqb-ne, eqb-comm}
 use Rattle.words.specs.Lists.{In, here, there, any, any-i, any-e, any-append}
-use Rattle.words.specs.Words.{negative, eqZ, eqZ-eq, mem, mem-i, mem-e, negneg, neg-swap, natAbs-neg, var-cases, own-opposite}
+use Rattle.words.specs.Words.{negative, mem, mem-i, mem-e, negneg, neg-swap, natAbs-neg, var-cases, own-opposite}
 use Rattle.formula.specs.Formula.{Formula, existential, universal, change, levelOf, level}
 use Rattle.formula.specs.Block.{names, twice, bothSigns}
 use Rattle.formula.specs.Proper.{Proper}

@@ -1,11 +1,11 @@
 -- The laws of the prefix alone, whatever the clauses are. Group exchange: neighbours of one quantifier may change places. Decide: a variable
 -- of the outermost open group may be asked first. Early choices: an existential variable set early makes nothing true that was not, a
 -- universal one nothing false. Each by induction on the prefix; decide by exchange.
-use mathlib.Core.Path.{_≡_, refl, sym, _∙_, ap}
+use mathlib.Core.Path.{_≡_, refl, sym, _∙_}
 use mathlib.Core.Logic.{_⊎_, inl, inr}
-use mathlib.Core.Bool.{Bool, true, false, not}
+use mathlib.Core.Bool.{true, false}
 use mathlib.Core.List.{List, [], _∷_}
-use Prim.Native.Nat.{ℕ, _≤_}
+use Prim.Native.Nat.{_≤_}
 use native.Mathlib.Omega.{arith}
 use lib.Dec.{eqb}
 use lib.IntN.{ℤ, negℤ, natAbs}
@@ -14,14 +14,14 @@ use Rattle.words.specs.Lists.{In, here, there}
 use Rattle.words.specs.Words.{negative, natAbs-neg}
 use Rattle.formula.specs.Formula.{Formula, existential, universal, level}
 use Rattle.formula.specs.Proper.{Proper}
-use Rattle.formula.specs.Prefix.{stands, stands-e, stands-cons, stands-none, other, universal-var, level-var, existential-stands, existential-universal, universal-stands, word-universal, Ordered, none, more, ordered}
+use Rattle.formula.specs.Prefix.{stands, stands-e, stands-cons, stands-none, other, universal-var, level-var, existential-stands, existential-universal, universal-stands, word-universal, Ordered, more, ordered}
 use Rattle.formula.specs.Truth.{asked}
 use Rattle.theory.specs.Record.{Assignment, assigned}
 use Rattle.theory.specs.Tests.{isOpen}
-use Rattle.theory.specs.Assignment.{put, put-comm, assigned-var, assigned-own, assigned-still, assigned-other, assigned-sign}
+use Rattle.theory.specs.Assignment.{put, put-comm, assigned-var, assigned-still, assigned-other, assigned-sign}
 use Rattle.theory.specs.Asked.{asked-exchange, Toward, asked-toward, toward-asked}
 use Rattle.theory.specs.Value.{value, valueOf, value-set, value-ask, value-at, value-own}
-use Rattle.theory.specs.Tested.{OpenAt, open-e}
+use Rattle.theory.specs.Tested.{open-e}
 
 -- two unassigned variables: what one more literal of the first leaves of the second
 pub unset-put : (q : ℤ) (ρ : Assignment) (x : ℤ) → eqb (natAbs q) (natAbs x) ≡ false → assigned ρ x ≡ false → (assigned (put q ρ) x ≡ false) × (assigned (put (negℤ q) ρ) x ≡ false)

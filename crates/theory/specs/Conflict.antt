@@ -1,19 +1,17 @@
 -- The laws of a record that is decided by its clauses. Conflict: a clause in conflict makes the formula false, since on the way down its
 -- universal literals can be set against it. Leaf: with everything assigned and no clause in conflict the formula is true.
-use mathlib.Core.Path.{_≡_, refl, sym, _∙_, ap}
+use mathlib.Core.Path.{_≡_, _∙_, ap}
 use mathlib.Core.Logic.{_⊎_, inl, inr}
-use mathlib.Core.Bool.{Bool, true, false, not}
+use mathlib.Core.Bool.{true, false, not}
 use mathlib.Core.List.{List, [], _∷_}
-use Prim.Native.Nat.{ℕ}
-use lib.IntN.{ℤ, negℤ, natAbs}
+use lib.IntN.{ℤ, negℤ}
 use Rattle.words.specs.Bools.{clash, look, to-false}
-use Rattle.words.specs.Lists.{In, here, there, all, any, all-e, all-i, any-i, any-e, any-f, any-none, all-f}
+use Rattle.words.specs.Lists.{In, any, all-e, all-i, any-i, any-e, any-f, any-none, all-f}
 use Rattle.words.specs.Words.{negative, mem, mem-i, mem-e, own-opposite, negative-named}
 use Rattle.formula.specs.Formula.{Formula, existential}
 use Rattle.formula.specs.Block.{bothSigns}
 use Rattle.formula.specs.Proper.{Proper}
-use Rattle.formula.specs.Prefix.{stands, stands-e, existential-neg, existential-stands, both-signs, Ordered, none, more, ordered}
-use Rattle.formula.specs.Truth.{asked}
+use Rattle.formula.specs.Prefix.{stands-e, existential-neg, existential-stands, both-signs, Ordered, more, ordered}
 use Rattle.theory.specs.Record.{Assignment, assigned}
 use Rattle.theory.specs.Tests.{unassignedE, inConflict, conflict, allAssigned}
 use Rattle.theory.specs.Assignment.{put, assigned-neg, assigned-var}

@@ -3,22 +3,22 @@
 -- that lacks a true literal needs the opposite of an existential literal, or a universal literal itself.
 use mathlib.Core.Path.{_≡_, refl, sym, _∙_, ap}
 use mathlib.Core.Logic.{_⊎_, inl, inr}
-use mathlib.Core.Bool.{Bool, true, false, not, _&&_, _||_}
+use mathlib.Core.Bool.{Bool, true, false, not}
 use mathlib.Core.List.{List, [], _∷_}
-use Prim.Native.Nat.{ℕ, _≤_, _<_}
+use Prim.Native.Nat.{_≤_}
 use native.Mathlib.Omega.{arith}
 use lib.Dec.{eqb}
 use lib.IntN.{ℤ, negℤ, natAbs}
-use Rattle.words.specs.Bools.{clash, look, and-l, and-r, or-e, to-false, eqb-i, eqb-comm}
-use Rattle.words.specs.Lists.{In, here, there, all, any, all-e, all-i, any-i, any-f, any-none, any-more}
+use Rattle.words.specs.Bools.{clash, look, to-false, eqb-i, eqb-comm}
+use Rattle.words.specs.Lists.{In, any, all-e, all-i, any-f, any-none, any-more}
 use Rattle.words.specs.Words.{negative, natAbs-neg, own-opposite}
 use Rattle.formula.specs.Formula.{Formula, existential, universal, level}
 use Rattle.formula.specs.Block.{bothSigns}
 use Rattle.formula.specs.Proper.{Proper}
-use Rattle.formula.specs.Prefix.{stands, stands-e, stands-cons, stands-none, existential-var, existential-stands, existential-universal, existential-named, universal-var, universal-stands, level-var, both-signs, Ordered, none, more, ordered}
+use Rattle.formula.specs.Prefix.{stands, stands-e, stands-cons, stands-none, existential-var, existential-stands, existential-universal, existential-named, universal-var, universal-stands, level-var, both-signs, Ordered, more, ordered}
 use Rattle.formula.specs.Truth.{asked}
 use Rattle.theory.specs.Record.{Assignment, assigned}
-use Rattle.theory.specs.Tests.{unassignedE, unassignedU, unitOn, absent, monotoneWide}
+use Rattle.theory.specs.Tests.{unassignedE, unitOn, absent, monotoneWide}
 use Rattle.theory.specs.Assignment.{put, put-new, put-old, put-e, put-comm, assigned-var, assigned-own, assigned-still, assigned-put, assigned-other, assigned-sign}
 use Rattle.theory.specs.Asked.{asked-first, asked-more}
 use Rattle.theory.specs.Value.{value, valueOf, value-set, value-ask, value-at, value-own}
@@ -150,7 +150,7 @@ module _ (F : Formula) (ok : Proper F) (ρ : Assignment) where
   pub monotone-law : (l : ℤ) → monotoneWide (F .prefix) (F .clauses) ρ l ≡ true → valueOf F ρ ≡ valueOf F (put l ρ)
   monotone-law l h = elim (wide-e (F .prefix) (F .clauses) ρ l h) [
     | inl k ↦ let (e, u) = unassignedE-e (F .prefix) ρ l (k .0) in spare l (negℤ l) (existential-stands (F .prefix) l e) u (k .1)
-          (λ τ p t. asked-first (universal (F .prefix) l) _ _ (λ b. give-way (F .clauses) p τ (negℤ l) l (assigned-sign l τ) t) (λ b. clash b (existential-universal ok l e)))
+        (λ τ p t. asked-first (universal (F .prefix) l) _ _ (λ b. give-way (F .clauses) p τ (negℤ l) l (assigned-sign l τ) t) (λ b. clash b (existential-universal ok l e)))
     | inr k ↦ let (e, u) = unassignedU-e (F .prefix) ρ l (k .0) in spare l l (universal-stands (F .prefix) l e) u (k .1)
-          (λ τ p t. asked-first (universal (F .prefix) l) _ _ (λ b. clash e b) (λ b. give-way (F .clauses) p τ l (negℤ l) (λ x. sym (assigned-sign l τ x)) t))
+        (λ τ p t. asked-first (universal (F .prefix) l) _ _ (λ b. clash e b) (λ b. give-way (F .clauses) p τ l (negℤ l) (λ x. sym (assigned-sign l τ x)) t))
   ]

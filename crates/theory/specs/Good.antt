@@ -1,16 +1,15 @@
 -- Good records: distinct variables of the prefix, each of a kind that suits it. Every rule keeps a record good, since it puts in an
 -- unassigned variable of the prefix, or cuts and puts the opposite of an entry in its place.
-use mathlib.Core.Path.{_≡_, refl, sym, _∙_, ap}
-use mathlib.Core.Logic.{_⊎_, inl, inr}
-use mathlib.Core.Bool.{Bool, true, false, _&&_, _||_, and-true}
-use mathlib.Core.List.{List, [], _∷_, _++_}
-use Prim.Native.Nat.{ℕ, zero, suc}
+use mathlib.Core.Path.{_≡_, refl, sym, _∙_}
+use mathlib.Core.Bool.{true, false}
+use mathlib.Core.List.{[], _∷_, _++_}
+use Prim.Native.Nat.{ℕ}
 use lib.IntN.{ℤ, negℤ}
-use Rattle.words.specs.Bools.{clash, and-l, and-r, and-i, or-e, or-l, or-r}
+use Rattle.words.specs.Bools.{and-l, and-r}
 use Rattle.words.specs.Lists.{all, all-append}
-use Rattle.formula.specs.Formula.{Formula, existential, universal}
+use Rattle.formula.specs.Formula.{Formula}
 use Rattle.formula.specs.Block.{twice}
-use Rattle.formula.specs.Prefix.{stands, stands-neg, existential-neg, universal-neg, existential-stands, universal-stands, twice-before, twice-snoc}
+use Rattle.formula.specs.Prefix.{stands-neg, twice-before, twice-snoc}
 use Rattle.theory.specs.Record.{Entry, entry, Record, literals, trueIn, assigned}
 use Rattle.theory.specs.Rules.{State, going, valid, unsat, Step, Path, stop, take}
 use Rattle.theory.specs.Assignment.{assigned-among, literals-append}

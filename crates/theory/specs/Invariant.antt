@@ -2,15 +2,14 @@
 -- with the entry. A decision: what its quantifier asks of the entry and its opposite. From the laws; a backtrack goes up from what is known
 -- at the record's end to the last entry of its kind, and there only the opposite can matter.
 use mathlib.Core.Path.{_≡_, refl, sym, _∙_, ap}
-use mathlib.Core.Logic.{_⊎_, inl, inr}
-use mathlib.Core.Bool.{Bool, true, false, not, _&&_}
-use mathlib.Core.List.{List, [], _∷_, _++_, append-nil, append-assoc}
+use mathlib.Core.Bool.{Bool, true, false, not}
+use mathlib.Core.List.{[], _∷_, _++_, append-nil, append-assoc}
 use Prim.Native.Nat.{ℕ, zero, suc}
 use lib.Dec.{eqb}
 use lib.IntN.{ℤ, negℤ}
 use Rattle.words.specs.Bools.{clash, and-l, and-r, not-t}
-use Rattle.words.specs.Lists.{In, all, all-append, past}
-use Rattle.formula.specs.Formula.{Formula, existential, universal}
+use Rattle.words.specs.Lists.{all, all-append, past}
+use Rattle.formula.specs.Formula.{Formula}
 use Rattle.formula.specs.Prefix.{existential-universal}
 use Rattle.formula.specs.Proper.{Proper}
 use Rattle.formula.specs.Truth.{asked}

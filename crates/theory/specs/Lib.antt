@@ -14,3 +14,9 @@ pub mod Invariant
 pub mod Sound
 pub mod Moves
 pub mod Good
+pub mod Free
+pub mod Finite
+pub mod Paths
+pub mod Progress
+pub mod Theorem
+pub mod Examples

@@ -1,6 +1,6 @@
 -- Which Monotone rules the theory covers: `monotoneWide` is the widest, and both the one that counts every clause and the one that counts
 -- only clauses with no true literal are cases of it, since a sign that does not occur in the counted clauses is absent from those that count.
-use mathlib.Core.Path.{_≡_, refl}
+use mathlib.Core.Path.{_≡_}
 use mathlib.Core.Logic.{_⊎_, inl, inr}
 use mathlib.Core.Bool.{Bool, true, false, not, cond, _&&_, _||_}
 use mathlib.Core.List.{List, [], _∷_}

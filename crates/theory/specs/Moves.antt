@@ -1,7 +1,7 @@
 -- What a rule does to a record, whichever rule it is: it appends a literal of an unassigned variable, with a kind that suits it; or it cuts
 -- at a decision and puts the opposite there, forced; or it ends the search. From the rules' tests.
 use mathlib.Core.Path.{_≡_, refl}
-use mathlib.Core.Logic.{_⊎_, inl, inr}
+use mathlib.Core.Logic.{inl, inr}
 use mathlib.Core.Bool.{Bool, true, false, _||_}
 use mathlib.Core.List.{List, [], _∷_, _++_}
 use Prim.Native.Nat.{ℕ, zero, suc}

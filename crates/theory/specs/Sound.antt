@@ -2,16 +2,16 @@
 -- of the formula under it.
 use mathlib.Core.Path.{_≡_, refl, sym, _∙_}
 use mathlib.Core.Bool.{Bool, true, false}
-use mathlib.Core.List.{List, [], _∷_}
+use mathlib.Core.List.{[]}
 use Prim.Native.Nat.{ℕ}
 use Rattle.words.specs.Lists.{all}
 use Rattle.formula.specs.Formula.{Formula}
 use Rattle.formula.specs.Proper.{Proper}
 use Rattle.formula.specs.Truth.{true?}
 use Rattle.theory.specs.Record.{Record, forced}
-use Rattle.theory.specs.Rules.{State, going, valid, unsat, verdict, Path}
+use Rattle.theory.specs.Rules.{going, valid, unsat, verdict, Path}
 use Rattle.theory.specs.Value.{trueUnder, value-under, under-none}
-use Rattle.theory.specs.Invariant.{Holds, invariant-start, holds-path}
+use Rattle.theory.specs.Invariant.{invariant-start, holds-path}
 
 module _ (F : Formula) (ok : Proper F) where
   -- from a record of forced entries

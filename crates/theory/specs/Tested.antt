@@ -1,14 +1,13 @@
 -- What the tests say, taken apart, and what one more literal leaves of it. Each from its definition in Tests.
-use mathlib.Core.Path.{_≡_, refl, sym, _∙_, ap}
+use mathlib.Core.Path.{_≡_, refl}
 use mathlib.Core.Logic.{_⊎_, inl, inr}
 use mathlib.Core.Bool.{Bool, true, false, not, _&&_, _||_}
-use mathlib.Core.List.{List, [], _∷_}
-use Prim.Native.Nat.{ℕ, _≤_, _<_}
-use native.Mathlib.Omega.{arith}
-use lib.Dec.{eqb, leb, ltb, leb→le, ltb→lt, le→leb}
-use lib.IntN.{ℤ, negℤ, natAbs}
-use Rattle.words.specs.Bools.{clash, look, T→eq, eq→T, and-l, and-r, and-i, or-e, or-l, or-r, not-t, not-f, to-false}
-use Rattle.words.specs.Lists.{In, all, any, all-e, all-i, any-i, any-f, any-none, any-more}
+use mathlib.Core.List.{List}
+use Prim.Native.Nat.{_≤_, _<_}
+use lib.Dec.{leb, ltb, leb→le, ltb→lt, le→leb}
+use lib.IntN.{ℤ, negℤ}
+use Rattle.words.specs.Bools.{clash, T→eq, eq→T, and-l, and-r, and-i, or-e, or-l, or-r, not-t, to-false}
+use Rattle.words.specs.Lists.{In, all, any, all-e, all-i, any-i, any-f, any-more}
 use Rattle.words.specs.Words.{eqZ, eqZ-eq, mem, mem-i, mem-e}
 use Rattle.formula.specs.Formula.{existential, universal, level}
 use Rattle.formula.specs.Prefix.{stands, existential-stands, universal-stands}

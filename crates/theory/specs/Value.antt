@@ -1,10 +1,9 @@
 -- The value of a formula under an assignment: truth that passes over the prefix variables that are assigned already. Records assign inner
 -- variables early, so the laws are about the value; `value-rest` says that it is the truth of what is left of the formula.
-use mathlib.Core.Path.{_≡_, refl, sym, _∙_, ap}
+use mathlib.Core.Path.{_≡_, refl, sym, _∙_}
 use mathlib.Core.Logic.{_⊎_, inl, inr}
 use mathlib.Core.Bool.{Bool, true, false, cond}
 use mathlib.Core.List.{List, [], _∷_, _++_}
-use Prim.Native.Nat.{ℕ}
 use lib.Dec.{eqb}
 use lib.IntN.{ℤ, negℤ, natAbs}
 use Rattle.words.specs.Bools.{clash, look, or-fl, or-fr}
@@ -92,6 +91,12 @@ value-rest (q ∷ p) m σ h = go (look (assigned (among σ) q)) (λ τ. value-re
         → value (q ∷ p) m (among σ) ≡ truth (rest (q ∷ p) (among σ)) m σ
     go (inl a) ih = rw a (ih σ)
     go (inr a) ih = rw (a, ih (q ∷ σ), ih (negℤ q ∷ σ), new, opp)
+
+-- what is left depends on which variables are assigned
+pub rest-same : (p : List ℤ) (ρ τ : Assignment) → ((x : ℤ) → assigned ρ x ≡ assigned τ x) → rest p ρ ≡ rest p τ
+unfolding rest
+rest-same [] ρ τ h = refl
+rest-same (q ∷ p) ρ τ h = rw (h q, rest-same p ρ τ h)
 
 pub rest-append : (a b : List ℤ) (ρ : Assignment) → rest (a ++ b) ρ ≡ rest a ρ ++ rest b ρ
 unfolding rest
