@@ -11,3 +11,4 @@ pub mod Searches
 pub mod Reasons
 pub mod Passed
 pub mod Steps
+pub mod Written

@@ -114,6 +114,11 @@ module _ (s : Session) (b ls : List ℤ) (ks : List ℕ) (seen : Revision) where
   unfolding runRefusal
   run-numbered budget = after-numbered b (runRows s b ls ks seen budget)
 
+-- an accepted call has passed the block's rows and its own
+pub after-zero : (n : ℕ) (us : List Bool) → after n us ≡ 0 → (n ≡ 0) × NoRow us
+after-zero zero us e = (refl, first-none 10 us e)
+after-zero (suc n) us e = absurd (omega arith)
+
 -- ---- what follows for any list of rows
 module _ {ts : List Bool} {n : ℕ} (d : Numbered ts n) where
   -- an accepted call breaks no row
