@@ -124,7 +124,7 @@ module _ (F : Formula) (preferred : List ℤ) where
 abbrev deskAfter : Desk → ℕ → Search → Desk
 deskAfter d n u = desk (moved (d .latest) n u) (u .lits) (u .kinds) (d .steps + n)
 
-abbrev searchAt : Desk → Search
+abbrev pub searchAt : Desk → Search
 searchAt d = searchOf (d .latest) (d .lits) (d .kinds)
 
 module _ (b : List ℤ) (block : refusal limits b ≡ 0) (preferred : List ℤ) where

@@ -8,5 +8,6 @@ pub mod Accepted
 pub mod Refused
 pub mod Follows
 pub mod ByHand
+pub mod History
 pub mod Only
 pub mod Cases
