@@ -3,5 +3,6 @@ pub mod Limits
 pub mod Formula
 pub mod Block
 pub mod Proper
+pub mod Prefix
 pub mod Truth
 pub mod Cases

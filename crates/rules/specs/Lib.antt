@@ -5,3 +5,10 @@ pub mod Apply
 pub mod Check
 pub mod Ready
 pub mod Tables
+pub mod Buffers
+pub mod Records
+pub mod Searches
+pub mod Reasons
+pub mod Passed
+pub mod Steps
+pub mod Written

@@ -1,5 +1,13 @@
 -- Open, step and run: what each answers and leaves, for every input.
 pub mod Refusals
+pub mod Rows
 pub mod Outcome
 pub mod Run
 pub mod Play
+pub mod Accepted
+pub mod Refused
+pub mod Follows
+pub mod ByHand
+pub mod History
+pub mod Only
+pub mod Cases

@@ -57,31 +57,39 @@ abbrev pub after : ℕ → List Bool → ℕ
 after zero rows = first 11 rows
 after (suc n) rows = suc n
 
+-- the rows from 11 on, of each call
+abbrev pub openRows : List ℤ → List ℤ → List ℕ → List Bool
+openRows b ls ks = short b ls ks ∷ []
+
 unfoldable pub openRefusal : List ℤ → List ℤ → List ℕ → ℕ
-openRefusal b ls ks = after (refusal limits b) (short b ls ks ∷ [])
+openRefusal b ls ks = after (refusal limits b) (openRows b ls ks)
 
 module _ (s : Session) (b ls : List ℤ) (ks : List ℕ) (seen : Revision) where
-  unfoldable pub stepRefusal : Literal → ℕ
-  stepRefusal l =
+  abbrev pub stepRows : Literal → List Bool
+  stepRows l =
       let F = formulaOf b in
       let r = recordOf ls ks (s .length) in
-      after (refusal limits b)
-      (short b ls ks
+      short b ls ks
       ∷ badRecord (prefixOf b) ls ks (s .length)
       ∷ over (s .state)
       ∷ stale s seen
       ∷ eqb (s .revision .0) lastRevision
       ∷ (proposed l && not (decides (due F r)))
       ∷ (proposed l && not (isOpen (F .prefix) (trueIn r) (l .0)))
-      ∷ [])
+      ∷ []
+
+  unfoldable pub stepRefusal : Literal → ℕ
+  stepRefusal l = after (refusal limits b) (stepRows l)
 
   -- 15 for a run: "revision + budget over 2^64 - 1"
-  unfoldable pub runRefusal : ℕ → ℕ
-  runRefusal budget =
-      after (refusal limits b)
-      (short b ls ks
+  abbrev pub runRows : ℕ → List Bool
+  runRows budget =
+      short b ls ks
       ∷ badRecord (prefixOf b) ls ks (s .length)
       ∷ over (s .state)
       ∷ stale s seen
       ∷ ltb lastRevision (s .revision .0 + budget)
-      ∷ [])
+      ∷ []
+
+  unfoldable pub runRefusal : ℕ → ℕ
+  runRefusal budget = after (refusal limits b) (runRows budget)

@@ -1,10 +1,10 @@
 -- The record: literals with kinds, oldest first, and what it makes true.
 use Prim.Native.Nat.{ℕ}
-use mathlib.Core.Bool.{Bool, true, false, not, _||_}
+use mathlib.Core.Bool.{Bool, not, _||_}
 use mathlib.Core.List.{List, [], _∷_}
 use lib.Dec.{eqb}
 use lib.IntN.{ℤ, negℤ}
-use Rattle.words.specs.Lists.{any, all}
+use Rattle.words.specs.Lists.{all}
 use Rattle.words.specs.Words.{mem}
 
 -- "signed words for literals and bytes for kinds: 0 forced, 1 existential decision, 2 universal decision"
@@ -40,3 +40,7 @@ assigned ρ l = ρ l || ρ (negℤ l)
 -- no entry has the kind
 unfoldable pub without : ℕ → Record → Bool
 without k r = all (λ e. not (eqb (e .kind) k)) r
+
+-- every entry is forced
+unfoldable pub forced : Record → Bool
+forced r = all (λ e. eqb (e .kind) 0) r

@@ -6,13 +6,18 @@ use Prim.Native.Nat.{ℕ, suc}
 use lib.IntN.{ℤ, negℤ}
 use Rattle.words.specs.Lists.{In}
 use Rattle.formula.specs.Formula.{Formula, existential, universal}
-use Rattle.theory.specs.Record.{Entry, entry, Record, trueIn, without}
+use Rattle.theory.specs.Record.{entry, Record, trueIn, without}
 use Rattle.theory.specs.Tests.{conflict, unitOn, monotoneWide, isOpen, allAssigned}
 
 -- "open, Valid or Unsat": an open state goes on from its record
 pub data State : Type 0 where
   going : Record → State
   valid unsat : State
+
+-- the answer to a formula that is true, and to one that is false
+abbrev pub verdict : Bool → State
+verdict true = valid
+verdict false = unsat
 
 module _ (F : Formula) where
   -- what holds of a record: some clause in conflict, or none; everything assigned
@@ -30,7 +35,8 @@ module _ (F : Formula) where
     backtrack-exists : {r : Record} → Conflict r → (a b : Record) (l : ℤ) → r ≡ a ++ entry 1 l ∷ b → without 1 b ≡ true → Step r (going (a ++ entry 0 (negℤ l) ∷ []))
     -- "With no such entry: Fail, session Unsat."
     fail : {r : Record} → Conflict r → without 1 r ≡ true → Step r unsat
-    -- "Append l, kind 0."
+    -- "Append l, kind 0." Without the levels, as document 001's slides print it, or on a universal literal, Unit gives wrong answers: cases I and
+    -- J, in Examples.
     unit : {r : Record} → Quiet r → (C : List ℤ) → In C (F .clauses) → (l : ℤ) → unitOn (F .prefix) (trueIn r) C l ≡ true → Step r (going (r ++ entry 0 l ∷ []))
     monotone : {r : Record} → Quiet r → (l : ℤ) → monotoneWide (F .prefix) (F .clauses) (trueIn r) l ≡ true → Step r (going (r ++ entry 0 l ∷ []))
     -- "Append the proposed literal .. Kind 1 or 2 by quantifier."

@@ -1,7 +1,6 @@
 -- The tests that the rules make of a clause, of a literal and of a record. p is the prefix, m the clauses, ρ says which literals are true.
-use Prim.Native.Nat.{ℕ}
-use mathlib.Core.Bool.{Bool, true, false, not, _&&_, _||_}
-use mathlib.Core.List.{List, [], _∷_}
+use mathlib.Core.Bool.{Bool, not, _&&_, _||_}
+use mathlib.Core.List.{List}
 use lib.Dec.{leb, ltb}
 use lib.IntN.{ℤ, negℤ}
 use Rattle.words.specs.Lists.{any, all}

@@ -4,7 +4,7 @@ use mathlib.Core.Logic.{_⊎_, inl, inr}
 use mathlib.Core.Bool.{Bool, true, false, not, _&&_, _||_}
 use Prim.Native.Nat.{ℕ}
 use native.Mathlib.Omega.{arith}
-use lib.Dec.{T}
+use lib.Dec.{T, eqb, eqb→eq, eqb-refl}
 
 -- a test that is true and false shows anything
 pub clash {ℓ} : {A : Type ℓ} {b : Bool} → b ≡ true → b ≡ false → A
@@ -71,3 +71,19 @@ bool-eq false false f g = refl
 pub to-false : (a : Bool) → (a ≡ true → ⊥) → a ≡ false
 to-false true f = absurd (f refl)
 to-false false f = refl
+
+-- the test of two numbers says what it shows
+pub eqb-eq : (m n : ℕ) → eqb m n ≡ true → m ≡ n
+eqb-eq m n h = eqb→eq m n (eq→T h)
+
+pub eqb-same : (n : ℕ) → eqb n n ≡ true
+eqb-same n = T→eq (eqb-refl n)
+
+pub eqb-i : {m n : ℕ} → m ≡ n → eqb m n ≡ true
+eqb-i {m} {n} e = rw e (eqb-same n)
+
+pub eqb-ne : (m n : ℕ) → (m ≡ n → ⊥) → eqb m n ≡ false
+eqb-ne m n f = to-false (eqb m n) (λ e. f (eqb-eq m n e))
+
+pub eqb-comm : (m n : ℕ) → eqb m n ≡ eqb n m
+eqb-comm m n = bool-eq (eqb m n) (eqb n m) (λ e. eqb-i (sym (eqb-eq m n e))) (λ e. eqb-i (sym (eqb-eq n m e)))

@@ -1,8 +1,8 @@
 -- Lists: membership, tests of all and of some elements, and the list as a loop sees it. Each by induction on the list.
-use mathlib.Core.Path.{_≡_, refl}
+use mathlib.Core.Path.{_≡_, refl, sym, ap₂}
 use mathlib.Core.Logic.{_⊎_, inl, inr}
-use mathlib.Core.Bool.{Bool, true, false, _&&_, _||_}
-use mathlib.Core.List.{List, [], _∷_}
+use mathlib.Core.Bool.{Bool, true, false, _&&_, _||_, and-assoc, or-assoc}
+use mathlib.Core.List.{List, [], _∷_, _++_, head-eq-of-cons-eq, tail-eq-of-cons-eq}
 use Prim.Native.Nat.{ℕ, _+_, _≤_, _<_}
 use native.Mathlib.Numerals.{add-one}
 use lib.ListN.{length, getD, drop, drop-of-length-le}
@@ -48,6 +48,10 @@ module _ {A : Type 0} where
       go (inl e) ih = (y, here refl, e)
       go (inr e) ih = let r = ih e in (r .0, there (r .1), r .2)
 
+  -- the same elements pass, or more
+  pub any-more : (f g : A → Bool) (xs : List A) → ((x : A) → In x xs → f x ≡ true → g x ≡ true) → any f xs ≡ true → any g xs ≡ true
+  any-more f g xs h e = let r = any-e f xs e in any-i g (r .1) (h (r .0) (r .1) (r .2))
+
   -- no element passes
   pub any-f : (f : A → Bool) (xs : List A) → ((x : A) → In x xs → f x ≡ false) → any f xs ≡ false
   any-f f xs h = to-false _ (λ e. let r = any-e f xs e in clash (r .2) (h (r .0) (r .1)))
@@ -57,6 +61,26 @@ module _ {A : Type 0} where
 
   pub all-f : (f : A → Bool) (xs : List A) {x : A} → In x xs → f x ≡ false → all f xs ≡ false
   all-f f xs i h = to-false _ (λ e. clash (all-e f xs e i) h)
+
+  -- two lists
+  pub all-append : (f : A → Bool) (xs ys : List A) → all f (xs ++ ys) ≡ (all f xs && all f ys)
+  unfolding all
+  all-append f [] ys = refl
+  all-append f (x ∷ xs) ys = rw (all-append f xs ys) (sym (and-assoc (f x) (all f xs) (all f ys)))
+
+  pub any-append : (f : A → Bool) (xs ys : List A) → any f (xs ++ ys) ≡ (any f xs || any f ys)
+  unfolding any
+  any-append f [] ys = refl
+  any-append f (x ∷ xs) ys = rw (any-append f xs ys) (sym (or-assoc (f x) (any f xs) (any f ys)))
+
+  -- an element that fails stands past those that all pass
+  pub past : (f : A → Bool) (xs s a b : List A) (e : A) → all f xs ≡ true → f e ≡ false → xs ++ s ≡ a ++ e ∷ b → (c : List A) × (a ≡ xs ++ c) × (s ≡ c ++ e ∷ b)
+  unfolding all
+  past f [] s a b e h g z = (a, refl, z)
+  past f (x ∷ xs) s [] b e h g z = clash (and-l (f x) (all f xs) h) (rw (head-eq-of-cons-eq z) g)
+  past f (x ∷ xs) s (y ∷ a) b e h g z =
+      let (c, u, w) = past f xs s a b e (and-r (f x) (all f xs) h) g (tail-eq-of-cons-eq z) in
+      (c, ap₂ (λ (v : A) (vs : List A). v ∷ vs) (sym (head-eq-of-cons-eq z)) u, w)
 
   -- what a loop at i has before it: the element at i and then the rest; at the end nothing
   pub next : (xs : List A) (i : ℕ) (d : A) → i < length xs → drop i xs ≡ getD xs i d ∷ drop (i + 1) xs

@@ -1,14 +1,14 @@
 -- A signed word as a literal: "A literal is +v or -v; its opposite is its negation." Its variable is its size, `natAbs`; its opposite its negation, `negℤ`.
 use mathlib.Core.Path.{_≡_, refl, sym, _∙_, ap}
 use mathlib.Core.Logic.{_⊎_, inl, inr}
-use mathlib.Core.Bool.{Bool, true, false, cond, _||_}
-use mathlib.Core.List.{List, [], _∷_}
+use mathlib.Core.Bool.{Bool, true, false, cond, _||_, or-assoc}
+use mathlib.Core.List.{List, [], _∷_, _++_}
 use Prim.Native.Nat.{ℕ, zero, suc, _≤_, _<_}
 use native.Mathlib.Omega.{arith}
 use lib.Dec.{leb, eqb, eqb→eq, eqb-refl}
 use lib.IntN.{ℤ, pos, negsuc, negℤ, natAbs}
 use borrow.Author.Tests.{le-leb, lt-leb}
-use Rattle.words.specs.Bools.{clash, T→eq, eq→T, or-e, or-l, or-r, to-false}
+use Rattle.words.specs.Bools.{clash, T→eq, eq→T, or-e, or-l, or-r, to-false, bool-eq, eqb-eq, eqb-i}
 use Rattle.words.specs.Lists.{In, here, there}
 
 -- a word is below zero
@@ -83,6 +83,31 @@ var-cases (negsuc m) (pos zero) e = absurd (omega arith)
 var-cases (negsuc m) (pos (suc n)) e = let z : m ≡ n = omega arith in inr (ap negsuc z)
 var-cases (negsuc m) (negsuc n) e = let z : m ≡ n = omega arith in inl (ap negsuc z)
 
+-- "one of the two literals of x's variable is l" is "x and l have one variable"
+pub same-variable : (x l : ℤ) → (eqZ x l || eqZ (negℤ x) l) ≡ eqb (natAbs l) (natAbs x)
+same-variable x l = bool-eq _ _ there-it (λ e. back (var-cases x l (sym (eqb-eq (natAbs l) (natAbs x) e))))
+  where
+    there-it : (eqZ x l || eqZ (negℤ x) l) ≡ true → eqb (natAbs l) (natAbs x) ≡ true
+    there-it h = elim (or-e (eqZ x l) (eqZ (negℤ x) l) h) [
+      | inl e ↦ eqb-i (ap natAbs (sym (eqZ-eq x l e)))
+      | inr e ↦ eqb-i (ap natAbs (sym (eqZ-eq (negℤ x) l e)) ∙ natAbs-neg x)
+    ]
+
+    back : (x ≡ l) ⊎ (x ≡ negℤ l) → (eqZ x l || eqZ (negℤ x) l) ≡ true
+    back (inl e) = or-l {a = eqZ x l} (eqZ (negℤ x) l) (rw e (eqZ-refl l))
+    back (inr e) = or-r (eqZ x l) {b = eqZ (negℤ x) l} (rw (e, negneg l) (eqZ-refl l))
+
+-- only 0 is its own opposite
+pub own-opposite : (x : ℤ) → x ≡ negℤ x → natAbs x ≡ 0
+own-opposite (pos zero) e = refl
+own-opposite (pos (suc n)) e = let z : _≡_ {A = ℕ} 0 1 = cc in absurd (omega arith)
+own-opposite (negsuc n) e = let z : _≡_ {A = ℕ} 0 1 = cc in absurd (omega arith)
+
+-- a word below zero is not 0
+pub negative-named : (x : ℤ) → negative x ≡ true → natAbs x ≡ 0 → ⊥
+negative-named (pos n) h e = clash h refl
+negative-named (negsuc n) h e = omega arith
+
 pub mem-i : {x : ℤ} {xs : List ℤ} → In x xs → mem x xs ≡ true
 unfolding mem
 mem-i {x} (here {y = y} {xs = xs} e) = or-l {a = eqZ x y} (mem x xs) (rw e (eqZ-refl y))
@@ -96,3 +121,8 @@ mem-e x (y ∷ ys) h = go (or-e (eqZ x y) (mem x ys) h) (mem-e x ys)
     go : (eqZ x y ≡ true) ⊎ (mem x ys ≡ true) → (mem x ys ≡ true → In x ys) → In x (y ∷ ys)
     go (inl e) ih = here (eqZ-eq x y e)
     go (inr e) ih = there (ih e)
+
+pub mem-append : (x : ℤ) (xs ys : List ℤ) → mem x (xs ++ ys) ≡ (mem x xs || mem x ys)
+unfolding mem
+mem-append x [] ys = refl
+mem-append x (z ∷ xs) ys = rw (mem-append x xs ys) (sym (or-assoc (eqZ x z) (mem x xs) (mem x ys)))

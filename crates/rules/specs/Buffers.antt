@@ -1,0 +1,50 @@
+-- What the functions over the two buffers say to each other; a reader of `apply` and `badRecord` needs none of it.
+use Prim.Native.Nat.{ℕ, zero, suc, _≤_, _<_}
+use mathlib.Core.Path.{_≡_}
+use mathlib.Core.Bool.{Bool, true, false}
+use mathlib.Core.List.{List, [], _∷_}
+use lib.Dec.{eqb}
+use lib.IntN.{ℤ, pos, negsuc, natAbs}
+use lib.ListN.{length, getD}
+use Rattle.formula.specs.Block.{names}
+use Rattle.rules.specs.Due.{pick}
+use Rattle.rules.specs.Apply.{wiped}
+use Rattle.rules.specs.Ready.{Bound}
+use Rattle.rules.specs.Tables.{signOf}
+use Rattle.rules.specs.declared.Found.{Found}
+use Rattle.rules.specs.declared.Found.the-variants.{At, Nothing}
+
+-- both buffers have n places
+pub record Room (n : ℕ) (ls : List ℤ) (ks : List ℕ) : Type 0 where
+  pub lits : n ≤ length ls
+  pub kinds : n ≤ length ks
+
+-- both buffers before and after the places from .. to are set to 0
+pub record Wiped (from to : ℕ) (ls : List ℤ) (ks : List ℕ) (ls′ : List ℤ) (ks′ : List ℕ) : Type 0 where
+  pub lits : ls′ ≡ wiped (pos 0) ls from to
+  pub kinds : ks′ ≡ wiped 0 ks from to
+
+-- a record of n entries can be cut at i: the place is in it, and its literal has an opposite
+pub record Cuttable (i n : ℕ) (ls : List ℤ) (ks : List ℕ) : Type 0 where
+  pub inside : i < n
+  pub room : Room n ls ks
+  pub small : natAbs (getD ls i (pos 0)) ≤ 2147483647
+
+-- buffers that row 12 can be asked of: rows 1 to 11 have passed
+pub record Lent (p ls : List ℤ) (ks : List ℕ) : Type 0 where
+  pub prefix : Bound p
+  pub room : Room (length p) ls ks
+
+-- the last place below n that has the kind k
+unfoldable pub lastKind : List ℕ → ℕ → ℕ → Found
+lastKind ks k zero = Nothing
+lastKind ks k (suc i) = pick (eqb (getD ks i 0) k) (At i) (lastKind ks k i)
+
+-- the kind of a decision on a variable: 1 if the prefix binds it existentially, 2 universally, 0 if not at all
+unfoldable pub decision : List ℤ → ℕ → ℕ
+decision [] v = 0
+decision (q ∷ p) v = pick (names v q) (signOf q) (decision p v)
+
+-- a table of them
+abbrev pub Decisions : List ℤ → List ℕ → Type 0
+Decisions p t = (v : ℕ) → getD t v 0 ≡ decision p v

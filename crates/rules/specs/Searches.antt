@@ -1,0 +1,142 @@
+-- What each search of the due rule finds, and what it means that it finds nothing. By induction on the list that is searched.
+use Prim.Native.Nat.{ℕ, zero, suc, _+_, _≤_, _<_}
+use mathlib.Core.Path.{_≡_, refl, sym, _∙_, ap}
+use mathlib.Core.Logic.{_⊎_, inl, inr}
+use mathlib.Core.Bool.{Bool, true, false, not, _||_}
+use mathlib.Core.List.{List, [], _∷_}
+use native.Mathlib.Omega.{arith}
+use lib.IntN.{ℤ, pos, negℤ, natAbs}
+use lib.ListN.{getD}
+use Rattle.words.specs.Bools.{look, clash, or-r, and-i}
+use Rattle.words.specs.Lists.{In, here, there, all, any}
+use Rattle.words.specs.declared.Literal.{Literal}
+use Rattle.formula.specs.Formula.{Formula, existential, universal, level}
+use Rattle.formula.specs.Prefix.{Ordered, none, more, ordered, level-var, stands-i, stands-bound}
+use Rattle.formula.specs.Proper.{Proper}
+use Rattle.theory.specs.Record.{Assignment, assigned}
+use Rattle.theory.specs.Tests.{unassignedE, unassignedU, unitOn, monotone, isOpen, allAssigned}
+use Rattle.theory.specs.Assignment.{assigned-var}
+use Rattle.theory.specs.Tested.{unassignedE-i, unassignedU-i, open-i}
+use Rattle.rules.specs.Due.{literal, pick, onFound, lowest, candidate, isUnit, lowestUnit, firstMonotone, firstUnassigned}
+use Rattle.rules.specs.Preferred.{firstOpen}
+use Rattle.rules.specs.declared.Found.{Found}
+use Rattle.rules.specs.declared.Found.the-variants.{At, Nothing}
+use Rattle.rules.specs.declared.Picked.{Picked}
+use Rattle.rules.specs.declared.Picked.the-variants.{Is, NoLiteral}
+use Rattle.rules.specs.declared.UnitFound.{UnitFound}
+use Rattle.rules.specs.declared.UnitFound.the-variants.{On, NoUnit}
+
+-- ---- the lowest that passes
+module _ {A : Type 0} (f : A → Bool) where
+  pub lowest-none : (n : ℕ) (xs : List A) → lowest f n xs ≡ Nothing → any f xs ≡ false
+  unfolding lowest any
+  lowest-none n [] e = refl
+  lowest-none n (x ∷ xs) e = go (f x) (lowest-none (suc n) xs) e
+    where
+      go : (b : Bool) → (lowest f (suc n) xs ≡ Nothing → any f xs ≡ false) → pick b (At n) (lowest f (suc n) xs) ≡ Nothing → (b || any f xs) ≡ false
+      go true ih e = let z : _≡_ {A = ℕ} 0 1 = cc in absurd (omega arith)
+      go false ih e = ih e
+
+  -- it passes and stands in the list
+  pub lowest-at : (d : A) (n : ℕ) (xs : List A) (i : ℕ) → lowest f n xs ≡ At i → (j : ℕ) × (i ≡ n + j) × In (getD xs j d) xs × (f (getD xs j d) ≡ true)
+  unfolding lowest
+  lowest-at d n [] i e = let z : _≡_ {A = ℕ} 0 1 = cc in absurd (omega arith)
+  lowest-at d n (x ∷ xs) i e = go (f x) refl (lowest-at d (suc n) xs i) e
+    where
+      go : (b : Bool) → f x ≡ b → (lowest f (suc n) xs ≡ At i → (j : ℕ) × (i ≡ suc n + j) × In (getD xs j d) xs × (f (getD xs j d) ≡ true))
+          → pick b (At n) (lowest f (suc n) xs) ≡ At i → (j : ℕ) × (i ≡ n + j) × In (getD (x ∷ xs) j d) (x ∷ xs) × (f (getD (x ∷ xs) j d) ≡ true)
+      go true p ih e = let z : n ≡ i = cc in (0, omega arith, here refl, p)
+      go false p ih e = let r = ih e in (suc (r .0), omega (arith, r .1), there (r .2), r .3)
+
+-- ---- Unit: the clause stands in the matrix and decides the literal
+pub record UnitOf (p : List ℤ) (m : List (List ℤ)) (ρ : Assignment) (l : ℤ) : Type 0 where
+  pub clause : List ℤ
+  pub inside : In clause m
+  pub decides : unitOn p ρ clause l ≡ true
+
+pub unit-found : (p : List ℤ) (m : List (List ℤ)) (ρ : Assignment) (l : Literal) (c : ℕ) → lowestUnit p ρ m ≡ On l c → UnitOf p m ρ (l .0)
+unfolding lowestUnit
+unit-found p m ρ l c e = go (lowest (isUnit p ρ) 0 m) refl e
+  where
+    go : (o : Found) → lowest (isUnit p ρ) 0 m ≡ o → onFound o (λ c. On (literal (candidate p ρ (getD m c []))) c) NoUnit ≡ On l c → UnitOf p m ρ (l .0)
+    go (At i) q e =
+        let (j, s, t, u) = lowest-at (isUnit p ρ) [] 0 m i q in
+        let z : j ≡ i = omega arith in
+        let w : literal (candidate p ρ (getD m i [])) ≡ l = cc in
+        let w0 : candidate p ρ (getD m i []) ≡ l .0 = ap (λ (x : Literal). x .0) w in
+        record { clause = getD m i []; inside = rw z at t; decides = rw (← w0) (rw z at u) }
+    go Nothing q e = let z : _≡_ {A = ℕ} 0 1 = cc in absurd (omega arith)
+
+-- ---- Monotone
+pub monotone-found : (p : List ℤ) (m : List (List ℤ)) (ρ : Assignment) (qs : List ℤ) (l : Literal) → firstMonotone p m ρ qs ≡ Is l → monotone p m ρ (l .0) ≡ true
+unfolding firstMonotone
+monotone-found p m ρ [] l e = let z : _≡_ {A = ℕ} 0 1 = cc in absurd (omega arith)
+monotone-found p m ρ (q ∷ qs) l e = go (monotone p m ρ q) (monotone p m ρ (negℤ q)) refl refl (monotone-found p m ρ qs l) e
+  where
+    same : (x : ℤ) → literal x ≡ l → monotone p m ρ x ≡ true → monotone p m ρ (l .0) ≡ true
+    same x w h = let z : x ≡ l .0 = ap (λ (y : Literal). y .0) w in rw z at h
+
+    go : (a b : Bool) → monotone p m ρ q ≡ a → monotone p m ρ (negℤ q) ≡ b → (firstMonotone p m ρ qs ≡ Is l → monotone p m ρ (l .0) ≡ true)
+        → pick a (Is (literal q)) (pick b (Is (literal (negℤ q))) (firstMonotone p m ρ qs)) ≡ Is l → monotone p m ρ (l .0) ≡ true
+    go true b s t ih e = same q (cc) s
+    go false true s t ih e = same (negℤ q) (cc) t
+    go false false s t ih e = ih e
+
+-- ---- the first unassigned variable
+pub unassigned-none : (ρ : Assignment) (qs : List ℤ) → firstUnassigned ρ qs ≡ NoLiteral → allAssigned qs ρ ≡ true
+unfolding firstUnassigned allAssigned all
+unassigned-none ρ [] e = refl
+unassigned-none ρ (q ∷ qs) e = go (assigned ρ q) refl (unassigned-none ρ qs) e
+  where
+    go : (b : Bool) → assigned ρ q ≡ b → (firstUnassigned ρ qs ≡ NoLiteral → all (assigned ρ) qs ≡ true) → pick b (firstUnassigned ρ qs) (Is (literal (pos (natAbs q)))) ≡ NoLiteral → all (assigned ρ) (q ∷ qs) ≡ true
+    go true p ih e = and-i p (ih e)
+    go false p ih e = let z : _≡_ {A = ℕ} 0 1 = cc in absurd (omega arith)
+
+-- it is one of the words, and no word of a lower level is unassigned: levels do not fall along the prefix
+record First (P qs : List ℤ) (ρ : Assignment) (l : ℤ) : Type 0 where
+  word : ℤ
+  inside : In word qs
+  variable : natAbs l ≡ natAbs word
+  unset : assigned ρ word ≡ false
+  least : (x : ℤ) → In x qs → (assigned ρ x ≡ true) ⊎ (level P word ≤ level P x)
+
+unassigned-found : (P qs : List ℤ) → Ordered P qs → (ρ : Assignment) (l : Literal) → firstUnassigned ρ qs ≡ Is l → First P qs ρ (l .0)
+unfolding firstUnassigned
+unassigned-found P qs none ρ l e = let z : _≡_ {A = ℕ} 0 1 = cc in absurd (omega arith)
+unassigned-found P qs (more {q = q} {p = p} a b c d rest) ρ l e = go (assigned ρ q) refl (unassigned-found P p rest ρ l) e
+  where
+    go : (b : Bool) → assigned ρ q ≡ b → (firstUnassigned ρ p ≡ Is l → First P p ρ (l .0)) → pick b (firstUnassigned ρ p) (Is (literal (pos (natAbs q)))) ≡ Is l → First P (q ∷ p) ρ (l .0)
+    go true s ih e = let r = ih e in record { word = r .word; inside = there (r .inside); variable = r .variable; unset = r .unset; least = low r }
+      where
+        low : (r : First P p ρ (l .0)) (x : ℤ) → In x (q ∷ p) → (assigned ρ x ≡ true) ⊎ (level P (r .word) ≤ level P x)
+        low r x (here z) = inl (rw z s)
+        low r x (there i) = r .least x i
+    go false s ih e =
+        let w : literal (pos (natAbs q)) ≡ l = cc in
+        let w0 : pos (natAbs q) ≡ l .0 = ap (λ (x : Literal). x .0) w in
+        record { word = q; inside = here refl; variable = ap natAbs (sym w0); unset = s; least = low }
+      where
+        low : (x : ℤ) → In x (q ∷ p) → (assigned ρ x ≡ true) ⊎ (level P q ≤ level P x)
+        low x (here z) = inr (rw z (omega arith))
+        low x (there i) = inr (d x i .0)
+
+module _ (F : Formula) (ok : Proper F) (ρ : Assignment) where
+  -- an unassigned word of the prefix is unassigned by its quantifier
+  unset-word : (l w : ℤ) → In w (F .prefix) → natAbs l ≡ natAbs w → assigned ρ l ≡ false → (unassignedE (F .prefix) ρ l ≡ true) ⊎ (unassignedU (F .prefix) ρ l ≡ true)
+  unset-word l w i e u = elim (stands-bound (F .prefix) l (stands-i l i e)) [ inl h ↦ inl (unassignedE-i (F .prefix) ρ l h u) | inr h ↦ inr (unassignedU-i (F .prefix) ρ l h u) ]
+
+  pub unassigned-open : (l : Literal) → firstUnassigned ρ (F .prefix) ≡ Is l → isOpen (F .prefix) ρ (l .0) ≡ true
+  unassigned-open l e =
+      let r = unassigned-found (F .prefix) (F .prefix) (ordered ok) ρ l e in
+      let v = assigned-var ρ (l .0) (r .word) (r .variable) in
+      open-i (F .prefix) ρ (l .0) (unset-word (l .0) (r .word) (r .inside) (r .variable) (v ∙ r .unset)) (λ x i. rw (level-var (F .prefix) (l .0) (r .word) (r .variable)) (r .least x i))
+
+-- ---- a preferred literal: 0 or open
+pub first-open : (p : List ℤ) (ρ : Assignment) (ls : List ℤ) → (natAbs (firstOpen p ρ ls) ≡ 0) ⊎ (isOpen p ρ (firstOpen p ρ ls) ≡ true)
+unfolding firstOpen
+first-open p ρ [] = inl refl
+first-open p ρ (l ∷ ls) = go (isOpen p ρ l) refl (first-open p ρ ls)
+  where
+    go : (b : Bool) → isOpen p ρ l ≡ b → (natAbs (firstOpen p ρ ls) ≡ 0) ⊎ (isOpen p ρ (firstOpen p ρ ls) ≡ true) → (natAbs (pick b l (firstOpen p ρ ls)) ≡ 0) ⊎ (isOpen p ρ (pick b l (firstOpen p ρ ls)) ≡ true)
+    go true e ih = inr e
+    go false e ih = ih

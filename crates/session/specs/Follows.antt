@@ -1,0 +1,89 @@
+-- "Every accepted step is the one due rule": the search that it leaves is the due rule's, a step of the theory; the revision is one more; the
+-- places from the new to the old length are 0, and no place past both is written; Fail and Succeed leave the record. And what the guard
+-- has shown holds again after it. From the laws of the rules.
+use Prim.Native.Nat.{ℕ, zero, suc, _+_, _≤_, _<_}
+use mathlib.Core.Path.{_≡_, refl, sym, _∙_, ap}
+use mathlib.Core.List.{List, []}
+use native.Mathlib.Omega.{arith}
+use lib.IntN.{ℤ, pos}
+use lib.ListN.{length, getD}
+use Rattle.words.specs.declared.Literal.{Literal}
+use Rattle.formula.specs.Limits.{limits}
+use Rattle.formula.specs.Formula.{Formula, formulaOf, prefixOf}
+use Rattle.formula.specs.Block.{refusal}
+use Rattle.theory.specs.Rules.{Step}
+use Rattle.rules.specs.declared.State.{State}
+use Rattle.rules.specs.declared.State.the-variants.{Open, Valid, Unsat}
+use Rattle.rules.specs.Due.{due}
+use Rattle.rules.specs.Apply.{Search, search, recordOf, apply}
+use Rattle.rules.specs.Steps.{standing, stateOf, recordIn, KeptIn, apply-lengths, due-step, due-keeps}
+use Rattle.rules.specs.Written.{apply-untouched, apply-zeros, apply-ended}
+use Rattle.session.specs.declared.Revision.{Revision}
+use Rattle.session.specs.declared.Session.{Session}
+use Rattle.session.specs.declared.Answer.{Answer}
+use Rattle.session.specs.declared.Answer.the-variants.{To, Refused}
+use Rattle.session.specs.Refusals.{stepRefusal}
+use Rattle.session.specs.Accepted.{accepted-proper, step-guarded}
+use Rattle.session.specs.Outcome.{Outcome, outcome, unless, moved, searchOf, stepped, stepOutcome}
+
+-- from a session s and its buffers to the next, by an accepted step with the proposal l
+pub record Follows (b : List ℤ) (l : ℤ) (s s′ : Session) (ls ls′ : List ℤ) (ks ks′ : List ℕ) : Type 0 where
+  -- it is the due rule, and a rule of the theory
+  pub rule : searchOf s′ ls′ ks′ ≡ apply (prefixOf b) (due (formulaOf b) (recordOf ls ks (s .length))) l (searchOf s ls ks)
+  pub step : Step (formulaOf b) (recordOf ls ks (s .length)) (stateOf (searchOf s′ ls′ ks′))
+  -- "An accepted step adds one to the revision."
+  pub revision : s′ .revision .0 ≡ s .revision .0 + 1
+  -- "A cut sets the places from the new to the old length to 0 in both buffers."
+  pub zeros : (j : ℕ) → s′ .length ≤ j → j < s .length → (getD ls′ j (pos 0) ≡ pos 0) × (getD ks′ j 0 ≡ 0)
+  -- "No other place is written."
+  pub untouched : (j : ℕ) → s .length ≤ j → s′ .length ≤ j → (getD ls′ j (pos 0) ≡ getD ls j (pos 0)) × (getD ks′ j 0 ≡ getD ks j 0)
+  pub lengths : (length ls′ ≡ length ls) × (length ks′ ≡ length ks)
+  -- "Fail and Succeed leave the record."
+  pub ended : (s′ .state ≡ Open → ⊥) → (ls′ ≡ ls) × (ks′ ≡ ks) × (s′ .length ≡ s .length)
+  -- rows 11 and 12 would pass again
+  pub kept : KeptIn (prefixOf b) (searchOf s′ ls′ ks′)
+
+module _ (s : Session) (b ls : List ℤ) (ks : List ℕ) (seen : Revision) (l : Literal) where
+  next : Search
+  next = apply (prefixOf b) (due (formulaOf b) (recordOf ls ks (s .length))) (l .0) (searchOf s ls ks)
+
+  -- a step that breaks no row
+  pub accepted-is : stepRefusal s b ls ks seen l ≡ 0 → stepOutcome s b ls ks seen l ≡ stepped s b l (searchOf s ls ks)
+  unfolding stepOutcome
+  accepted-is e = rw e
+
+  follows-next : stepRefusal s b ls ks seen l ≡ 0 → Follows b (l .0) s (moved s 1 next) ls (next .lits) ks (next .kinds)
+  unfolding next formulaOf
+  follows-next e =
+      let g = step-guarded s b ls ks seen l e in
+      let t = searchOf s ls ks in
+      let rule = due (formulaOf b) (recordOf ls ks (s .length)) in
+      let ok = accepted-proper b (g .guard .block) in
+      record {
+        rule = refl;
+        step = due-step (formulaOf b) ok t (g .guard .kept) (l .0) (g .permitted);
+        revision = refl;
+        zeros = apply-zeros (prefixOf b) (l .0) t rule;
+        untouched = apply-untouched (prefixOf b) (l .0) t rule;
+        lengths = apply-lengths (prefixOf b) rule (l .0) t;
+        ended = apply-ended (prefixOf b) (l .0) t rule;
+        kept = due-keeps (formulaOf b) ok t (g .guard .kept) (l .0) (g .permitted);
+      }
+
+  -- an answer with a session comes from such a step
+  pub answered-accepted : (s′ : Session) → stepOutcome s b ls ks seen l .answer ≡ To s′ → stepRefusal s b ls ks seen l ≡ 0
+  unfolding stepOutcome
+  answered-accepted s′ = go (stepRefusal s b ls ks seen l)
+    where
+      go : (n : ℕ) → unless n ls ks (stepped s b l (searchOf s ls ks)) .answer ≡ To s′ → n ≡ 0
+      go zero e = refl
+      go (suc n) e = let z : _≡_ {A = ℕ} 0 1 = cc in absurd (omega arith)
+
+  pub accepted-step : (s′ : Session) → let o = stepOutcome s b ls ks seen l in o .answer ≡ To s′ → Follows b (l .0) s s′ ls (o .lits) ks (o .kinds)
+  unfolding next
+  accepted-step s′ a =
+      let e = answered-accepted s′ a in
+      let q = accepted-is e in
+      let a′ = rw q at a in
+      let z : moved s 1 next ≡ s′ = cc in
+      rw (q, ← z) (follows-next e)

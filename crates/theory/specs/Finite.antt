@@ -1,0 +1,127 @@
+-- Finite: every rule lowers a number, the work that a state leaves. A search with n variables unassigned has at most 2^(n+1) - 1 rules to go,
+-- the nodes of a full tree of n levels; a decision besides owes the tree of its opposite. From what each rule does to the record.
+use mathlib.Core.Path.{_≡_, refl, sym}
+use mathlib.Core.Logic.{inl, inr}
+use mathlib.Core.Bool.{true, false, cond}
+use mathlib.Core.List.{List, [], _∷_, _++_}
+use Prim.Native.Nat.{ℕ, zero, suc, _+_, _-_, _^_, _≤_, _<_}
+use native.Mathlib.Omega.{arith}
+use native.Mathlib.Nat.{pow-suc}
+use lib.Dec.{eqb}
+use lib.ListN.{length}
+use lib.IntN.{ℤ, negℤ}
+use Rattle.words.specs.Bools.{look, and-l, and-r}
+use Rattle.words.specs.Lists.{all}
+use Rattle.formula.specs.Formula.{Formula}
+use Rattle.formula.specs.Prefix.{stands}
+use Rattle.theory.specs.Record.{Entry, entry, Record, Assignment, trueIn, assigned, forced}
+use Rattle.theory.specs.Rules.{State, going, valid, unsat, Step, Path, stop, take}
+use Rattle.theory.specs.Assignment.{put, after, true-snoc, true-append}
+use Rattle.theory.specs.Moves.{suits-stands, Move, grows, cuts, ends, move}
+use Rattle.theory.specs.Good.{Good, good-none}
+use Rattle.theory.specs.Free.{free, free-less, free-sign, good-taken}
+
+-- ---- the nodes of a full tree of n levels, 2^(n+1) - 1: a root, and two trees of a level less
+unfoldable pub nodes : ℕ → ℕ
+nodes zero = 1
+nodes (suc n) = suc (nodes n + nodes n)
+
+nodes-pos : (n : ℕ) → 1 ≤ nodes n
+unfolding nodes
+nodes-pos zero = omega arith
+nodes-pos (suc n) = omega arith
+
+nodes-up : (n m : ℕ) → n ≤ m → nodes n ≤ nodes m
+unfolding nodes
+nodes-up zero m h = nodes-pos m
+nodes-up (suc n) zero h = absurd (omega arith)
+nodes-up (suc n) (suc m) h = let k : nodes n ≤ nodes m = nodes-up n m (omega arith) in omega arith
+
+nodes-two : (n m : ℕ) → n < m → nodes n + nodes n < nodes m
+unfolding nodes
+nodes-two n zero h = absurd (omega arith)
+nodes-two n (suc m) h = let k : nodes n ≤ nodes m = nodes-up n m (omega arith) in omega arith
+
+pub nodes-power : (n : ℕ) → nodes n + 1 ≡ 2 ^ suc n
+unfolding nodes
+nodes-power zero = refl
+nodes-power (suc n) = let k = nodes-power n in rw (pow-suc 2 (suc n)) (omega arith)
+
+-- ---- the work
+-- what the decisions among the entries owe
+unfoldable pub owed : List ℤ → Assignment → Record → ℕ
+owed p ρ [] = 0
+owed p ρ (e ∷ s) = cond (eqb (e .kind) 0) 0 (nodes (free p (put (e .literal) ρ))) + owed p (put (e .literal) ρ) s
+
+unfoldable pub work : Formula → State → ℕ
+work F (going r) = nodes (free (F .prefix) (trueIn r)) + owed (F .prefix) (trueIn []) r
+work F valid = 0
+work F unsat = 0
+
+owed-append : (p : List ℤ) (ρ : Assignment) (a b : Record) → owed p ρ (a ++ b) ≡ owed p ρ a + owed p (after ρ a) b
+unfolding owed after
+owed-append p ρ [] b = omega arith
+owed-append p ρ (e ∷ a) b = let k = owed-append p (put (e .literal) ρ) a b in omega arith
+
+-- what an entry after the record owes
+owed-snoc : (p : List ℤ) (r : Record) (e : Entry) (b : Record) → owed p (trueIn []) (r ++ e ∷ b) ≡ owed p (trueIn []) r + (cond (eqb (e .kind) 0) 0 (nodes (free p (put (e .literal) (trueIn r)))) + owed p (put (e .literal) (trueIn r)) b)
+unfolding owed
+owed-snoc p r e b = let k : after (trueIn []) r ≡ trueIn r = sym (true-append [] r) in rw (owed-append p (trueIn []) r (e ∷ b), k)
+
+module _ (F : Formula) where
+  -- the two trees of a literal, and their root, are no more than the tree before it
+  grows-less : (r : Record) (k : ℕ) (l : ℤ) → assigned (trueIn r) l ≡ false → stands (F .prefix) l ≡ true → work F (going (r ++ entry k l ∷ [])) < work F (going r)
+  unfolding work owed
+  grows-less r k l a i =
+      let N = nodes (free (F .prefix) (put l (trueIn r))) in
+      let h = nodes-two (free (F .prefix) (put l (trueIn r))) (free (F .prefix) (trueIn r)) (free-less (F .prefix) l (trueIn r) a i) in
+      let c : cond (eqb k 0) 0 N ≤ N = elim (look (eqb k 0)) [ inl e ↦ rw e (omega arith) | inr e ↦ rw e (omega arith) ] in
+      rw (owed-snoc (F .prefix) r (entry k l) [], true-snoc r (entry k l)) (omega arith)
+
+  -- a cut pays the decision's debt
+  cuts-less : (k : ℕ) (a b : Record) (l : ℤ) → eqb k 0 ≡ false → work F (going (a ++ entry 0 (negℤ l) ∷ [])) < work F (going (a ++ entry k l ∷ b))
+  unfolding work owed
+  cuts-less k a b l d =
+      let h = nodes-pos (free (F .prefix) (trueIn (a ++ entry k l ∷ b))) in
+      rw (owed-snoc (F .prefix) a (entry k l) b, owed-snoc (F .prefix) a (entry 0 (negℤ l)) [], true-snoc a (entry 0 (negℤ l)), free-sign (F .prefix) l (trueIn a), d) (omega arith)
+
+  -- every rule lowers the work
+  pub step-less : {r : Record} {s : State} → Step F r s → work F s < work F (going r)
+  unfolding work
+  step-less {r} s = go (move F s)
+    where
+      positive : 0 < work F (going r)
+      positive = let h = nodes-pos (free (F .prefix) (trueIn r)) in omega arith
+
+      go : {s : State} → Move F r s → work F s < work F (going r)
+      go (grows k l a h) = grows-less r k l a (suits-stands (F .prefix) k l h)
+      go (cuts k a b l d e) = rw e (cuts-less k a b l d)
+      go (ends true) = positive
+      go (ends false) = positive
+
+  pub path-work : {n : ℕ} {s t : State} → Path F n s t → n + work F t ≤ work F s
+  path-work stop = omega arith
+  path-work (take s p) = let k = step-less s in let j = path-work p in omega arith
+
+  -- forced entries owe nothing
+  forced-owed : (ρ : Assignment) (r : Record) → forced r ≡ true → owed (F .prefix) ρ r ≡ 0
+  unfolding owed forced all
+  forced-owed ρ [] h = refl
+  forced-owed ρ (e ∷ r) h = let k = forced-owed (put (e .literal) ρ) r (and-r (eqb (e .kind) 0) (all (λ (e : Entry). eqb (e .kind) 0) r) h) in
+      rw (and-l (eqb (e .kind) 0) (all (λ (e : Entry). eqb (e .kind) 0) r) h) (omega arith)
+
+  -- a path from k forced entries of distinct variables of the prefix has at most 2^(V+1-k) - 1 rules
+  pub finite : (r : Record) → Good F r → forced r ≡ true → {n : ℕ} {s : State} → Path F n (going r) s → n < 2 ^ (suc (length (F .prefix)) - length r)
+  unfolding work
+  finite r g f p =
+      let w = rw (forced-owed (trueIn []) r f) at (path-work p) in
+      let t = good-taken F r g in
+      let u = nodes-up (free (F .prefix) (trueIn r)) (length (F .prefix) - length r) (omega arith) in
+      let e : suc (length (F .prefix)) - length r ≡ suc (length (F .prefix) - length r) = omega arith in
+      let q = nodes-power (length (F .prefix) - length r) in
+      rw e (omega arith)
+
+  -- from the empty record: at most 2^(V+1) - 1
+  pub finite-formula : {n : ℕ} {s : State} → Path F n (going []) s → n < 2 ^ suc (length (F .prefix))
+  unfolding forced all
+  finite-formula p = let e : suc (length (F .prefix)) - 0 ≡ suc (length (F .prefix)) = omega arith in rw e at (finite [] (good-none F) refl p)
