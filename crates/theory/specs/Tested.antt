@@ -122,21 +122,28 @@ unit-e p ρ C l h =
     given false t h e = clash e refl
 
 -- ---- an open literal: unassigned, of the prefix, and no unassigned variable has a lower level
+-- no unassigned variable of the part p has a lower level than l's
+abbrev pub Lowest : List ℤ → Assignment → ℤ → List ℤ → Type 0
+Lowest P ρ l p = (x : ℤ) → In x p → (assigned ρ x ≡ true) ⊎ (level P l ≤ level P x)
+
 pub record OpenAt (p : List ℤ) (ρ : Assignment) (l : ℤ) : Type 0 where
   pub bound : stands p l ≡ true
   pub unset : assigned ρ l ≡ false
-  pub lowest : (x : ℤ) → In x p → (assigned ρ x ≡ true) ⊎ (level p l ≤ level p x)
+  pub lowest : Lowest p ρ l p
 
-pub unassigned-e : (p : List ℤ) (ρ : Assignment) (l : ℤ) → (unassignedE p ρ l ≡ true) ⊎ (unassignedU p ρ l ≡ true) → (stands p l ≡ true) × (assigned ρ l ≡ false)
+unassigned-e : (p : List ℤ) (ρ : Assignment) (l : ℤ) → (unassignedE p ρ l ≡ true) ⊎ (unassignedU p ρ l ≡ true) → (stands p l ≡ true) × (assigned ρ l ≡ false)
 unassigned-e p ρ l (inl h) = let u = unassignedE-e p ρ l h in (existential-stands p l (u .0), u .1)
 unassigned-e p ρ l (inr h) = let u = unassignedU-e p ρ l h in (universal-stands p l (u .0), u .1)
 
 pub open-e : (p : List ℤ) (ρ : Assignment) (l : ℤ) → isOpen p ρ l ≡ true → OpenAt p ρ l
 unfolding isOpen
 open-e p ρ l h =
-    let u = unassigned-e p ρ l (or-e (unassignedE p ρ l) (unassignedU p ρ l) (and-l (unassignedE p ρ l || unassignedU p ρ l) (all low p) h)) in
-    record { bound = u .0; unset = u .1; lowest = λ x i. least x (or-e (assigned ρ x) (leb (level p l) (level p x)) (all-e low p (and-r (unassignedE p ρ l || unassignedU p ρ l) (all low p) h) i)) }
+    let u = unassigned-e p ρ l (or-e (unassignedE p ρ l) (unassignedU p ρ l) (and-l unset (all low p) h)) in
+    record { bound = u .0; unset = u .1; lowest = λ x i. least x (or-e (assigned ρ x) (leb (level p l) (level p x)) (all-e low p (and-r unset (all low p) h) i)) }
   where
+    unset : Bool
+    unset = unassignedE p ρ l || unassignedU p ρ l
+
     low : ℤ → Bool
     low q = assigned ρ q || leb (level p l) (level p q)
 
@@ -144,7 +151,7 @@ open-e p ρ l h =
     least x (inl e) = inl e
     least x (inr e) = inr (leb→le (level p l) (level p x) (eq→T e))
 
-pub open-i : (p : List ℤ) (ρ : Assignment) (l : ℤ) → (unassignedE p ρ l ≡ true) ⊎ (unassignedU p ρ l ≡ true) → ((x : ℤ) → In x p → (assigned ρ x ≡ true) ⊎ (level p l ≤ level p x)) → isOpen p ρ l ≡ true
+pub open-i : (p : List ℤ) (ρ : Assignment) (l : ℤ) → (unassignedE p ρ l ≡ true) ⊎ (unassignedU p ρ l ≡ true) → Lowest p ρ l p → isOpen p ρ l ≡ true
 unfolding isOpen
 open-i p ρ l u h = and-i {a = unassignedE p ρ l || unassignedU p ρ l} {b = all low p} (unset u) (all-i low p (λ x i. least x (h x i)))
   where
