@@ -120,10 +120,6 @@ pub universal-neg : (p : List ℤ) (x : ℤ) → universal p (negℤ x) ≡ univ
 unfolding universal
 universal-neg p x = rw (natAbs-neg x)
 
-pub level-neg : (p : List ℤ) (x : ℤ) → level p (negℤ x) ≡ level p x
-unfolding level
-level-neg p x = rw (natAbs-neg x)
-
 -- literals of one variable have one quantifier and one level
 pub existential-var : (p : List ℤ) (x y : ℤ) → natAbs x ≡ natAbs y → existential p x ≡ existential p y
 unfolding existential
