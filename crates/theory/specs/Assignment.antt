@@ -75,6 +75,11 @@ assigned-other l ρ x h = rw (assigned-put l ρ x, h)
 pub assigned-sign : (l : ℤ) (ρ : Assignment) (x : ℤ) → assigned (put (negℤ l) ρ) x ≡ assigned (put l ρ) x
 assigned-sign l ρ x = rw (assigned-put (negℤ l) ρ x, assigned-put l ρ x, natAbs-neg l)
 
+-- an unassigned variable stays so when another is set, to either value
+pub unset-put : (q : ℤ) (ρ : Assignment) (x : ℤ) → eqb (natAbs q) (natAbs x) ≡ false → assigned ρ x ≡ false
+    → (assigned (put q ρ) x ≡ false) × (assigned (put (negℤ q) ρ) x ≡ false)
+unset-put q ρ x d a = let h = assigned-other q ρ x d ∙ a in (h, assigned-sign q ρ x ∙ h)
+
 -- ---- the assignment of a list and of a record
 pub assigned-among : (σ : List ℤ) (l : ℤ) → assigned (among σ) l ≡ stands σ l
 unfolding assigned

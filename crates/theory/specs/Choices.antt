@@ -17,15 +17,10 @@ use Rattle.formula.specs.Prefix.{stands, stands-e, stands-cons, stands-none, ot
 use Rattle.formula.specs.Truth.{asked}
 use Rattle.theory.specs.Record.{Assignment, assigned}
 use Rattle.theory.specs.Tests.{isOpen}
-use Rattle.theory.specs.Assignment.{put, put-comm, assigned-var, assigned-still, assigned-other, assigned-sign}
+use Rattle.theory.specs.Assignment.{put, unset-put, put-comm, assigned-var, assigned-still}
 use Rattle.theory.specs.Asked.{asked-exchange, Toward, asked-toward, toward-asked}
 use Rattle.theory.specs.Value.{value, valueOf, value-set, value-ask, value-at, value-own}
 use Rattle.theory.specs.Tested.{Lowest, open-e}
-
--- an unassigned variable stays so when another is set, to either value
-pub unset-put : (q : ℤ) (ρ : Assignment) (x : ℤ) → eqb (natAbs q) (natAbs x) ≡ false → assigned ρ x ≡ false
-    → (assigned (put q ρ) x ≡ false) × (assigned (put (negℤ q) ρ) x ≡ false)
-unset-put q ρ x d a = let h = assigned-other q ρ x d ∙ a in (h, assigned-sign q ρ x ∙ h)
 
 module _ (m : List (List ℤ)) where
   -- a variable further on that is assigned may be left out

@@ -3,7 +3,7 @@
 use mathlib.Core.Path.{_≡_, refl, sym}
 use mathlib.Core.Logic.{inl, inr}
 use mathlib.Core.Bool.{true, false, cond}
-use mathlib.Core.List.{List, [], _∷_, _++_}
+use mathlib.Core.List.{List, [], _∷_, _++_, append-nil, append-assoc}
 use Prim.Native.Nat.{ℕ, zero, suc, _+_, _-_, _^_, _≤_, _<_}
 use native.Mathlib.Omega.{arith}
 use native.Mathlib.Nat.{pow-suc}
@@ -19,7 +19,7 @@ use Rattle.theory.specs.Rules.{State, going, valid, unsat, Step, Path, s
 use Rattle.theory.specs.Assignment.{put, after, true-snoc, true-append}
 use Rattle.theory.specs.Moves.{suits-stands, Move, grows, cuts, ends, move}
 use Rattle.theory.specs.Start.{Good}
-use Rattle.theory.specs.Good.{good-none}
+use Rattle.theory.specs.Good.{good-none, good-at}
 use Rattle.theory.specs.Free.{free, free-less, free-sign, good-taken}
 
 -- ---- the nodes of a full tree of n levels, 2^(n+1) - 1: a root, and two trees of a level less
@@ -139,7 +139,27 @@ module _ (F : Formula) where
       let q = nodes-power (length (F .prefix) - length r) in
       rw e (omega arith)
 
-  -- from the empty record: at most 2^(V+1) - 1
+  -- every entry of a good record lowered the work
+  good-work : (a s : Record) → Good F (a ++ s) → work F (going (a ++ s)) + length s ≤ work F (going a)
+  good-work a [] g = rw append-nil (omega arith)
+  good-work a (e ∷ s) g =
+      let z : (a ++ e ∷ []) ++ s ≡ a ++ e ∷ s = append-assoc a (e ∷ []) s in
+      let ih = rw z at (good-work (a ++ e ∷ []) s (rw z g)) in
+      let (h, u, t) = good-at F a s e g in
+      let k = grows-less a (e .kind) (e .literal) u (suits-stands (F .prefix) (e .kind) (e .literal) t) in
+      omega arith
+
+  -- so from any good record, with decisions or without, at most 2^(V+1) - 1 rules
+  pub finite-good : (r : Record) → Good F r → {n : ℕ} {s : State} → Path F n (going r) s → n + length r < 2 ^ suc (length (F .prefix))
+  unfolding work owed
+  finite-good r g p =
+      let w = path-work p in
+      let k = good-work [] r g in
+      let t = good-taken F [] (good-none F) in
+      let u = nodes-up (free (F .prefix) (trueIn [])) (length (F .prefix)) (omega arith) in
+      let q = nodes-power (length (F .prefix)) in
+      omega arith
+
+  -- and from the empty record
   pub finite-formula : {n : ℕ} {s : State} → Path F n (going []) s → n < 2 ^ suc (length (F .prefix))
-  unfolding forced all
-  finite-formula p = let e : suc (length (F .prefix)) - 0 ≡ suc (length (F .prefix)) = omega arith in rw e at (finite [] (good-none F) refl p)
+  finite-formula p = let k = finite-good [] (good-none F) p in omega arith

@@ -19,11 +19,10 @@ use Rattle.formula.specs.Prefix.{stands, stands-e, stands-cons, stands-none, ex
 use Rattle.formula.specs.Truth.{asked}
 use Rattle.theory.specs.Record.{Assignment, assigned}
 use Rattle.theory.specs.Tests.{unassignedE, unitOn, absent, monotoneWide}
-use Rattle.theory.specs.Assignment.{put, put-new, put-old, put-e, put-comm, assigned-var, assigned-own, assigned-still, assigned-put, assigned-other, assigned-sign}
+use Rattle.theory.specs.Assignment.{put, unset-put, put-new, put-old, put-e, put-comm, assigned-var, assigned-own, assigned-still, assigned-put, assigned-other, assigned-sign}
 use Rattle.theory.specs.Asked.{asked-first, asked-more}
 use Rattle.theory.specs.Value.{value, valueOf, value-set, value-ask, value-at, value-own}
 use Rattle.theory.specs.Tested.{unassignedE-e, unassignedU-e, unassignedE-i, unassignedU-i, unassignedE-put, unassignedU-put, untrue-put, true-put, Dead, UnitAt, unit-e, Absent, absent-e, absent-put, wide-e}
-use Rattle.theory.specs.Choices.{unset-put}
 use Rattle.theory.specs.Conflict.{dead-false}
 
 -- an unassigned variable q of the prefix P that stands above l's, and a literal y of it

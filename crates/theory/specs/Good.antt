@@ -9,10 +9,10 @@ use Rattle.words.specs.Bools.{and-l, and-r}
 use Rattle.words.specs.Lists.{all, all-append}
 use Rattle.formula.specs.Formula.{Formula}
 use Rattle.formula.specs.Block.{twice}
-use Rattle.formula.specs.Prefix.{stands-neg, twice-before, twice-snoc}
-use Rattle.theory.specs.Record.{entry, Record, literals, trueIn, assigned}
+use Rattle.formula.specs.Prefix.{twice-before, twice-snoc}
+use Rattle.theory.specs.Record.{Entry, entry, Record, literals, trueIn, assigned}
 use Rattle.theory.specs.Rules.{State, going, valid, unsat, Step, Path, stop, take}
-use Rattle.theory.specs.Assignment.{assigned-among, literals-append}
+use Rattle.theory.specs.Assignment.{assigned-neg, assigned-among, literals-append}
 use Rattle.theory.specs.Start.{suits, allSuit, Good}
 use Rattle.theory.specs.Moves.{suits-forced, suits-neg, Move, grows, cuts, ends, move}
 
@@ -38,16 +38,23 @@ module _ (F : Formula) where
     suited = rw (suit-append (F .prefix) r (entry k l ∷ []), g .suited, h);
   }
 
+  -- what is known at an entry: those before it are good, its variable is new to them, and its kind suits it
+  pub good-at : (a b : Record) (e : Entry) → Good F (a ++ e ∷ b) → Good F a × (assigned (trueIn a) (e .literal) ≡ false) × (suits (F .prefix) (e .kind) (e .literal) ≡ true)
+  unfolding literals allSuit all
+  good-at a b e g =
+      let (d, s) = twice-before (literals a) (e .literal) (literals b) (rw literals-append at (g .distinct)) in
+      let h = rw (suit-append (F .prefix) a (e ∷ b)) at (g .suited) in
+      let k = and-r (allSuit (F .prefix) a) (suits (F .prefix) (e .kind) (e .literal) && allSuit (F .prefix) b) h in (
+        record { distinct = d; suited = and-l (allSuit (F .prefix) a) (allSuit (F .prefix) (e ∷ b)) h },
+        assigned-among (literals a) (e .literal) ∙ s,
+        and-l (suits (F .prefix) (e .kind) (e .literal)) (allSuit (F .prefix) b) k,
+      )
+
   -- the opposite in an entry's place
   pub good-cut : (a b : Record) (k : ℕ) (l : ℤ) → Good F (a ++ entry k l ∷ b) → Good F (a ++ entry 0 (negℤ l) ∷ [])
-  unfolding literals allSuit all
   good-cut a b k l g =
-      let (d, s) = twice-before (literals a) l (literals b) (rw literals-append at (g .distinct)) in
-      let h = rw (suit-append (F .prefix) a (entry k l ∷ b)) at (g .suited) in
-      let hk = and-l (suits (F .prefix) k l) (allSuit (F .prefix) b) (and-r (allSuit (F .prefix) a) (suits (F .prefix) k l && allSuit (F .prefix) b) h) in
-      good-grow a 0 (negℤ l) (record { distinct = d; suited = and-l (allSuit (F .prefix) a) (allSuit (F .prefix) (entry k l ∷ b)) h })
-      (assigned-among (literals a) (negℤ l) ∙ stands-neg (literals a) l ∙ s)
-      (suits-neg (F .prefix) l ∙ suits-forced (F .prefix) k l hk)
+      let (h, u, s) = good-at a b (entry k l) g in
+      good-grow a 0 (negℤ l) h (assigned-neg (trueIn a) l ∙ u) (suits-neg (F .prefix) l ∙ suits-forced (F .prefix) k l s)
 
   pub good-step : {r : Record} {s : State} → Good F r → Step F r s → GoodState F s
   good-step {r} g s = go g (move F s)
