@@ -20,8 +20,8 @@ use Rattle.formula.specs.Block.{noVariable, twice}
 use Rattle.formula.specs.Prefix.{stands, stands-i, stands-e, stands-bound, twice-cons, universal-existential, existential-universal}
 use Rattle.formula.specs.Proper.{Proper}
 use Rattle.theory.specs.Record.{Entry, entry, Record, literals, Assignment, among}
-use Rattle.theory.specs.Moves.{suits, suits-stands}
-use Rattle.theory.specs.Good.{Good}
+use Rattle.theory.specs.Start.{suits, allSuit, Good}
+use Rattle.theory.specs.Moves.{suits-stands}
 use Rattle.theory.specs.Free.{free, free-taken, good-taken}
 use Rattle.rules.specs.Apply.{recordOf}
 use Rattle.rules.specs.Check.{badKind, badEntries, badRecord}
@@ -94,6 +94,7 @@ literals-in (e ∷ r) (there i) = let t = literals-in r i in (t .0, there (t .1)
 module _ (F : Formula) (ls : List ℤ) (ks : List ℕ) (n : ℕ) where
   -- what a guarded call has shown of the record is what the theory asks of it
   pub kept-good : Kept (F .prefix) ls ks n → Good F (recordOf ls ks n)
+  unfolding allSuit
   kept-good k = record { distinct = g .once; suited = all-i (λ e. suits p (e .kind) (e .literal)) r (λ e i. fits e i) }
     where
       p : List ℤ
@@ -109,6 +110,7 @@ module _ (F : Formula) (ls : List ℤ) (ks : List ℕ) (n : ℕ) where
       fits e i = kind-suits p (e .kind) (e .literal) (bound-stands p (k .prefix) (e .literal) (any-none (noVariable (length p)) (literals r) (g .named) (in-literals i))) (any-none (badKind p) r (g .kinds) i)
 
   pub good-kept : Proper F → Bound (F .prefix) → n ≤ length (F .prefix) → Good F (recordOf ls ks n) → badRecord (F .prefix) ls ks n ≡ false
+  unfolding allSuit
   good-kept ok b h g = good-passes p ls ks n (record {
     few = h;
     named = any-f (noVariable (length p)) (literals r) (λ x i. size x (literals-in r i));

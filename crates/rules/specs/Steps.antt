@@ -20,7 +20,8 @@ use Rattle.theory.specs.Tests.{monotone as isMonotone, isOpen}
 use Rattle.theory.specs.Rules.{State as Standing, going, valid, unsat, Quiet, Step}
 use Rattle.theory.specs.Tested.{open-e}
 use Rattle.theory.specs.Monotone.{monotone-wide}
-use Rattle.theory.specs.Good.{Good, good-step}
+use Rattle.theory.specs.Start.{Good}
+use Rattle.theory.specs.Good.{good-step}
 use Rattle.theory.specs.Free.{free, good-taken}
 use Rattle.rules.specs.Due.{literal, pick, last, due}
 use Rattle.rules.specs.Apply.{Search, search, recordOf, wiped, append, turn, ended, kindOf, chosen, apply}
