@@ -14,13 +14,12 @@ use Rattle.words.specs.Bools.{look, clash}
 use Rattle.words.specs.declared.Literal.{Literal}
 use Rattle.formula.specs.Formula.{Formula, existential, universal}
 use Rattle.formula.specs.Prefix.{stands-bound}
-use Rattle.formula.specs.Proper.{Proper}
 use Rattle.theory.specs.Record.{Entry, entry, Record, Assignment, trueIn}
 use Rattle.theory.specs.Tests.{monotone as isMonotone, isOpen}
 use Rattle.theory.specs.Rules.{State as Standing, going, valid, unsat, Quiet, Step}
 use Rattle.theory.specs.Tested.{open-e}
 use Rattle.theory.specs.Monotone.{monotone-wide}
-use Rattle.theory.specs.Good.{Good, good-step}
+use Rattle.theory.specs.Good.{good-step}
 use Rattle.theory.specs.Free.{free, good-taken}
 use Rattle.rules.specs.Due.{literal, pick, last, due}
 use Rattle.rules.specs.Apply.{Search, search, recordOf, wiped, append, turn, ended, kindOf, chosen, apply}
@@ -77,7 +76,7 @@ module _ (F : Formula) (r : Record) (q : Quiet F r) (x : ℤ) where
   ]
 
 -- ---- on the buffers of a guarded call
-module _ (F : Formula) (ok : Proper F) (ls : List ℤ) (ks : List ℕ) (n : ℕ) (st : State) (k : Kept (F .prefix) ls ks n) where
+module _ (F : Formula) (ls : List ℤ) (ks : List ℕ) (n : ℕ) (st : State) (k : Kept (F .prefix) ls ks n) where
   few : n ≤ length (F .prefix)
   few = good (F .prefix) ls ks n (k .good) .few
 
@@ -145,7 +144,7 @@ module _ (F : Formula) (ok : Proper F) (ls : List ℤ) (ks : List ℕ) (n : ℕ)
         prefix = k .prefix;
         lits-room = rw length-set (k .lits-room);
         kinds-room = rw length-set (k .kinds-room);
-        good = good-kept F (set ls n x) (set ks n kind) (n + 1) ok (k .prefix) (omega arith) (rw (record-append ls ks n x kind (omega arith) (omega arith)) g);
+        good = good-kept F (set ls n x) (set ks n kind) (n + 1) (k .prefix) (omega arith) (rw (record-append ls ks n x kind (omega arith) (omega arith)) g);
       }
 
   turn-keeps : (i : ℕ) → i < n → Step F (recordOf ls ks n) (stateOf (turn i (search ls ks n st)))
@@ -156,7 +155,7 @@ module _ (F : Formula) (ok : Proper F) (ls : List ℤ) (ks : List ℕ) (n : ℕ)
         prefix = k .prefix;
         lits-room = rw (length-set, wiped-length) (k .lits-room);
         kinds-room = rw (length-set, wiped-length) (k .kinds-room);
-        good = good-kept F _ _ (i + 1) ok (k .prefix) (omega arith) (good-step F (kept-good F ls ks n k) s);
+        good = good-kept F _ _ (i + 1) (k .prefix) (omega arith) (good-step F (kept-good F ls ks n k) s);
       }
 
   keeps : {rule : Rule} → Reason F (recordOf ls ks n) rule → (l : ℤ) → Permitted (F .prefix) (trueIn (recordOf ls ks n)) l
@@ -183,14 +182,14 @@ apply-lengths p (Decide x) l t = (simp length-set, simp length-set)
 apply-lengths p (BacktrackForall i) l t = (simp (length-set, wiped-length), simp (length-set, wiped-length))
 apply-lengths p Succeed l t = (refl, refl)
 
--- ---- the due rule of a search on an accepted formula, with a permitted proposal
-module _ (F : Formula) (ok : Proper F) (t : Search) (k : KeptIn (F .prefix) t) where
+-- ---- the due rule of a search whose buffers the guard has passed, with a permitted proposal
+module _ (F : Formula) (t : Search) (k : KeptIn (F .prefix) t) where
   pub due-fits : Fitting (F .prefix) (t .count) (due F (recordIn t))
-  due-fits = fits F ok (t .lits) (t .kinds) (t .count) (t .state) k (reason F ok (recordIn t))
+  due-fits = fits F (t .lits) (t .kinds) (t .count) (t .state) k (reason F (k .prefix) (recordIn t))
 
   module _ (l : ℤ) (a : Permitted (F .prefix) (trueIn (recordIn t)) l) where
     pub due-step : Step F (recordIn t) (stateOf (apply (F .prefix) (due F (recordIn t)) l t))
-    due-step = steps F ok (t .lits) (t .kinds) (t .count) (t .state) k (reason F ok (recordIn t)) l a
+    due-step = steps F (t .lits) (t .kinds) (t .count) (t .state) k (reason F (k .prefix) (recordIn t)) l a
 
     pub due-keeps : KeptIn (F .prefix) (apply (F .prefix) (due F (recordIn t)) l t)
-    due-keeps = keeps F ok (t .lits) (t .kinds) (t .count) (t .state) k (reason F ok (recordIn t)) l a
+    due-keeps = keeps F (t .lits) (t .kinds) (t .count) (t .state) k (reason F (k .prefix) (recordIn t)) l a

@@ -27,7 +27,7 @@ use Rattle.session.specs.declared.Session.{Session}
 use Rattle.session.specs.declared.Ran.{Ran}
 use Rattle.session.specs.declared.Ran.the-variants.{Until, Stopped}
 use Rattle.session.specs.Refusals.{lastRevision, decides, stepRefusal, runRefusal}
-use Rattle.session.specs.Accepted.{accepted-proper, Guarded, run-guarded, step-passes}
+use Rattle.session.specs.Accepted.{Guarded, run-guarded, step-passes}
 use Rattle.session.specs.Outcome.{Outcome, moved, searchOf, stepped, stepOutcome}
 use Rattle.session.specs.Run.{RunOutcome, Trip, trip, whileOpen, advance, runFrom, ran, unlessRun, runOf}
 use Rattle.session.specs.Play.{Desk, desk, Call, step, run, afterStep, afterRun, call}
@@ -153,7 +153,7 @@ module _ (b : List ℤ) (block : refusal limits b ≡ 0) (preferred : List ℤ) 
       let t = searchAt d in
       let u = advance F preferred t in
       let v = goOn F preferred c u in
-      let k′ : KeptIn (prefixOf b) u = due-keeps F (accepted-proper b block) t k (firstOpen (F .prefix) (trueIn (recordIn t)) preferred) (first-open (F .prefix) (trueIn (recordIn t)) preferred) in
+      let k′ : KeptIn (prefixOf b) u = due-keeps F t k (firstOpen (F .prefix) (trueIn (recordIn t)) preferred) (first-open (F .prefix) (trueIn (recordIn t)) preferred) in
       let x : d .latest .revision .0 + 1 + c ≡ d .latest .revision .0 + suc c = omega arith in
       let y : d .steps + 1 + c ≡ d .steps + suc c = omega arith in
       ap (byHand b preferred c) (hand-step d k (live 0 (omega arith)) (omega arith))

@@ -23,7 +23,7 @@ use Rattle.session.specs.declared.Session.{Session}
 use Rattle.session.specs.declared.Answer.{Answer}
 use Rattle.session.specs.declared.Answer.the-variants.{To, Refused}
 use Rattle.session.specs.Refusals.{stepRefusal}
-use Rattle.session.specs.Accepted.{accepted-proper, step-guarded}
+use Rattle.session.specs.Accepted.{step-guarded}
 use Rattle.session.specs.Outcome.{Outcome, outcome, unless, moved, searchOf, stepped, stepOutcome}
 
 -- from a session s and its buffers to the next, by an accepted step with the proposal l
@@ -58,16 +58,15 @@ module _ (s : Session) (b ls : List ℤ) (ks : List ℕ) (seen : Revision) (l : 
       let g = step-guarded s b ls ks seen l e in
       let t = searchOf s ls ks in
       let rule = due (formulaOf b) (recordOf ls ks (s .length)) in
-      let ok = accepted-proper b (g .guard .block) in
       record {
         rule = refl;
-        step = due-step (formulaOf b) ok t (g .guard .kept) (l .0) (g .permitted);
+        step = due-step (formulaOf b) t (g .guard .kept) (l .0) (g .permitted);
         revision = refl;
         zeros = apply-zeros (prefixOf b) (l .0) t rule;
         untouched = apply-untouched (prefixOf b) (l .0) t rule;
         lengths = apply-lengths (prefixOf b) rule (l .0) t;
         ended = apply-ended (prefixOf b) (l .0) t rule;
-        kept = due-keeps (formulaOf b) ok t (g .guard .kept) (l .0) (g .permitted);
+        kept = due-keeps (formulaOf b) t (g .guard .kept) (l .0) (g .permitted);
       }
 
   -- an answer with a session comes from such a step

@@ -145,7 +145,7 @@ module _ (b xs : List ℤ) (ys : List ℕ) (rev : Revision) where
           prefix = accepted-bound b h;
           lits-room = rw (wiped-length, p) (ltb-false (length xs) V′ (or-fl _ _ (r 0)));
           kinds-room = rw (wiped-length, p) (ltb-false (length ys) V′ (or-fr (ltb (length xs) V′) _ (r 0)));
-          good = good-kept F (wiped (pos 0) xs 0 V′) (wiped 0 ys 0 V′) 0 (accepted-proper b h) (accepted-bound b h) (omega arith) (good-none F);
+          good = good-kept F (wiped (pos 0) xs 0 V′) (wiped 0 ys 0 V′) 0 (accepted-bound b h) (omega arith) (good-none F);
         };
         revision = omega arith;
       }
