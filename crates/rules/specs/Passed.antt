@@ -1,33 +1,31 @@
 -- A record that passes row 12 is one that the theory calls good, and the other way round: V distinct words of sizes 1 to V are all of them,
 -- so every word of such a size names a variable of the prefix.
-use Prim.Native.Nat.{ℕ, zero, suc, _+_, _≤_, _<_, zero-le, suc-le-suc}
-use mathlib.Core.Path.{_≡_, refl, sym, _∙_, ap}
-use mathlib.Core.Logic.{_⊎_, inl, inr}
-use mathlib.Core.Bool.{Bool, true, false, not, _&&_, _||_}
+use Prim.Native.Nat.{ℕ, zero, suc, _≤_, _<_}
+use mathlib.Core.Path.{_≡_, refl, ap}
+use mathlib.Core.Logic.{inl, inr}
+use mathlib.Core.Bool.{true, false}
 use mathlib.Core.List.{List, [], _∷_}
-use native.Mathlib.Nat.{not-suc-le-zero, le-of-suc-le-suc}
 use native.Mathlib.Omega.{arith}
 use native.Mathlib.Decide.{ℕ-discrete}
 use lib.Dec.{eqb, ltb}
 use lib.IntN.{ℤ, pos, natAbs}
 use lib.ListN.{length}
-use borrow.Author.Tests.{eqb-false, ltb-false, le-ltb, ne-eqb}
-use Rattle.words.specs.Bools.{clash, look, or-e, or-fl, or-fr, or-l, or-r, and-l, and-r, to-false}
+use borrow.Author.Tests.{eqb-false, ltb-false}
+use Rattle.words.specs.Bools.{clash, look, or-fl, or-fr, or-l, or-r, to-false}
 use Rattle.words.specs.Lists.{In, here, there, all, any, all-e, all-i, any-f, any-none}
 use Rattle.words.specs.Words.{mem, mem-e}
 use Rattle.formula.specs.Formula.{Formula, existential, universal}
-use Rattle.formula.specs.Block.{noVariable, twice}
+use Rattle.formula.specs.Block.{noVariable}
 use Rattle.formula.specs.Prefix.{stands, stands-i, stands-e, stands-bound, twice-cons, universal-existential, existential-universal}
 use Rattle.formula.specs.Proper.{Proper}
-use Rattle.theory.specs.Record.{Entry, entry, Record, literals, Assignment, among}
+use Rattle.theory.specs.Record.{Entry, entry, Record, literals}
 use Rattle.theory.specs.Start.{suits, allSuit, Good}
 use Rattle.theory.specs.Moves.{suits-stands}
-use Rattle.theory.specs.Free.{free, free-taken, good-taken}
+use Rattle.theory.specs.Free.{free-taken}
 use Rattle.rules.specs.Apply.{recordOf}
-use Rattle.rules.specs.Check.{badKind, badEntries, badRecord}
+use Rattle.rules.specs.Check.{badKind, badRecord}
 use Rattle.rules.specs.Ready.{Bound, Kept}
-use Rattle.rules.specs.Buffers.{Room}
-use Rattle.rules.specs.Records.{record-length, in-literals, good, good-passes}
+use Rattle.rules.specs.Records.{in-literals, good, good-passes}
 
 -- ---- the words 1 to n
 upTo : ℕ → List ℤ

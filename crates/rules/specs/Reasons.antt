@@ -1,10 +1,9 @@
 -- Why the due rule is due: for each rule, what its searches have shown. By the cases of the searches, in their order.
 use Prim.Native.Nat.{ℕ}
 use mathlib.Core.Path.{_≡_, refl}
-use mathlib.Core.Bool.{Bool, true, false}
-use mathlib.Core.List.{List, [], _∷_}
-use lib.IntN.{ℤ}
-use Rattle.words.specs.Lists.{any, any-i}
+use mathlib.Core.Bool.{true}
+use mathlib.Core.List.{[]}
+use Rattle.words.specs.Lists.{any-i}
 use Rattle.words.specs.declared.Literal.{Literal}
 use Rattle.formula.specs.Formula.{Formula}
 use Rattle.theory.specs.Record.{Record, trueIn}

@@ -1,5 +1,5 @@
 -- What each search of the due rule finds, and what it means that it finds nothing. By induction on the list that is searched.
-use Prim.Native.Nat.{ℕ, zero, suc, _+_}
+use Prim.Native.Nat.{ℕ, suc, _+_}
 use mathlib.Core.Path.{_≡_, refl, sym, ap}
 use mathlib.Core.Logic.{_⊎_, inl, inr}
 use mathlib.Core.Bool.{Bool, true, false, _||_}
@@ -17,9 +17,7 @@ use Rattle.rules.specs.Due.{literal, pick, onFound, lowest, candidate, i
 use Rattle.rules.specs.Preferred.{firstOpen}
 use Rattle.rules.specs.declared.Found.{Found}
 use Rattle.rules.specs.declared.Found.the-variants.{At, Nothing}
-use Rattle.rules.specs.declared.Picked.{Picked}
 use Rattle.rules.specs.declared.Picked.the-variants.{Is, NoLiteral}
-use Rattle.rules.specs.declared.UnitFound.{UnitFound}
 use Rattle.rules.specs.declared.UnitFound.the-variants.{On, NoUnit}
 
 -- ---- the lowest that passes

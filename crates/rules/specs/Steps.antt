@@ -1,18 +1,17 @@
 -- The due rule is a rule of the theory: applied to the buffers it is a `Step` of the record in them, it has a place to write to, and it leaves
 -- buffers as long as before whose record passes row 12. By the reason of each rule.
-use Prim.Native.Nat.{ℕ, zero, suc, _+_, _≤_, _<_}
-use mathlib.Core.Path.{_≡_, refl, sym, _∙_, ap}
+use Prim.Native.Nat.{ℕ, _+_, _≤_, _<_}
+use mathlib.Core.Path.{_≡_, refl, ap}
 use mathlib.Core.Logic.{_⊎_, inl, inr}
-use mathlib.Core.Bool.{Bool, true, false}
+use mathlib.Core.Bool.{true}
 use mathlib.Core.List.{List, [], _∷_, _++_}
 use native.Mathlib.Omega.{arith}
 use lib.Dec.{eqb}
 use lib.IntN.{ℤ, pos, negℤ, natAbs}
 use lib.ListN.{length, getD, set, length-set, length-append}
-use borrow.Author.Tests.{eq-eqb, eqb-true}
+use borrow.Author.Tests.{eq-eqb}
 use Rattle.words.specs.Bools.{look, clash}
-use Rattle.words.specs.declared.Literal.{Literal}
-use Rattle.formula.specs.Formula.{Formula, existential, universal}
+use Rattle.formula.specs.Formula.{Formula, universal}
 use Rattle.formula.specs.Prefix.{stands-bound}
 use Rattle.theory.specs.Record.{Entry, entry, Record, Assignment, trueIn}
 use Rattle.theory.specs.Tests.{monotone as isMonotone, isOpen}
@@ -20,13 +19,12 @@ use Rattle.theory.specs.Rules.{State as Standing, going, valid, unsat, Quiet, S
 use Rattle.theory.specs.Tested.{open-e}
 use Rattle.theory.specs.Monotone.{monotone-wide}
 use Rattle.theory.specs.Good.{good-step}
-use Rattle.theory.specs.Free.{free, good-taken}
-use Rattle.rules.specs.Due.{literal, pick, last, due}
-use Rattle.rules.specs.Apply.{Search, search, recordOf, wiped, append, turn, ended, kindOf, chosen, apply}
-use Rattle.rules.specs.Check.{badRecord}
-use Rattle.rules.specs.Ready.{Bound, Kept, Fitting}
+use Rattle.theory.specs.Free.{good-taken}
+use Rattle.rules.specs.Due.{due}
+use Rattle.rules.specs.Apply.{Search, search, recordOf, append, turn, kindOf, chosen, apply}
+use Rattle.rules.specs.Ready.{Kept, Fitting}
 use Rattle.rules.specs.Buffers.{Room}
-use Rattle.rules.specs.Records.{entryAt, after, record-length, record-at, record-append, record-turn, wiped-length, Last, last-none, last-at, good}
+use Rattle.rules.specs.Records.{after, record-length, record-at, record-append, record-turn, wiped-length, Last, last-none, last-at, good}
 use Rattle.rules.specs.Searches.{UnitOf}
 use Rattle.rules.specs.Reasons.{Reason, backtrack-exists, fail, unit, monotone, decide, backtrack-forall, succeed, reason}
 use Rattle.rules.specs.Passed.{kept-good, good-kept}
@@ -34,7 +32,6 @@ use Rattle.rules.specs.declared.State.{State}
 use Rattle.rules.specs.declared.State.the-variants.{Open, Valid, Unsat}
 use Rattle.rules.specs.declared.Rule.{Rule}
 use Rattle.rules.specs.declared.Rule.the-variants.{BacktrackExists, Fail, Unit, Monotone, Decide, BacktrackForall, Succeed}
-use Rattle.rules.specs.declared.Found.the-variants.{At, Nothing}
 
 -- how a search stands, in the words of the theory
 abbrev pub standing : State → Record → Standing

@@ -2,29 +2,25 @@
 -- places from the new to the old length are 0, and no place past both is written; Fail and Succeed leave the record. And what the guard
 -- has shown holds again after it. From the laws of the rules.
 use Prim.Native.Nat.{ℕ, zero, suc, _+_, _≤_, _<_}
-use mathlib.Core.Path.{_≡_, refl, sym, _∙_, ap}
-use mathlib.Core.List.{List, []}
+use mathlib.Core.Path.{_≡_, refl}
+use mathlib.Core.List.{List}
 use native.Mathlib.Omega.{arith}
 use lib.IntN.{ℤ, pos}
 use lib.ListN.{length, getD}
 use Rattle.words.specs.declared.Literal.{Literal}
-use Rattle.formula.specs.Limits.{limits}
-use Rattle.formula.specs.Formula.{Formula, formulaOf, prefixOf}
-use Rattle.formula.specs.Block.{refusal}
+use Rattle.formula.specs.Formula.{formulaOf, prefixOf}
 use Rattle.theory.specs.Rules.{Step}
-use Rattle.rules.specs.declared.State.{State}
-use Rattle.rules.specs.declared.State.the-variants.{Open, Valid, Unsat}
+use Rattle.rules.specs.declared.State.the-variants.{Open}
 use Rattle.rules.specs.Due.{due}
-use Rattle.rules.specs.Apply.{Search, search, recordOf, apply}
-use Rattle.rules.specs.Steps.{standing, stateOf, recordIn, KeptIn, apply-lengths, due-step, due-keeps}
+use Rattle.rules.specs.Apply.{Search, recordOf, apply}
+use Rattle.rules.specs.Steps.{stateOf, KeptIn, apply-lengths, due-step, due-keeps}
 use Rattle.rules.specs.Written.{apply-untouched, apply-zeros, apply-ended}
 use Rattle.session.specs.declared.Revision.{Revision}
 use Rattle.session.specs.declared.Session.{Session}
-use Rattle.session.specs.declared.Answer.{Answer}
-use Rattle.session.specs.declared.Answer.the-variants.{To, Refused}
+use Rattle.session.specs.declared.Answer.the-variants.{To}
 use Rattle.session.specs.Refusals.{stepRefusal}
 use Rattle.session.specs.Accepted.{step-guarded}
-use Rattle.session.specs.Outcome.{Outcome, outcome, unless, moved, searchOf, stepped, stepOutcome}
+use Rattle.session.specs.Outcome.{unless, moved, searchOf, stepped, stepOutcome}
 
 -- from a session s and its buffers to the next, by an accepted step with the proposal l
 pub record Follows (b : List ℤ) (l : ℤ) (s s′ : Session) (ls ls′ : List ℤ) (ks ks′ : List ℕ) : Type 0 where

@@ -4,6 +4,7 @@ pub mod Rows
 pub mod Outcome
 pub mod Run
 pub mod Play
+pub mod Advance
 pub mod Accepted
 pub mod Refused
 pub mod Follows

@@ -1,7 +1,6 @@
 -- A refused call: "Each returns its number alone and leaves all memory and the session as they were", and a call whose seen revision is not
 -- the session's is always one. By the two cases of the number, 0 and not 0.
-use mathlib.Core.Path.{_≡_, refl, sym, ap}
-use mathlib.Core.Bool.{Bool, true, false, not}
+use mathlib.Core.Path.{_≡_, refl}
 use mathlib.Core.List.{List}
 use Prim.Native.Nat.{ℕ, zero, suc, _≤_}
 use native.Mathlib.Omega.{arith}
@@ -9,18 +8,14 @@ use lib.IntN.{ℤ}
 use borrow.Author.Tests.{ne-eqb}
 use Rattle.words.specs.Bools.{not-f}
 use Rattle.words.specs.declared.Literal.{Literal}
-use Rattle.formula.specs.Limits.{limits}
-use Rattle.formula.specs.Block.{rows}
 use Rattle.session.specs.declared.Revision.{Revision}
 use Rattle.session.specs.declared.Session.{Session}
-use Rattle.session.specs.declared.Answer.{Answer}
 use Rattle.session.specs.declared.Answer.the-variants.{To, Refused}
-use Rattle.session.specs.declared.Ran.{Ran}
 use Rattle.session.specs.declared.Ran.the-variants.{Until, Stopped}
 use Rattle.session.specs.Refusals.{openRefusal, stepRefusal, runRefusal}
 use Rattle.session.specs.Rows.{at-most, step-numbered, run-numbered}
-use Rattle.session.specs.Outcome.{Outcome, outcome, unless, openOutcome, stepOutcome}
-use Rattle.session.specs.Run.{RunOutcome, runOutcome, unlessRun, runOf}
+use Rattle.session.specs.Outcome.{outcome, unless, openOutcome, stepOutcome}
+use Rattle.session.specs.Run.{runOutcome, unlessRun, runOf}
 
 -- the number given, n, is the table's, and the buffers are as they were
 pub record Left (table n : ℕ) (ls ls′ : List ℤ) (ks ks′ : List ℕ) : Type 0 where

@@ -1,6 +1,6 @@
 -- Which number a refused call is given: the place of the first row that applies, counted over all rows of the call. One law for every list
 -- of rows, by induction on the list.
-use mathlib.Core.Path.{_≡_, refl, sym, _∙_, ap}
+use mathlib.Core.Path.{_≡_, refl, _∙_}
 use mathlib.Core.Logic.{_↔_, _⊎_, inl, inr}
 use mathlib.Core.Bool.{Bool, true, false}
 use mathlib.Core.List.{List, [], _∷_, _++_}
