@@ -1,7 +1,7 @@
 -- "Every accepted step is the one due rule": the search that it leaves is the due rule's, a step of the theory; the revision is one more; the
 -- places from the new to the old length are 0, and no place past both is written; Fail and Succeed leave the record. And what the guard
 -- has shown holds again after it. From the laws of the rules.
-use Prim.Native.Nat.{ℕ, zero, suc, _+_, _≤_, _<_}
+use Prim.Native.Nat.{ℕ, _+_, _≤_, _<_}
 use mathlib.Core.Path.{_≡_, refl}
 use mathlib.Core.List.{List}
 use native.Mathlib.Omega.{arith}
@@ -20,7 +20,8 @@ use Rattle.session.specs.declared.Session.{Session}
 use Rattle.session.specs.declared.Answer.the-variants.{To}
 use Rattle.session.specs.Refusals.{stepRefusal}
 use Rattle.session.specs.Accepted.{step-guarded}
-use Rattle.session.specs.Outcome.{unless, moved, searchOf, stepped, stepOutcome}
+use Rattle.session.specs.Refused.{unless-to}
+use Rattle.session.specs.Outcome.{moved, searchOf, stepped, stepOutcome}
 
 -- from a session s and its buffers to the next, by an accepted step with the proposal l
 pub record Follows (b : List ℤ) (l : ℤ) (s s′ : Session) (ls ls′ : List ℤ) (ks ks′ : List ℕ) : Type 0 where
@@ -68,11 +69,7 @@ module _ (s : Session) (b ls : List ℤ) (ks : List ℕ) (seen : Revision) (l : 
   -- an answer with a session comes from such a step
   pub answered-accepted : (s′ : Session) → stepOutcome s b ls ks seen l .answer ≡ To s′ → stepRefusal s b ls ks seen l ≡ 0
   unfolding stepOutcome
-  answered-accepted s′ = go (stepRefusal s b ls ks seen l)
-    where
-      go : (n : ℕ) → unless n ls ks (stepped s b l (searchOf s ls ks)) .answer ≡ To s′ → n ≡ 0
-      go zero e = refl
-      go (suc n) e = let z : _≡_ {A = ℕ} 0 1 = cc in absurd (omega arith)
+  answered-accepted = unless-to (stepRefusal s b ls ks seen l) ls ks (stepped s b l (searchOf s ls ks))
 
   pub accepted-step : (s′ : Session) → let o = stepOutcome s b ls ks seen l in o .answer ≡ To s′ → Follows b (l .0) s s′ ls (o .lits) ks (o .kinds)
   unfolding next

@@ -34,10 +34,10 @@ use Rattle.session.specs.declared.Answer.{Answer}
 use Rattle.session.specs.declared.Answer.the-variants.{To, Refused}
 use Rattle.session.specs.Refusals.{lastRevision, openRows, openRefusal}
 use Rattle.session.specs.Rows.{after-zero}
-use Rattle.session.specs.Outcome.{Outcome, outcome, session, unless, openOutcome, stepOutcome}
+use Rattle.session.specs.Outcome.{Outcome, session, openOutcome, stepOutcome}
 use Rattle.session.specs.Play.{Desk, desk, Call, step, run, afterStep, call, play}
 use Rattle.session.specs.Accepted.{prefix-length, accepted-bound, accepted-proper, Guarded, step-guarded, step-last, step-passes}
-use Rattle.session.specs.Refused.{step-refused, step-refused-leaves}
+use Rattle.session.specs.Refused.{unless-to, step-refused, step-refused-leaves}
 use Rattle.session.specs.Follows.{Follows, accepted-is, accepted-step, answered-accepted}
 use Rattle.session.specs.ByHand.{searchAt, handed, byHand, run-is-steps}
 
@@ -150,14 +150,11 @@ module _ (b xs : List ℤ) (ys : List ℕ) (rev : Revision) where
   -- an answer with a session comes from an accepted opening
   opened-is : (s : Session) → let o = openOutcome b xs ys rev in o .answer ≡ To s → (openRefusal b xs ys ≡ 0) × (desk s (o .lits) (o .kinds) 0 ≡ opened)
   unfolding openOutcome opened
-  opened-is s = go (openRefusal b xs ys)
-    where
-      then : Outcome
-      then = outcome (To (session 0 (rev .0) Open)) (wiped (pos 0) xs 0 (variablesOf b)) (wiped 0 ys 0 (variablesOf b))
-
-      go : (n : ℕ) → unless n xs ys then .answer ≡ To s → (n ≡ 0) × (desk s (unless n xs ys then .lits) (unless n xs ys then .kinds) 0 ≡ desk (session 0 (rev .0) Open) (then .lits) (then .kinds) 0)
-      go zero e = let z : s ≡ session 0 (rev .0) Open = cc in (refl, ap (λ (s : Session). desk s (then .lits) (then .kinds) 0) z)
-      go (suc n) e = let z : _≡_ {A = ℕ} 0 1 = cc in absurd (omega arith)
+  opened-is s a =
+      let e = unless-to (openRefusal b xs ys) xs ys _ s a in
+      let a′ = rw e at a in
+      let z : s ≡ session 0 (rev .0) Open = cc in
+      (e, rw (e, z))
 
   -- Demand 2: whatever is called after an accepted opening
   pub any-history : (s : Session) → let o = openOutcome b xs ys rev in o .answer ≡ To s → (calls : List Call) → Demand b (rev .0) (play b (desk s (o .lits) (o .kinds) 0) calls)

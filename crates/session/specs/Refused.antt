@@ -14,7 +14,7 @@ use Rattle.session.specs.declared.Answer.the-variants.{To, Refused}
 use Rattle.session.specs.declared.Ran.the-variants.{Until, Stopped}
 use Rattle.session.specs.Refusals.{openRefusal, stepRefusal, runRefusal}
 use Rattle.session.specs.Rows.{at-most, step-numbered, run-numbered}
-use Rattle.session.specs.Outcome.{outcome, unless, openOutcome, stepOutcome}
+use Rattle.session.specs.Outcome.{Outcome, outcome, unless, openOutcome, stepOutcome}
 use Rattle.session.specs.Run.{runOutcome, unlessRun, runOf}
 
 -- the number given, n, is the table's, and the buffers are as they were
@@ -33,6 +33,11 @@ unlessRun-left : (m : ℕ) (ls ls′ : List ℤ) (ks ks′ : List ℕ) (s : Sess
     o .answer ≡ Stopped n → Left m n ls (o .lits) ks (o .kinds)
 unlessRun-left zero ls ls′ ks ks′ s c n e = let z : _≡_ {A = ℕ} 0 1 = cc in absurd (omega arith)
 unlessRun-left (suc m) ls ls′ ks ks′ s c n e = record { number = cc; lits = refl; kinds = refl }
+
+-- and a session is answered only where no row applies
+pub unless-to : (m : ℕ) (ls : List ℤ) (ks : List ℕ) (o : Outcome) (s : Session) → unless m ls ks o .answer ≡ To s → m ≡ 0
+unless-to zero ls ks o s e = refl
+unless-to (suc m) ls ks o s e = let z : _≡_ {A = ℕ} 0 1 = cc in absurd (omega arith)
 
 -- ---- a refused call leaves both buffers as they were
 pub open-refused-leaves : (b ls : List ℤ) (ks : List ℕ) (rev : Revision) (n : ℕ) → let o = openOutcome b ls ks rev in
