@@ -11,8 +11,7 @@ use Rattle.formula.specs.Limits.{limits}
 use Rattle.formula.specs.Formula.{Formula, formulaOf, prefixOf}
 use Rattle.formula.specs.Block.{refusal}
 use Rattle.theory.specs.Record.{Record, Assignment, trueIn}
-use Rattle.rules.specs.declared.State.{State}
-use Rattle.rules.specs.declared.State.the-variants.{Open, Valid, Unsat}
+use Rattle.rules.specs.declared.State.the-variants.{Open}
 use Rattle.rules.specs.Due.{literal, pick, due}
 use Rattle.rules.specs.Preferred.{firstOpen}
 use Rattle.rules.specs.Apply.{Search, recordOf}
@@ -25,8 +24,9 @@ use Rattle.session.specs.declared.Ran.the-variants.{Until, Stopped}
 use Rattle.session.specs.Refusals.{lastRevision, decides, runRefusal}
 use Rattle.session.specs.Accepted.{Guarded, run-guarded, step-passes}
 use Rattle.session.specs.Outcome.{moved, searchOf}
-use Rattle.session.specs.Run.{trip, advance, runFrom, ran, runOf}
-use Rattle.session.specs.Advance.{apply-proposal, advance-keeps, run-more, run-ended}
+use Rattle.session.specs.Run.{trip, advance, ran, runOf}
+use Rattle.session.specs.Advance.{apply-proposal, advance-keeps}
+use Rattle.session.specs.Trips.{goOn, Went, went}
 use Rattle.session.specs.Play.{Desk, desk, step, run, call}
 use Rattle.session.specs.Refused.{run-refused}
 use Rattle.session.specs.Follows.{accepted-is}
@@ -53,50 +53,6 @@ proposal-due false x = inl refl
 proposal-permitted : (p : List ℤ) (ρ : Assignment) (rule : Bool) (x : ℤ) → Permitted p ρ x → Permitted p ρ (pick rule x (pos 0))
 proposal-permitted p ρ true x a = a
 proposal-permitted p ρ false x a = inl refl
-
--- ---- a run's search, rule by rule
-module _ (F : Formula) (preferred : List ℤ) where
-  goOn : ℕ → Search → Search
-  goOn zero t = t
-  goOn (suc c) t = goOn c (advance F preferred t)
-
-  -- n rules at most, of which c are taken: the state is open before each, and after the last one only if n are taken
-  record Went (n : ℕ) (t : Search) (k : ℕ) : Type 0 where
-    taken : ℕ
-    reached : runFrom F preferred n t k ≡ trip (goOn taken t) (k + taken)
-    within : taken ≤ n
-    live : (j : ℕ) → j < taken → goOn j t .state ≡ Open
-    used : goOn taken t .state ≡ Open → taken ≡ n
-
-  went : (n : ℕ) (t : Search) (k : ℕ) → Went n t k
-  unfolding runFrom goOn
-  went zero t k = let e : k + 0 ≡ k = omega arith in record { taken = 0; reached = rw e; within = omega arith; live = λ j l. absurd (omega arith); used = λ e. refl }
-  went (suc n) t k = go (t .state) refl (went n (advance F preferred t) (k + 1))
-    where
-      open-before : t .state ≡ Open → (w : Went n (advance F preferred t) (k + 1)) (j : ℕ) → j < suc (w .taken) → goOn j t .state ≡ Open
-      open-before e w zero l = e
-      open-before e w (suc j) l = w .live j (omega arith)
-
-      more : t .state ≡ Open → Went n (advance F preferred t) (k + 1) → Went (suc n) t k
-      more e w =
-          let z : k + 1 + w .taken ≡ k + suc (w .taken) = omega arith in
-          record {
-            taken = suc (w .taken);
-            reached = run-more F preferred t k n e ∙ w .reached ∙ ap (trip (goOn (w .taken) (advance F preferred t))) z;
-            within = (let h = w .within in omega arith);
-            live = open-before e w;
-            used = λ h. ap suc (w .used h);
-          }
-
-      stop : (t .state ≡ Open → ⊥) → Went (suc n) t k
-      stop f =
-          let z : k ≡ k + 0 = omega arith in
-          record { taken = 0; reached = run-ended F preferred t k (suc n) f ∙ ap (trip t) z; within = omega arith; live = λ j l. absurd (omega arith); used = λ h. absurd (f h) }
-
-      go : (st : State) → t .state ≡ st → Went n (advance F preferred t) (k + 1) → Went (suc n) t k
-      go Open e w = more e w
-      go Valid e w = stop (λ h. let z : _≡_ {A = ℕ} 0 1 = cc in omega arith)
-      go Unsat e w = stop (λ h. let z : _≡_ {A = ℕ} 0 1 = cc in omega arith)
 
 -- ---- steps by hand, rule by rule
 -- a desk whose search has gone on by n accepted steps

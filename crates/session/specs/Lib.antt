@@ -5,6 +5,7 @@ pub mod Outcome
 pub mod Run
 pub mod Play
 pub mod Advance
+pub mod Trips
 pub mod Accepted
 pub mod Refused
 pub mod Follows
