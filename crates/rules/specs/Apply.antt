@@ -11,6 +11,7 @@ use Rattle.theory.specs.Record.{Entry, entry, Record}
 use Rattle.rules.specs.Due.{pick}
 use Rattle.rules.specs.declared.State.{State}
 use Rattle.rules.specs.declared.State.the-variants.{Open, Valid, Unsat}
+use Rattle.rules.specs.declared.Reached.{Reached}
 use Rattle.rules.specs.declared.Rule.{Rule}
 use Rattle.rules.specs.declared.Rule.the-variants.{BacktrackExists, Fail, Unit, Monotone, Decide, BacktrackForall, Succeed}
 
@@ -30,6 +31,10 @@ pub record Search : Type 0 where
 
 abbrev pub search : List ℤ → List ℕ → ℕ → State → Search
 search ls ks n s = record { lits = ls; kinds = ks; count = n; state = s }
+
+-- where a rule has led, with the buffers as they then are
+abbrev pub reached : Reached → List ℤ → List ℕ → Search
+reached r ls ks = search ls ks (r .count) (r .state)
 
 -- "A cut sets the places from the new to the old length to 0": z at the places from .. to
 unfoldable pub wiped {ℓ} : {A : Type ℓ} → A → List A → ℕ → ℕ → List A

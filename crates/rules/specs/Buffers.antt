@@ -1,16 +1,16 @@
 -- What the functions over the two buffers say to each other; a reader of `apply` and `badRecord` needs none of it.
 use Prim.Native.Nat.{ℕ, zero, suc, _≤_, _<_}
 use mathlib.Core.Path.{_≡_}
-use mathlib.Core.Bool.{Bool, true, false}
+use mathlib.Core.Bool.{Bool, true, false, _&&_, _||_}
 use mathlib.Core.List.{List, [], _∷_}
-use lib.Dec.{eqb}
-use lib.IntN.{ℤ, pos, negsuc, natAbs}
-use lib.ListN.{length, getD}
-use Rattle.formula.specs.Block.{names}
+use lib.Dec.{eqb, ltb}
+use lib.IntN.{ℤ, pos, natAbs}
+use lib.ListN.{length, getD, take}
+use Rattle.words.specs.Lists.{any}
+use Rattle.formula.specs.Block.{noVariable}
 use Rattle.rules.specs.Due.{pick}
 use Rattle.rules.specs.Apply.{wiped}
 use Rattle.rules.specs.Ready.{Bound}
-use Rattle.rules.specs.Tables.{signOf}
 use Rattle.rules.specs.declared.Found.{Found}
 use Rattle.rules.specs.declared.Found.the-variants.{At, Nothing}
 
@@ -35,16 +35,17 @@ pub record Lent (p ls : List ℤ) (ks : List ℕ) : Type 0 where
   pub prefix : Bound p
   pub room : Room (length p) ls ks
 
+-- and then those whose kinds can be looked at: the record's words name variables of the prefix
+pub record KindsLent (p ls : List ℤ) (ks : List ℕ) (n : ℕ) : Type 0 where
+  pub prefix : Bound p
+  pub room : Room n ls ks
+  pub named : any (noVariable (length p)) (take n ls) ≡ false
+
 -- the last place below n that has the kind k
 unfoldable pub lastKind : List ℕ → ℕ → ℕ → Found
 lastKind ks k zero = Nothing
 lastKind ks k (suc i) = pick (eqb (getD ks i 0) k) (At i) (lastKind ks k i)
 
--- the kind of a decision on a variable: 1 if the prefix binds it existentially, 2 universally, 0 if not at all
-unfoldable pub decision : List ℤ → ℕ → ℕ
-decision [] v = 0
-decision (q ∷ p) v = pick (names v q) (signOf q) (decision p v)
-
--- a table of them
-abbrev pub Decisions : List ℤ → List ℕ → Type 0
-Decisions p t = (v : ℕ) → getD t v 0 ≡ decision p v
+-- a kind above 2, or of the other quantifier than the sign's: 1 for a positive word of the prefix, 2 for a negative one
+abbrev pub wrongKind : ℕ → ℕ → Bool
+wrongKind k sign = ltb 2 k || (eqb k 1 && eqb sign 2) || (eqb k 2 && eqb sign 1)

@@ -13,7 +13,7 @@ use lib.ListN.{length, getD, take, drop, set, replicate}
 use lib.Seq.{sets, length-sets, take-set-le}
 use borrow.Author.Tests.{eqb-true, eqb-false, ltb-false, le-ltb, eq-eqb}
 use Rattle.words.specs.Bools.{look, clash, or-fl, or-fr, and-i, not-f}
-use Rattle.words.specs.Lists.{In, here, there, all, any, any-none}
+use Rattle.words.specs.Lists.{In, here, there, all, any, any-none, next}
 use Rattle.formula.specs.Formula.{existential, universal}
 use Rattle.formula.specs.Block.{noVariable, twice}
 use Rattle.theory.specs.Record.{Entry, entry, Record, literals, without}
@@ -56,6 +56,19 @@ record-at (l ∷ ls) (k ∷ ks) (suc n) zero f g h = let e : suc n - suc 0 ≡ n
 record-at (l ∷ ls) (k ∷ ks) (suc n) (suc i) f g h =
     let e : suc n - suc (suc i) ≡ n - suc i = omega arith in
     rw e (ap (λ r. entry k l ∷ r) (record-at ls ks n i (le-of-suc-le-suc f) (le-of-suc-le-suc g) (le-of-suc-le-suc h)))
+
+-- the record as a loop at i has it before it: the entry there, and the rest
+pub record-next : (ls : List ℤ) (ks : List ℕ) (n i : ℕ) → i < n → n ≤ length ls → n ≤ length ks → recordOf (drop i ls) (drop i ks) (n - i) ≡ entryAt ls ks i ∷ recordOf (drop (i + 1) ls) (drop (i + 1) ks) (n - (i + 1))
+unfolding recordOf
+record-next ls ks n i f g h =
+    let a : i < length ls = omega arith in
+    let b : i < length ks = omega arith in
+    let e : n - i ≡ suc (n - (i + 1)) = omega arith in
+    rw (next ls i (pos 0) a, next ks i 0 b, e)
+
+pub record-ended : (ls : List ℤ) (ks : List ℕ) (n i : ℕ) → n ≤ i → recordOf (drop i ls) (drop i ks) (n - i) ≡ []
+unfolding recordOf
+record-ended ls ks n i h = let e : n - i ≡ 0 = omega arith in rw e
 
 -- ---- an entry more, and a cut
 pub record-append : (ls : List ℤ) (ks : List ℕ) (n : ℕ) (l : ℤ) (k : ℕ) → n < length ls → n < length ks → recordOf (set ls n l) (set ks n k) (n + 1) ≡ recordOf ls ks n ++ entry k l ∷ []

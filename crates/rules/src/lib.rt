@@ -1,6 +1,16 @@
 // The rules over checked input: which is due, and one rule applied.
 use words::Literal;
 
+mod tables; // tables by variable
+mod variables; // the variables of the prefix
+mod buffers; // the record's two buffers
+mod record; // row 12
+mod applied; // one rule applied
+
+pub use applied::apply;
+pub use buffers::clear;
+pub use record::bad_record;
+
 // The state of a search.
 pub enum State {
     Open,
