@@ -2,6 +2,11 @@
 pub mod Limits
 pub mod Formula
 pub mod Block
+pub mod Named
+pub mod Ends
+pub mod Once
+pub mod Check
+pub mod Tables
 pub mod Proper
 pub mod Truth
 pub mod Cases

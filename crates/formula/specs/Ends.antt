@@ -1,0 +1,32 @@
+-- Row 8 along the list of clause ends: one more end, and none. Good ends rise from 0 to T, so each clause lies within the literals.
+use mathlib.Core.Path.{_≡_, refl, sym, _∙_, ap}
+use mathlib.Core.Bool.{Bool, true, false, not, _||_}
+use mathlib.Core.List.{List, [], _∷_}
+use Prim.Native.Nat.{ℕ, zero, suc, _+_, _≤_, _<_}
+use native.Mathlib.Omega.{arith}
+use lib.Dec.{eqb, ltb}
+use lib.IntN.{ℤ, pos, natAbs}
+use lib.ListN.{length, drop, getD}
+use borrow.Author.Tests.{ltb-false, not-false, eqb-true}
+use Rattle.words.specs.Bools.{or-fl, or-fr}
+use Rattle.words.specs.Lists.{next, ended}
+use Rattle.words.specs.Words.{negative}
+use Rattle.formula.specs.Block.{badEnds}
+
+-- "a clause end negative, falling or over T", after an end at `from`
+unfoldable pub badEnd : ℕ → ℕ → ℤ → Bool
+badEnd total from e = negative e || ltb (natAbs e) from || ltb total (natAbs e)
+
+-- ---- the ends from the i-th on
+module _ (total from : ℕ) (es : List ℤ) (i : ℕ) where
+  pub ends-bad : i < length es → badEnd total from (getD es i (pos 0)) ≡ true → badEnds total from (drop i es) ≡ true
+  unfolding badEnds badEnd
+  ends-bad h e = rw (next es i (pos 0) h, e)
+
+  pub ends-past : i < length es → badEnd total from (getD es i (pos 0)) ≡ false → badEnds total (natAbs (getD es i (pos 0))) (drop (i + 1) es) ≡ badEnds total from (drop i es)
+  unfolding badEnds badEnd
+  ends-past h e = rw (next es i (pos 0) h, e)
+
+  pub ends-ended : length es ≤ i → badEnds total from (drop i es) ≡ not (eqb from total)
+  unfolding badEnds badEnd
+  ends-ended h = rw (ended es i h)
