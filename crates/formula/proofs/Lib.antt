@@ -1,3 +1,5 @@
 -- What only the proofs of this crate need.
 pub mod Rows
 pub mod Seen
+pub mod Stamped
+pub mod Looked

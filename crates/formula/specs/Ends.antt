@@ -30,3 +30,30 @@ module _ (total from : ℕ) (es : List ℤ) (i : ℕ) where
   pub ends-ended : length es ≤ i → badEnds total from (drop i es) ≡ not (eqb from total)
   unfolding badEnds badEnd
   ends-ended h = rw (ended es i h)
+
+-- ---- good ends
+-- the i-th end is good after one at `from`, and so are those after it
+pub record GoodEnd (total from : ℕ) (es : List ℤ) (i : ℕ) : Type 0 where
+  pub whole : negative (getD es i (pos 0)) ≡ false
+  pub rises : from ≤ natAbs (getD es i (pos 0))
+  pub fits : natAbs (getD es i (pos 0)) ≤ total
+  pub rest : badEnds total (natAbs (getD es i (pos 0))) (drop (i + 1) es) ≡ false
+
+module _ (total from : ℕ) (es : List ℤ) (i : ℕ) (good : badEnds total from (drop i es) ≡ false) where
+  pub good-end : i < length es → GoodEnd total from es i
+  unfolding badEnds
+  good-end h =
+      let e = getD es i (pos 0) in
+      let all = rw (next es i (pos 0) h) at good in
+      let three = or-fl (negative e || ltb (natAbs e) from || ltb total (natAbs e)) (badEnds total (natAbs e) (drop (i + 1) es)) all in
+      let two = or-fl (negative e || ltb (natAbs e) from) (ltb total (natAbs e)) three in
+      record {
+        whole = or-fl (negative e) (ltb (natAbs e) from) two;
+        rises = ltb-false (natAbs e) from (or-fr (negative e) (ltb (natAbs e) from) two);
+        fits = ltb-false total (natAbs e) (or-fr (negative e || ltb (natAbs e) from) (ltb total (natAbs e)) three);
+        rest = or-fr (negative e || ltb (natAbs e) from || ltb total (natAbs e)) (badEnds total (natAbs e) (drop (i + 1) es)) all;
+      }
+
+  -- after the last end all literals are passed
+  pub good-last : length es ≤ i → from ≡ total
+  good-last h = eqb-true from total (not-false (eqb from total) (sym (ends-ended total from es i h) ∙ good))

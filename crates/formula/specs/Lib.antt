@@ -5,6 +5,7 @@ pub mod Block
 pub mod Named
 pub mod Ends
 pub mod Once
+pub mod Clauses
 pub mod Check
 pub mod Tables
 pub mod Proper

@@ -1,4 +1,5 @@
 -- What the code's inner functions say to each other; a reader of `refusal` needs none of it.
+use mathlib.Core.Path.{_≡_}
 use mathlib.Core.Bool.{Bool, true, false}
 use mathlib.Core.List.{List, [], _∷_}
 use Prim.Native.Nat.{ℕ, suc, _+_, _-_, _≤_, _<_}
@@ -28,6 +29,7 @@ unfoldable pub placeOf : Bool → ℕ → ℕ
 placeOf false v = v + v
 placeOf true v = v + v + 1
 
--- every mark is below n
-abbrev pub Under : ℕ → List ℕ → Type 0
-Under n marks = (k : ℕ) → getD marks k 0 < n
+-- a table with room for every literal of n variables, in which no mark has the stamp yet, nor a later one
+pub record Fresh (n stamp : ℕ) (marks : List ℕ) : Type 0 where
+  pub room : length marks ≡ n + n + 2
+  pub under : (k : ℕ) → getD marks k 0 < stamp

@@ -9,7 +9,7 @@ ghost use Rattle.formula.specs.Limits.{limits};
 ghost use Rattle.formula.specs.Formula.{clausesFrom};
 ghost use Rattle.formula.specs.Block.{twice, badEnds, bothSigns};
 ghost use Rattle.formula.specs.Named.{AllNamed};
-ghost use Rattle.formula.specs.Tables.{placeOf, Under};
+ghost use Rattle.formula.specs.Tables.{placeOf, Fresh};
 
 // Whether some variable stands twice.
 pub(crate) fn variable_twice(ws: &[i32]) -> bool
@@ -40,9 +40,9 @@ fn place(v: usize, negative: bool) -> usize
 // Whether a clause has both signs of a variable. A literal seen in it is marked by the clause's stamp, which no mark has yet.
 fn both_signs(clause: &[i32], marks: &mut [usize; 2 * crate::MAX_VARIABLES + 2], stamp: usize) -> bool
     requires { ⌜ AllNamed (limits .variables) (now clause) ⌝ }
-    requires { ⌜ Under stamp (now marks) ⌝ }
+    requires { ⌜ Fresh (limits .variables) stamp (now marks) ⌝ }
     ensures { λ r. ⌜ r ≡ bothSigns (now (clause .entry)) ⌝ }
-    ensures { λ r. ⌜ Under (stamp + 1) (now (marks .exit)) ⌝ }
+    ensures { λ r. ⌜ Fresh (limits .variables) (stamp + 1) (now (marks .exit)) ⌝ }
 {
     let mut i = clause.len();
     while 0 < i {
