@@ -17,8 +17,9 @@ pub record Named (n : ℕ) (w : ℤ) : Type 0 where
   pub some : 0 < natAbs w
   pub most : natAbs w ≤ n
 
-abbrev pub AllNamed : ℕ → List ℤ → Type 0
-AllNamed n ws = (i : ℕ) → i < length ws → Named n (getD ws i (pos 0))
+-- every word of a list does
+pub record AllNamed (n : ℕ) (ws : List ℤ) : Type 0 where
+  pub at : (i : ℕ) → i < length ws → Named n (getD ws i (pos 0))
 
 pub named : (n : ℕ) (w : ℤ) → noVariable n w ≡ false → Named n w
 named n w h =
@@ -30,15 +31,17 @@ module _ (n : ℕ) (ws : List ℤ) where
   in-named h {w} i = named n w (any-none (noVariable n) ws h i)
 
   pub all-named : any (noVariable n) ws ≡ false → AllNamed n ws
-  all-named h i l = in-named h (in-at ws i (pos 0) l)
+  all-named h = record { at = λ i l. in-named h (in-at ws i (pos 0) l) }
 
   -- more variables, and a part of the list
   pub named-up : (m : ℕ) → n ≤ m → AllNamed n ws → AllNamed m ws
-  named-up m h a i l = let r : Named n (getD ws i (pos 0)) = a i l in record { some = r .some; most = omega arith }
+  named-up m h a = record { at = λ i l. record { some = a .at i l .some; most = omega (arith, a .at i l .most) } }
 
   pub named-part : (k j : ℕ) → AllNamed n ws → AllNamed n (take k (drop j ws))
-  named-part k j a i l =
-      let l′ : i < min k (length ws - j) = rw (length-take, length-drop) at l in
-      let near : i < k = omega arith in
-      let far : j + i < length ws = omega arith in
-      rw (getD-take k (drop j ws) i (pos 0) near, getD-drop j ws i (pos 0)) (a (j + i) far)
+  named-part k j a = record { at = λ i l. part i (rw (length-take, length-drop) at l) }
+    where
+      part : (i : ℕ) → i < min k (length ws - j) → Named n (getD (take k (drop j ws)) i (pos 0))
+      part i l =
+          let near : i < k = omega arith in
+          let far : j + i < length ws = omega arith in
+          rw (getD-take k (drop j ws) i (pos 0) near, getD-drop j ws i (pos 0)) (a .at (j + i) far)

@@ -36,7 +36,7 @@ module _ (c : tie.After-size-at Inv-loop μ-loop) where
   step = omega (arith, c .before .loop-test .taken)
 
   literal : Named (limits .variables) (getD (c .before .before .before .args .clause .now) (c .before .before .loop .i - 1) (pos 0))
-  literal = c .before .before .before .pre .0 (c .before .before .loop .i - 1) (omega (arith, c .before .loop-test .taken, c .before .before .loop .inv .at))
+  literal = c .before .before .before .pre .0 .at (c .before .before .loop .i - 1) (omega (arith, c .before .loop-test .taken, c .before .before .loop .inv .at))
 
   some : 0 < c .size-at .result
   some = omega (arith, c .size-at .ensures, literal .some)

@@ -33,7 +33,7 @@ module _ (c : tie.After-size-at Inv-loop μ-loop) where
       let head = c .before .before in
       let start = head .before in
       let near : head .loop .i - 1 < length (start .args .ws .now) = omega (arith, c .before .loop-test .taken, head .loop .inv .at) in
-      omega (arith, c .size-at .ensures, start .pre (head .loop .i - 1) near .most)
+      omega (arith, c .size-at .ensures, start .pre .at (head .loop .i - 1) near .most)
 
 array-read-if1 : tie.Need-array-read-if1 Inv-loop μ-loop
 array-read-if1 c = omega (arith, variables-are, sized c)
