@@ -3,3 +3,4 @@ pub mod Rows
 pub mod Seen
 pub mod Stamped
 pub mod Looked
+pub mod Whole

@@ -6,6 +6,7 @@ pub mod Named
 pub mod Ends
 pub mod Once
 pub mod Clauses
+pub mod Layout
 pub mod Check
 pub mod Tables
 pub mod Proper

@@ -38,7 +38,11 @@ fn place(v: usize, negative: bool) -> usize
 }
 
 // Whether a clause has both signs of a variable. A literal seen in it is marked by the clause's stamp, which no mark has yet.
-fn both_signs(clause: &[i32], marks: &mut [usize; 2 * crate::MAX_VARIABLES + 2], stamp: usize) -> bool
+fn both_signs(
+    clause: &[i32],
+    marks: &mut [usize; 2 * crate::MAX_VARIABLES + 2],
+    stamp: usize,
+) -> bool
     requires { ⌜ AllNamed (limits .variables) (now clause) ⌝ }
     requires { ⌜ Fresh (limits .variables) stamp (now marks) ⌝ }
     ensures { λ r. ⌜ r ≡ bothSigns (now (clause .entry)) ⌝ }
