@@ -3,6 +3,7 @@ use mathlib.Core.Path.{_≡_, refl, sym, _∙_, ap}
 use mathlib.Core.Bool.{Bool, true, false, not, _||_}
 use mathlib.Core.List.{List, [], _∷_}
 use Prim.Native.Nat.{ℕ, zero, suc, _+_, _≤_, _<_}
+use native.Mathlib.Numerals.{add-one}
 use native.Mathlib.Omega.{arith}
 use lib.Dec.{eqb, ltb}
 use lib.IntN.{ℤ, pos, natAbs}
@@ -57,3 +58,22 @@ module _ (total from : ℕ) (es : List ℤ) (i : ℕ) (good : badEnds total from
   -- after the last end all literals are passed
   pub good-last : length es ≤ i → from ≡ total
   good-last h = eqb-true from total (not-false (eqb from total) (sym (ends-ended total from es i h) ∙ good))
+
+-- where the c-th clause begins: at the end of the one before it
+unfoldable pub startOf : List ℤ → ℕ → ℕ
+startOf es zero = 0
+startOf es (suc c) = natAbs (getD es c (pos 0))
+
+pub start-next : (es : List ℤ) (c : ℕ) → startOf es (c + 1) ≡ natAbs (getD es c (pos 0))
+unfolding startOf
+start-next es c = rw add-one
+
+-- so a loop over clauses needs to know only where it stands
+module _ (total : ℕ) (es : List ℤ) (good : badEnds total 0 es ≡ false) where
+  pub good-from : (c : ℕ) → c ≤ length es → badEnds total (startOf es c) (drop c es) ≡ false
+  unfolding startOf
+  good-from zero h = good
+  good-from (suc c) h = rw add-one at (good-end total (startOf es c) es c (good-from c (omega arith)) h .rest)
+
+  pub good-at : (c : ℕ) → c < length es → GoodEnd total (startOf es c) es c
+  good-at c h = good-end total (startOf es c) es c (good-from c (omega arith)) h

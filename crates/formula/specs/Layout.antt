@@ -6,8 +6,8 @@ use Prim.Native.Nat.{ℕ, _+_, _-_, _≤_, _<_}
 use native.Mathlib.Omega.{arith}
 use lib.Dec.{ltb}
 use lib.IntN.{ℤ, pos, negsuc, natAbs}
-use lib.ListN.{length, take, drop, length-drop}
-use lib.Seq.{length-take-le}
+use lib.ListN.{length, getD, take, drop, length-drop}
+use lib.Seq.{length-take-le, getD-take, getD-drop}
 use borrow.Author.Tests.{ltb-false, not-false}
 use Rattle.words.specs.Bools.{clash, or-fl, or-fr}
 use Rattle.words.specs.Words.{negative, eqZ, eqZ-eq}
@@ -75,3 +75,22 @@ module _ (b : List ℤ) (whole : length b ≡ 6 + variablesOf b + clauseCountOf 
 
   pub literals-length : length (literalsOf b) ≡ literalCountOf b
   literals-length = part (literalCountOf b) (6 + variablesOf b + clauseCountOf b) (omega arith)
+
+-- ---- the parts' words where they stand in the block
+module _ (b : List ℤ) (i : ℕ) where
+  pub prefix-at : i < variablesOf b → getD (prefixOf b) i (pos 0) ≡ word b (6 + i)
+  prefix-at h = getD-take (variablesOf b) (drop 6 b) i (pos 0) h ∙ getD-drop 6 b i (pos 0)
+
+  pub ends-at : i < clauseCountOf b → getD (endsOf b) i (pos 0) ≡ word b (6 + variablesOf b + i)
+  ends-at h = getD-take (clauseCountOf b) (drop (6 + variablesOf b) b) i (pos 0) h ∙ getD-drop (6 + variablesOf b) b i (pos 0)
+
+  pub literals-at : i < literalCountOf b → getD (literalsOf b) i (pos 0) ≡ word b (6 + variablesOf b + clauseCountOf b + i)
+  literals-at h =
+      getD-take (literalCountOf b) (drop (6 + variablesOf b + clauseCountOf b) b) i (pos 0) h
+      ∙ getD-drop (6 + variablesOf b + clauseCountOf b) b i (pos 0)
+
+-- row 7 is about the last word of the prefix
+pub prefix-last : (b : List ℤ) → 0 < variablesOf b → getD (prefixOf b) (variablesOf b - 1) (pos 0) ≡ word b (5 + variablesOf b)
+prefix-last b h =
+    let place : 6 + (variablesOf b - 1) ≡ 5 + variablesOf b = omega arith in
+    prefix-at b (variablesOf b - 1) (omega arith) ∙ ap (word b) place

@@ -7,8 +7,10 @@ pub mod Ends
 pub mod Once
 pub mod Clauses
 pub mod Layout
+pub mod Prefix
 pub mod Check
 pub mod Tables
 pub mod Proper
+pub mod Accepted
 pub mod Truth
 pub mod Cases
