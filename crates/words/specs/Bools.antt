@@ -1,5 +1,5 @@
 -- The Booleans' small change: a test taken apart, put together, or looked at. Each by the cases of its test.
-use mathlib.Core.Path.{_≡_, refl, sym}
+use mathlib.Core.Path.{_≡_, refl, sym, _∙_}
 use mathlib.Core.Logic.{_⊎_, inl, inr}
 use mathlib.Core.Bool.{Bool, true, false, not, _&&_, _||_}
 use Prim.Native.Nat.{ℕ}
@@ -87,3 +87,10 @@ eqb-ne m n f = to-false (eqb m n) (λ e. f (eqb-eq m n e))
 
 pub eqb-comm : (m n : ℕ) → eqb m n ≡ eqb n m
 eqb-comm m n = bool-eq (eqb m n) (eqb n m) (λ e. eqb-i (sym (eqb-eq m n e))) (λ e. eqb-i (sym (eqb-eq n m e)))
+
+-- a test made in two halves, as code makes it: the first half decides, or the second does
+pub or-first : {r a : Bool} (b : Bool) → r ≡ a → r ≡ true → r ≡ (a || b)
+or-first b e t = t ∙ sym (or-l b (sym e ∙ t))
+
+pub or-second : {r a s : Bool} (b : Bool) → r ≡ a → r ≡ false → s ≡ b → s ≡ (a || b)
+or-second b e f g = rw (← e, f) g
