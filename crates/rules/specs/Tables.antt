@@ -1,15 +1,16 @@
 -- Tables by variable: what each place of a table says.
-use Prim.Native.Nat.{ℕ, _+_}
+use Prim.Native.Nat.{ℕ, _≤_}
 use mathlib.Core.Path.{_≡_}
-use mathlib.Core.Bool.{Bool, true, false}
-use mathlib.Core.List.{List, [], _∷_}
+use mathlib.Core.Bool.{true, false}
+use mathlib.Core.List.{List}
 use lib.Dec.{eqb}
-use lib.IntN.{ℤ, pos, negsuc, negℤ, natAbs}
-use lib.ListN.{getD}
+use lib.IntN.{ℤ, pos, negsuc, negℤ}
+use lib.ListN.{length, getD, take}
 use Rattle.words.specs.Lists.{any}
 use Rattle.words.specs.Words.{mem}
 use Rattle.formula.specs.Formula.{universal, levelOf}
-use Rattle.formula.specs.Block.{names}
+use Rattle.formula.specs.Limits.{limits}
+use Rattle.formula.specs.Block.{noVariable, names, twice}
 use Rattle.theory.specs.Record.{Assignment}
 use Rattle.rules.specs.Due.{pick}
 
@@ -43,3 +44,13 @@ Levels p t = (v : ℕ) → any (names v) p ≡ true → getD t v 0 ≡ levelOf p
 -- of words whose variables are from 1 on
 abbrev pub Signs : List ℤ → List ℕ → Type 0
 Signs ls t = (v : ℕ) → getD t v 0 ≡ signsOf ls v
+
+-- every word names a variable for which a table has a place
+abbrev pub Named : List ℤ → Type 0
+Named ls = any (noVariable (limits .variables)) ls ≡ false
+
+-- the first n words of a buffer, which name different variables
+pub record Written (ls : List ℤ) (n : ℕ) : Type 0 where
+  pub room : n ≤ length ls
+  pub named : Named (take n ls)
+  pub once : twice (take n ls) ≡ false

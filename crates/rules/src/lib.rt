@@ -1,4 +1,6 @@
 // The rules over checked input: which is due, and one rule applied.
+mod tables;
+
 use words::Literal;
 
 // The state of a search.

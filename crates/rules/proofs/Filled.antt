@@ -1,0 +1,78 @@
+-- A table filled by one pass says of every variable what the words passed say: a store changes what is said at its own place only.
+use mathlib.Core.Path.{_≡_, refl, sym, _∙_}
+use mathlib.Core.List.{List, [], _∷_, _++_}
+use Prim.Native.Nat.{ℕ, zero, suc, _+_, _≤_, _<_}
+use native.Mathlib.Decide.{ℕ-discrete}
+use native.Mathlib.Omega.{arith}
+use lib.Dec.{lit<}
+use lib.IntN.{ℤ, pos, natAbs}
+use lib.ListN.{length, getD, take, set, replicate, length-set, length-replicate}
+use lib.Seq.{getD-set-same, getD-set-other}
+use Rattle.formula.specs.Limits.{limits}
+use Rattle.rules.specs.Ready.{Bound}
+use Rattle.rules.specs.Tables.{Named}
+use Rattle.rules.proofs.Lists.{more}
+use Rattle.rules.proofs.Named.{named-at, named-wider}
+
+-- the number of a table's places: one for each variable, and place 0
+abbrev pub places : ℕ
+places = 257
+
+pub enough : limits .variables < places
+unfolding limits
+enough = lit< tt
+
+pub blank : (n v : ℕ) → getD {A = ℕ} (replicate n 0) v 0 ≡ 0
+blank zero v = refl
+blank (suc n) zero = refl
+blank (suc n) (suc v) = blank n v
+
+-- one store, between what the table said before and what it says after
+pub stored : (t : List ℕ) (s a : ℕ) (f g : ℕ → ℕ) → s < length t → ((v : ℕ) → getD t v 0 ≡ f v) → a ≡ g s → ((v : ℕ) → (v ≡ s → ⊥) → g v ≡ f v) → (v : ℕ) → getD (set t s a) v 0 ≡ g v
+stored t s a f g h said new other v = by (ℕ-discrete v s)
+  where
+    by : Dec (v ≡ s) → getD (set t s a) v 0 ≡ g v
+    by (yes e) = rw (e, getD-set-same t s a 0 h) new
+    by (no k) = getD-set-other t s v a 0 k ∙ said v ∙ sym (other v k)
+
+-- the first n words of ws passed up to i: the table is what `says` says of them
+pub record Filled (says : List ℤ → ℕ → ℕ) (ws : List ℤ) (n : ℕ) (t : List ℕ) (i : ℕ) : Type 0 where
+  pub at : i ≤ n
+  pub long : length t ≡ places
+  pub said : (v : ℕ) → getD t v 0 ≡ says (take i ws) v
+
+module _ (says : List ℤ → ℕ → ℕ) (ws : List ℤ) (n : ℕ) where
+  pub begin : ((v : ℕ) → says [] v ≡ 0) → Filled says ws n (replicate places 0) 0
+  begin none = record { at = omega arith; long = length-replicate {A = ℕ} places 0; said = λ v. blank places v ∙ sym (none v) }
+
+  module _ (t : List ℕ) (i : ℕ) (f : Filled says ws n t i) where
+    pub end : n ≤ i → (v : ℕ) → getD t v 0 ≡ says (take n ws) v
+    end h = let e : i ≡ n = omega arith in rw e at (f .said)
+
+    module _ (h : i < n) (room : n ≤ length ws) where
+      pub turn :
+          (s a : ℕ)
+          → s < places
+          → a ≡ says (take i ws ++ getD ws i (pos 0) ∷ []) s
+          → ((v : ℕ) → (v ≡ s → ⊥) → says (take i ws ++ getD ws i (pos 0) ∷ []) v ≡ says (take i ws) v)
+          → Filled says ws n (set t s a) (i + 1)
+      turn s a l new other =
+          let m = more ws i (pos 0) (omega arith) in
+          record {
+            at = omega arith;
+            long = length-set t s a ∙ f .long;
+            said = rw m (stored t s a (says (take i ws)) (says (take i ws ++ getD ws i (pos 0) ∷ [])) (omega arith) (f .said) new other);
+          }
+
+      -- a word that changes nothing
+      pub pass : ((v : ℕ) → says (take i ws ++ getD ws i (pos 0) ∷ []) v ≡ says (take i ws) v) → Filled says ws n t (i + 1)
+      pass same =
+          let m = more ws i (pos 0) (omega arith) in
+          record { at = omega arith; long = f .long; said = λ v. rw m (f .said v ∙ sym (same v)) }
+
+-- a word's place in a table
+pub placed : (ws : List ℤ) (i s : ℕ) → Named ws → i < length ws → s ≡ natAbs (getD ws i (pos 0)) → s < places
+placed ws i s h l is = let k = named-at (limits .variables) ws h i l in omega (arith, enough)
+
+pub bound-named : {p : List ℤ} → Bound p → Named p
+bound-named {p} b = named-wider (length p) p (b .named) (limits .variables) (b .room)

@@ -1,0 +1,54 @@
+-- The table of universal variables: a negative word of the prefix marks its variable, another word none.
+use mathlib.Core.Path.{_≡_, refl, sym, _∙_}
+use mathlib.Core.Bool.{true, false}
+use mathlib.Core.List.{List, [], _∷_, _++_}
+use Prim.Native.Nat.{ℕ, zero, suc, _+_, _<_}
+use native.Mathlib.Nat.{le-refl}
+use native.Mathlib.Omega.{arith}
+use lib.Dec.{eqb·zero-suc}
+use lib.IntN.{ℤ, pos, negsuc, natAbs}
+use lib.ListN.{length, getD, take, set, replicate}
+use Rattle.words.specs.Bools.{clash}
+use Rattle.words.specs.Words.{negative, eqZ, mem}
+use Rattle.formula.specs.Limits.{limits}
+use Rattle.formula.specs.Formula.{universal}
+use Rattle.rules.specs.Due.{pick}
+use Rattle.rules.specs.Tables.{Named}
+use Rattle.rules.proofs.Lists.{mem-here, mem-other, minus-other}
+use Rattle.rules.proofs.Named.{Names, named-at}
+use Rattle.rules.proofs.Filled.{Filled, places, begin, turn, pass, placed}
+
+-- what the words say of a variable
+abbrev pub universally : List ℤ → ℕ → ℕ
+universally xs v = pick (universal xs (pos v)) 1 0
+
+pub universal-other : (xs : List ℤ) (w : ℤ) (v : ℕ) → (v ≡ natAbs w → ⊥) → universally (xs ++ w ∷ []) v ≡ universally xs v
+unfolding universal
+universal-other xs w v k = rw (minus-other xs w v k)
+
+pub universal-new : (xs : List ℤ) (w : ℤ) → negative w ≡ true → 1 ≡ universally (xs ++ w ∷ []) (natAbs w)
+unfolding universal
+universal-new xs (pos n) h = clash h refl
+universal-new xs (negsuc n) h = rw (mem-here xs (negsuc n))
+
+pub universal-same : (n : ℕ) (xs : List ℤ) (w : ℤ) → Names n w → negative w ≡ false → (v : ℕ) → universally (xs ++ w ∷ []) v ≡ universally xs v
+unfolding universal eqZ
+universal-same n xs (pos zero) h g v = absurd (omega arith)
+universal-same n xs (pos (suc k)) h g zero = rw (mem-other (pos 0) xs (pos (suc k)) (eqb·zero-suc k))
+universal-same n xs (pos (suc k)) h g (suc v) = rw (mem-other (negsuc v) xs (pos (suc k)) refl)
+universal-same n xs (negsuc k) h g v = clash refl g
+
+-- ---- the loop
+pub universals-begin : (p : List ℤ) → Filled universally p (length p) (replicate places 0) 0
+unfolding mem universal
+universals-begin p = begin universally p (length p) (λ v. refl)
+
+module _ (p : List ℤ) (named : Named p) (i : ℕ) (h : i < length p) (t : List ℕ) where
+  pub universals-turn : Filled universally p (length p) t i → (s : ℕ) → s ≡ natAbs (getD p i (pos 0)) → negative (getD p i (pos 0)) ≡ true → Filled universally p (length p) (set t s 1) (i + 1)
+  universals-turn f s is g =
+      turn universally p (length p) t i f h (le-refl (length p)) s 1 (placed p i s named h is)
+      (rw is (universal-new (take i p) (getD p i (pos 0)) g))
+      (λ v k. universal-other (take i p) (getD p i (pos 0)) v (λ e. k (e ∙ sym is)))
+
+  pub universals-pass : Filled universally p (length p) t i → negative (getD p i (pos 0)) ≡ false → Filled universally p (length p) t (i + 1)
+  universals-pass f g = pass universally p (length p) t i f h (le-refl (length p)) (universal-same (limits .variables) (take i p) (getD p i (pos 0)) (named-at (limits .variables) p named i h) g)

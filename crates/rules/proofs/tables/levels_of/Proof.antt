@@ -1,0 +1,66 @@
+-- After i words the level is the number of changes so far, and each variable passed has its own.
+use Prim.Native.Nat.{_+_, _-_}
+use borrow.Author.Needs.{needs}
+use native.Mathlib.Omega.{arith}
+use lib.IntN.{pos}
+use lib.ListN.{length, getD, drop}
+use Rattle.rules.proofs.Named.{fresh-at}
+use Rattle.rules.proofs.Filled.{placed, bound-named}
+use Rattle.rules.proofs.Levels.{Levelled, begin, turn, end, change-few}
+use Rattle.rules.proofs.tables.levels_of.Statement.{statement}
+use Rattle.rules.proofs.tables.levels_of.Tie as tie
+
+abbrev Inv-loop : tie.InvT-loop
+Inv-loop prefix levels₀ level₀ i₀ levels level i = Levelled prefix levels level i
+
+abbrev μ-loop : tie.MeasureT-loop
+μ-loop prefix levels₀ level₀ i₀ levels level i = length prefix - i
+
+loop-holds : tie.Need-loop-holds Inv-loop μ-loop
+loop-holds c = begin _
+
+size-at-requires : tie.Need-size-at-requires Inv-loop μ-loop
+size-at-requires c κs = search needs
+
+mul-levels : tie.Need-mul-levels Inv-loop μ-loop
+mul-levels c =
+    let turned = c .before in
+    let room = placed _ _ _ (bound-named (turned .before .before .pre)) (turned .loop-test .taken) (c .size-at .ensures) in
+    omega arith
+
+array-write-levels : tie.Need-array-write-levels Inv-loop μ-loop
+array-write-levels c =
+    let turned = c .before in
+    placed _ _ _ (bound-named (turned .before .before .pre)) (turned .loop-test .taken) (c .size-at .ensures)
+
+change-at-requires : tie.Need-change-at-requires Inv-loop μ-loop
+change-at-requires c κs = omega arith
+
+add-level : tie.Need-add-level Inv-loop μ-loop
+add-level c =
+    let turned = c .before .before in
+    let start = turned .before .before in
+    let few = change-few (getD (start .args .prefix .now) (turned .before .loop .i) (pos 0)) (drop (turned .before .loop .i + 1) (start .args .prefix .now)) in
+    omega (arith, c .change-at .ensures)
+
+add-i : tie.Need-add-i Inv-loop μ-loop
+add-i c = omega arith
+
+loop-less : tie.Need-loop-less Inv-loop μ-loop
+loop-less c = omega arith
+
+loop-again : tie.Need-loop-again Inv-loop μ-loop
+loop-again c =
+    let turned = c .before .before in
+    let start = turned .before .before in
+    turn _ _ _ _ (turned .before .loop .inv) (turned .loop-test .taken) _ (c .before .size-at .ensures)
+    (placed _ _ _ (bound-named (start .pre)) (turned .loop-test .taken) (c .before .size-at .ensures))
+    (fresh-at _ (start .pre .once) _ (turned .loop-test .taken)) _ (c .change-at .ensures)
+
+returns : tie.Need-returns Inv-loop μ-loop
+returns c = end _ _ _ _ (c .before .loop .inv) (c .loop-test .left)
+
+pub levels-of-spec : {M : Type 1} → statement M
+levels-of-spec =
+    tie.close
+    (tie.spec Inv-loop μ-loop loop-holds size-at-requires mul-levels array-write-levels change-at-requires add-level add-i loop-less loop-again returns)

@@ -1,0 +1,112 @@
+// Tables by variable, each filled by one pass, so that a test of a clause costs its literals and nothing more.
+ghost use mathlib.Core.Path.{_≡_};
+ghost use Prim.Native.Nat.{_+_, _<_};
+ghost use lib.IntN.{pos};
+ghost use lib.ListN.{length, getD, take, drop};
+ghost use Rattle.formula.specs.Formula.{change};
+ghost use Rattle.theory.specs.Record.{among};
+ghost use Rattle.rules.specs.Ready.{Bound};
+ghost use Rattle.rules.specs.Tables.{signOf, Values, Universals, Levels, join, Signs, Written, Named};
+
+// A place for each variable, and place 0, which is no variable's.
+pub const PLACES: usize = 257;
+
+// 1 for a positive word, 2 for a negative one.
+pub fn sign_at(ws: &[i32], i: usize) -> u8
+    ensures { λ r. ⌜ r ≡ signOf (getD (now (ws .entry)) i (pos 0)) ⌝ }
+{
+    if words::negative_at(ws, i) { 2 } else { 1 }
+}
+
+// The value of each variable: 0 unassigned, 1 true, 2 false.
+pub fn values_of(lits: &[i32], count: usize) -> [u8; PLACES]
+    requires { ⌜ Written (now lits) count ⌝ }
+    ensures { λ r. ⌜ Values (among (take count (now (lits .entry)))) r ⌝ }
+{
+    let mut values = [0u8; PLACES];
+    let mut i = 0;
+    while i < count {
+        let v = words::size_at(lits, i);
+        values[v] = sign_at(lits, i);
+        i += 1;
+    }
+    values
+}
+
+// 1 for each universal variable, else 0.
+pub fn universals_of(prefix: &[i32]) -> [u8; PLACES]
+    requires { ⌜ Bound (now prefix) ⌝ }
+    ensures { λ r. ⌜ Universals (now (prefix .entry)) r ⌝ }
+{
+    let mut universals = [0u8; PLACES];
+    let mut i = 0;
+    while i < prefix.len() {
+        let v = words::size_at(prefix, i);
+        if words::negative_at(prefix, i) {
+            universals[v] = 1;
+        }
+        i += 1;
+    }
+    universals
+}
+
+// 1 if the quantifier changes from the word at i to the next.
+fn change_at(prefix: &[i32], i: usize) -> usize
+    requires { ⌜ i < length (now prefix) ⌝ }
+    ensures { λ r. ⌜ r ≡ change (getD (now (prefix .entry)) i (pos 0)) (drop (i + 1) (now (prefix .entry))) ⌝ }
+{
+    let next = i + 1;
+    if prefix.len() <= next {
+        return 0;
+    }
+    if words::negative_at(prefix, i) == words::negative_at(prefix, next) {
+        0
+    } else {
+        1
+    }
+}
+
+// The level of each variable of the prefix.
+pub fn levels_of(prefix: &[i32]) -> [usize; PLACES]
+    requires { ⌜ Bound (now prefix) ⌝ }
+    ensures { λ r. ⌜ Levels (now (prefix .entry)) r ⌝ }
+{
+    let mut levels = [0usize; PLACES];
+    let mut level = 0;
+    let mut i = 0;
+    while i < prefix.len() {
+        let v = words::size_at(prefix, i);
+        levels[v] = level;
+        level += change_at(prefix, i);
+        i += 1;
+    }
+    levels
+}
+
+// The signs of two occurrences together: 0 none, 1 positive, 2 negative, 3 both.
+fn joined(a: u8, b: u8) -> u8
+    ensures { λ r. ⌜ r ≡ join a b ⌝ }
+{
+    if a == 0 {
+        return b;
+    }
+    if a == b {
+        return a;
+    }
+    3
+}
+
+// The signs with which each variable occurs in the literal words.
+pub fn signs_of(literals: &[i32]) -> [u8; PLACES]
+    requires { ⌜ Named (now literals) ⌝ }
+    ensures { λ r. ⌜ Signs (now (literals .entry)) r ⌝ }
+{
+    let mut signs = [0u8; PLACES];
+    let mut i = 0;
+    while i < literals.len() {
+        let v = words::size_at(literals, i);
+        signs[v] = joined(signs[v], sign_at(literals, i));
+        i += 1;
+    }
+    signs
+}
