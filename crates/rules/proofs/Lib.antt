@@ -6,3 +6,9 @@ pub mod Values
 pub mod Universals
 pub mod Signs
 pub mod Levels
+pub mod Bound
+pub mod Unassigned
+pub mod Occurs
+pub mod Open
+pub mod Monotone
+pub mod Kind

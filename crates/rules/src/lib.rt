@@ -1,5 +1,6 @@
 // The rules over checked input: which is due, and one rule applied.
 mod tables;
+mod variables;
 
 use words::Literal;
 
