@@ -9,6 +9,8 @@ pub mod Levels
 pub mod Bound
 pub mod Unassigned
 pub mod Occurs
-pub mod Open
+pub mod Lowest
+pub mod OpenLiteral
 pub mod Monotone
 pub mod Kind
+pub mod Kept

@@ -5,7 +5,7 @@ use lib.ListN.{length}
 use borrow.Author.Needs.{needs}
 use native.Mathlib.Omega.{arith}
 use Rattle.rules.proofs.Filled.{places, placed, bound-named}
-use Rattle.rules.proofs.Open.{Lowering, lowering-begin, lowering-end, lowering-past, lowering-down, lowering-stays}
+use Rattle.rules.proofs.Lowest.{Lowering, lowering-begin, lowering-end, lowering-past, lowering-down, lowering-stays}
 use Rattle.rules.proofs.variables.lowest_unassigned.Statement.{statement}
 use Rattle.rules.proofs.variables.lowest_unassigned.Tie as tie
 

@@ -4,7 +4,7 @@ use native.Mathlib.Omega.{arith}
 use Rattle.rules.proofs.Filled.{places, enough}
 use Rattle.rules.proofs.Bound.{binds-all, binds-no-more}
 use Rattle.rules.proofs.Unassigned.{unassigned, is-assigned}
-use Rattle.rules.proofs.Open.{open-unbound, open-assigned, open-by}
+use Rattle.rules.proofs.OpenLiteral.{open-unbound, open-assigned, open-by}
 use Rattle.rules.proofs.variables.open_variable.Statement.{statement}
 use Rattle.rules.proofs.variables.open_variable.Tie as tie
 
