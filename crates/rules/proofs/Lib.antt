@@ -6,7 +6,14 @@ pub mod Values
 pub mod Universals
 pub mod Signs
 pub mod Levels
-pub mod KindOf
+pub mod Bound
+pub mod Unassigned
+pub mod Occurs
+pub mod Lowest
+pub mod OpenLiteral
+pub mod Monotone
+pub mod Kind
+pub mod Kept
 pub mod Places
 pub mod Exits
 pub mod Row12
