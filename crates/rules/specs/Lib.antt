@@ -5,3 +5,4 @@ pub mod Apply
 pub mod Check
 pub mod Ready
 pub mod Tables
+pub mod Clauses

@@ -1,4 +1,7 @@
 // The rules over checked input: which is due, and one rule applied.
+mod tables; // tables by variable
+mod variables; // tests of a variable
+mod clauses; // tests of a clause
 use words::Literal;
 
 // The state of a search.

@@ -1,0 +1,3 @@
+-- What only the proofs of this crate's functions need.
+pub mod Status
+pub mod Looks
