@@ -1,3 +1,5 @@
 -- What only the proofs of this crate's functions need.
 pub mod Status
 pub mod Looks
+pub mod Walk
+pub mod Conflict

@@ -1,18 +1,24 @@
 -- What one literal more does to the look at a clause, and what the look says at the clause's end: each by the literal's status.
-use Prim.Native.Nat.{ℕ, zero, suc, _≤_, _<_, min}
+use Prim.Native.Nat.{ℕ, zero, suc, _+_, _-_, _≤_, _<_, min}
 use mathlib.Core.Path.{_≡_, refl, sym, _∙_, ap}
 use mathlib.Core.Bool.{Bool, true, false, _&&_, Bool·beq}
 use mathlib.Core.List.{List, [], _∷_}
+use native.Mathlib.Numerals.{add-one}
 use native.Mathlib.Omega.{arith}
 use lib.Dec.{eqb, ltb, leb}
 use lib.IntN.{ℤ, pos, negsuc, natAbs}
-use lib.ListN.{getD}
-use borrow.Author.Tests.{lt-ltb, le-ltb, le-leb, lt-leb, eq-eqb, ne-eqb}
+use lib.ListN.{length, getD, take, drop}
+use borrow.Author.Tests.{lt-ltb, le-ltb, le-leb, leb-true, eq-eqb}
+use Rattle.words.specs.declared.Literal.{Literal}
 use Rattle.words.specs.Bools.{clash, and-l, and-r}
 use Rattle.words.specs.Words.{negative, eqZ, eqZ-ne}
+use Rattle.formula.specs.Limits.{limits}
 use Rattle.rules.specs.Due.{pick, literal}
-use Rattle.rules.specs.Clauses.{levelBy, staysUnit, unitFrom, unitAfter, decidedBy}
+use Rattle.rules.specs.Clauses.{places, levelBy, staysUnit, unitFrom, unitAfter, decidedBy, lowestUnitBy}
+use Rattle.rules.specs.declared.Picked.{Picked}
 use Rattle.rules.specs.declared.Picked.the-variants.{Is, NoLiteral}
+use Rattle.rules.specs.declared.UnitFound.the-variants.{On, NoUnit}
+use Rattle.rules.proofs.Walk.{part-next, part-ended}
 
 -- two words of one size are the same if their signs are
 pub same-sign : (x y : ℤ) → natAbs x ≡ natAbs y → Bool·beq (negative x) (negative y) ≡ eqZ x y
@@ -71,17 +77,64 @@ module _ (st lev : ℤ → ℕ) (ls : List ℤ) (end place above : ℕ) (x : ℤ
 
 -- at the clause's end
 module _ (st : ℤ → ℕ) (levels : List ℕ) (ls : List ℤ) (j end place above : ℕ) where
-  pub is-decided : decidedBy levels ls j end place above ≡ true → unitAfter st (levelBy levels) ls end place above false [] ≡ Is (literal (getD ls place (pos 0)))
-  unfolding unitAfter staysUnit unitFrom
-  is-decided h =
-      let r = and-r (leb end j) (ltb place end && ltb (levelBy levels (getD ls place (pos 0))) above) h in
-      rw (and-l (ltb place end) (ltb (levelBy levels (getD ls place (pos 0))) above) r, and-r (ltb place end) (ltb (levelBy levels (getD ls place (pos 0))) above) r)
+  abbrev below : Bool
+  below = ltb (levelBy levels (getD ls place (pos 0))) above
 
-  pub not-decided : end ≤ j → decidedBy levels ls j end place above ≡ false → unitAfter st (levelBy levels) ls end place above false [] ≡ NoLiteral
-  unfolding unitAfter staysUnit unitFrom
-  not-decided l h = go (ltb place end) (ltb (levelBy levels (getD ls place (pos 0))) above) (rw (le-leb end j l) at h)
+  decided : decidedBy levels ls j end place above ≡ true → (end ≤ j) × (unitAfter st (levelBy levels) ls end place above false [] ≡ Is (literal (getD ls place (pos 0))))
+  unfolding unitAfter staysUnit unitFrom decidedBy
+  decided h =
+      let r = and-r (leb end j) (ltb place end && below) h in (
+        leb-true end j (and-l (leb end j) (ltb place end && below) h),
+        rw (and-l (ltb place end) below r, and-r (ltb place end) below r),
+      )
+
+  not-decided : end ≤ j → decidedBy levels ls j end place above ≡ false → unitAfter st (levelBy levels) ls end place above false [] ≡ NoLiteral
+  unfolding unitAfter staysUnit unitFrom decidedBy
+  not-decided l h = go (ltb place end) below (rw (le-leb end j l) at h)
     where
       go : (a b : Bool) → (a && b) ≡ false → pick a (pick b (Is (literal (getD ls place (pos 0)))) NoLiteral) NoLiteral ≡ NoLiteral
       go true true h = clash refl h
       go true false h = refl
       go false b h = refl
+
+  -- what is left of the clause from j on decides, with the look so far
+  module _ {u : Picked} {over : Bool} (o : over ≡ false) (e : unitAfter st (levelBy levels) ls end place above over (take (end - j) (drop j ls)) ≡ u) where
+    at-end : end ≤ j → unitAfter st (levelBy levels) ls end place above false [] ≡ u
+    at-end l = rw (part-ended ls j end l, o) at e
+
+    pub clause-unit : decidedBy levels ls j end place above ≡ true → u ≡ Is (literal (getD ls place (pos 0)))
+    clause-unit h = sym (at-end (decided h .0)) ∙ decided h .1
+
+    pub clause-none : end ≤ j → decidedBy levels ls j end place above ≡ false → u ≡ NoLiteral
+    clause-none l h = sym (at-end l) ∙ not-decided l h
+
+-- one literal more, and the look that it leaves
+module _ (st lev : ℤ → ℕ) (ls : List ℤ) (j end place above : ℕ) (over : Bool) (place′ above′ : ℕ) (over′ : Bool) {u : Picked}
+    (h : j < end) (l : end ≤ length ls)
+    (n : (C : List ℤ) → unitAfter st lev ls end place′ above′ over′ C ≡ unitAfter st lev ls end place above over (getD ls j (pos 0) ∷ C))
+    (e : unitAfter st lev ls end place above over (take (end - j) (drop j ls)) ≡ u) where
+  pub clause-next : unitAfter st lev ls end place′ above′ over′ (take (end - (j + 1)) (drop (j + 1) ls)) ≡ u
+  clause-next = n _ ∙ (rw (part-next ls j end h l) at e)
+
+  pub clause-over : over′ ≡ true → u ≡ NoLiteral
+  unfolding unitAfter
+  clause-over o = sym clause-next ∙ (rw o)
+
+-- the look before the first literal
+pub look-start : (st lev : ℤ → ℕ) (ls : List ℤ) (end : ℕ) (C : List ℤ) → unitAfter st lev ls end end 257 false C ≡ unitFrom st lev places C
+unfolding unitAfter limits
+look-start st lev ls end C = let l : end ≤ end = omega arith in rw (le-ltb end end l)
+
+-- one clause more
+module _ (st lev : ℤ → ℕ) (c : ℕ) (C : List ℤ) (m : List (List ℤ)) where
+  pub unit-hit : {l : Literal} → unitFrom st lev places C ≡ Is l → lowestUnitBy st lev c (C ∷ m) ≡ On l c
+  unfolding lowestUnitBy
+  unit-hit h = rw h
+
+  pub unit-miss : unitFrom st lev places C ≡ NoLiteral → lowestUnitBy st lev (c + 1) m ≡ lowestUnitBy st lev c (C ∷ m)
+  unfolding lowestUnitBy
+  unit-miss h = rw (add-one, h)
+
+pub unit-none : (st lev : ℤ → ℕ) (c : ℕ) → NoUnit ≡ lowestUnitBy st lev c []
+unfolding lowestUnitBy
+unit-none st lev c = refl

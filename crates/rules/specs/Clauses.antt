@@ -88,5 +88,5 @@ module _ (st lev : ℤ → ℕ) where
       (unitFrom above C)
 
 -- every literal up to the clause's end is seen, there is an existential one, and its level is lower than `above`
-abbrev pub decidedBy : List ℕ → List ℤ → ℕ → ℕ → ℕ → ℕ → Bool
+unfoldable pub decidedBy : List ℕ → List ℤ → ℕ → ℕ → ℕ → ℕ → Bool
 decidedBy levels ls j end place above = leb end j && (ltb place end && ltb (levelBy levels (getD ls place (pos 0))) above)

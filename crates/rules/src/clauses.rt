@@ -1,7 +1,9 @@
 // The clauses in conflict, and the unit clauses. Clause c has the literal words from the end before it to its own.
-use crate::tables::{sign_at, PLACES};
+use crate::Found;
+use crate::UnitFound;
+use crate::tables::PLACES;
+use crate::tables::sign_at;
 use crate::variables::literal_at;
-use crate::{Found, UnitFound};
 ghost use mathlib.Core.Path.{_≡_};
 ghost use mathlib.Core.List.{List, _∷_};
 ghost use Prim.Native.Nat.{_≤_, _<_};
@@ -157,11 +159,18 @@ pub fn lowest_unit(
     let mut c = 0;
     'search: while c < ends.len() {
         let end = words::size_at(ends, c);
-        let mut look = Look { place: end, above: PLACES, over: false };
+        let mut look = Look {
+            place: end,
+            above: PLACES,
+            over: false,
+        };
         let mut j = from;
         loop {
             if look.is_unit(literals, j, end, levels) {
-                found = UnitFound::On { literal: literal_at(literals, look.place), clause: c };
+                found = UnitFound::On {
+                    literal: literal_at(literals, look.place),
+                    clause: c,
+                };
                 break 'search;
             }
             if end <= j {

@@ -2,6 +2,7 @@
 mod tables; // tables by variable
 mod variables; // tests of a variable
 mod clauses; // tests of a clause
+
 use words::Literal;
 
 // The state of a search.

@@ -9,5 +9,9 @@ ghost use Rattle.rules.specs.Due.{literal};
 pub fn literal_at(ws: &[i32], i: usize) -> Literal
     ensures { λ r. ⌜ r ≡ literal (getD (now (ws .entry)) i (pos 0)) ⌝ }
 {
-    if i < ws.len() { Literal(ws[i]) } else { Literal(0) }
+    if i < ws.len() {
+        Literal(ws[i])
+    } else {
+        Literal(0)
+    }
 }

@@ -21,12 +21,12 @@ unfolding limits
 element-copy-out-if2 c = omega (arith, c .before .before .size-at .ensures, c .before .before .before .pre)
 
 returns : tie.Need-returns
-returns c = 
+returns c =
     let start = c .before .before .before .before .before in
     is-existential (start .args .values .now) (start .args .universals .now) _ _ (c .before .before .before .before .size-at .ensures) (c .before .before .if1 .taken) (c .if2 .taken)
 
 returns-2 : tie.Need-returns-2
-returns-2 c = 
+returns-2 c =
     let start = c .before .before .before .before .before in
     is-universal (start .args .values .now) (start .args .universals .now) _ _ (c .before .before .before .before .size-at .ensures) (c .before .before .if1 .taken) (c .if2 .left)
 
@@ -34,12 +34,12 @@ sign-at-requires : tie.Need-sign-at-requires
 sign-at-requires c κs = search needs
 
 returns-3 : tie.Need-returns-3
-returns-3 c = 
+returns-3 c =
     let start = c .before .before .before .before .before in
     is-true (start .args .values .now) (start .args .universals .now) _ _ (c .before .before .before .before .size-at .ensures) (c .before .before .if1 .left) _ (c .before .sign-at .ensures) (c .if3 .taken)
 
 returns-4 : tie.Need-returns-4
-returns-4 c = 
+returns-4 c =
     let start = c .before .before .before .before .before in
     is-false (start .args .values .now) (start .args .universals .now) _ _ (c .before .before .before .before .size-at .ensures) (c .before .before .if1 .left) _ (c .before .sign-at .ensures) (c .if3 .left)
 

@@ -4,6 +4,7 @@ use native.Mathlib.Omega.{arith}
 use borrow.Author.Needs.{needs}
 use borrow.Author.Tests.{le-leb, lt-leb, lt-ltb, le-ltb}
 use Rattle.formula.specs.Limits.{limits}
+use Rattle.rules.specs.Clauses.{decidedBy}
 use Rattle.rules.proofs.clauses.Look.is_unit.Statement.{statement}
 use Rattle.rules.proofs.clauses.Look.is_unit.Tie as tie
 use Rattle.rules.proofs.clauses.Look.is_unit.Reads as reads
@@ -11,9 +12,11 @@ use Rattle.rules.proofs.clauses.Look.is_unit.Lts as lts
 use Rattle.words.proofs.size_at.Reads as size-at-reads
 
 returns : tie.Need-returns
+unfolding decidedBy
 returns c = rw (lt-leb _ _ (c .if1 .taken))
 
 returns-2 : tie.Need-returns-2
+unfolding decidedBy
 returns-2 c = rw (le-leb _ _ (c .before .before .if1 .left), le-ltb _ _ (c .if2 .taken))
 
 size-at-requires : tie.Need-size-at-requires
@@ -28,6 +31,7 @@ unfolding limits
 element-copy-out-result c = omega (arith, c .size-at .ensures, c .before .before .before .before .pre (c .before .before .before .before .args .self .place))
 
 returns-3 : tie.Need-returns-3
+unfolding decidedBy
 returns-3 c = rw (le-leb _ _ (c .before .before .before .before .before .if1 .left), lt-ltb _ _ (c .before .before .before .if2 .left), ← c .before .before .size-at .ensures)
 
 pub is-unit-spec : {M : Type 1} → statement M
