@@ -58,12 +58,12 @@ module _ (st lev : ℤ → ℕ) (ls : List ℤ) (end place above : ℕ) (x : ℤ
     with-first false j e l m = rw (lt-ltb j end l, le-ltb place end m, h, e)
 
     module _ (l : place < end) where
-      pub with-same : (over : Bool) → eqZ (getD ls place (pos 0)) x ≡ true → unitAfter st lev ls end place above over C ≡ unitAfter st lev ls end place above over (x ∷ C)
+      pub with-same : (over : Bool) → eqZ x (getD ls place (pos 0)) ≡ true → unitAfter st lev ls end place above over C ≡ unitAfter st lev ls end place above over (x ∷ C)
       unfolding unitAfter staysUnit
       with-same true e = refl
       with-same false e = rw (lt-ltb place end l, h, e)
 
-      pub with-other : (over : Bool) → eqZ (getD ls place (pos 0)) x ≡ false → unitAfter st lev ls end place above true C ≡ unitAfter st lev ls end place above over (x ∷ C)
+      pub with-other : (over : Bool) → eqZ x (getD ls place (pos 0)) ≡ false → unitAfter st lev ls end place above true C ≡ unitAfter st lev ls end place above over (x ∷ C)
       unfolding unitAfter staysUnit
       with-other true e = refl
       with-other false e = rw (lt-ltb place end l, h, e)

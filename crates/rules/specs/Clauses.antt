@@ -61,7 +61,7 @@ module _ (st lev : ℤ → ℕ) where
       byStatus (st x)
       (staysUnit l above C)
       false
-      (eqZ l x && staysUnit l above C)
+      (eqZ x l && staysUnit l above C)
       (staysUnit l (min above (lev x)) C)
 
   -- the literal of a unit clause, after unassigned universal literals down to the level `above`

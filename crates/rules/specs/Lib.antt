@@ -6,3 +6,4 @@ pub mod Check
 pub mod Ready
 pub mod Tables
 pub mod Clauses
+pub mod ClausesMean

@@ -116,7 +116,7 @@ impl Look {
         if status == 2 {
             if end <= self.place {
                 self.place = j;
-            } else if !same_at(literals, self.place, j) {
+            } else if !same_at(literals, j, self.place) {
                 self.over = true;
             }
             return self;
