@@ -1,5 +1,4 @@
 -- What only the proofs of this crate's functions need.
-pub mod Status
 pub mod Looks
 pub mod Walk
 pub mod Conflict

@@ -6,6 +6,7 @@ use mathlib.Core.List.{List, [], _∷_}
 use lib.Dec.{eqb, ltb, leb}
 use lib.IntN.{ℤ, pos, natAbs}
 use lib.ListN.{length, getD}
+use borrow.Author.Tests.{eq-eqb, ne-eqb}
 use Rattle.words.specs.Words.{eqZ}
 use Rattle.formula.specs.Limits.{limits}
 use Rattle.formula.specs.Block.{badEnds}
@@ -90,3 +91,23 @@ module _ (st lev : ℤ → ℕ) where
 -- every literal up to the clause's end is seen, there is an existential one, and its level is lower than `above`
 unfoldable pub decidedBy : List ℕ → List ℤ → ℕ → ℕ → ℕ → ℕ → Bool
 decidedBy levels ls j end place above = leb end j && (ltb place end && ltb (levelBy levels (getD ls place (pos 0))) above)
+
+-- ---- laws of the status: what each of its tests leaves. v is the variable of x
+module _ (values universals : List ℕ) (x : ℤ) (v : ℕ) (e : v ≡ natAbs x) where
+  module _ (z : getD values v 0 ≡ 0) where
+    pub is-existential : getD universals v 0 ≡ 0 → 2 ≡ statusBy values universals x
+    unfolding statusBy
+    is-existential u = rw (← e, eq-eqb _ _ z, eq-eqb _ _ u)
+
+    pub is-universal : (getD universals v 0 ≡ 0 → ⊥) → 3 ≡ statusBy values universals x
+    unfolding statusBy
+    is-universal u = rw (← e, eq-eqb _ _ z, ne-eqb _ _ u)
+
+  module _ (z : getD values v 0 ≡ 0 → ⊥) (s : ℕ) (f : s ≡ signOf x) where
+    pub is-true : getD values v 0 ≡ s → 1 ≡ statusBy values universals x
+    unfolding statusBy
+    is-true h = rw (← e, ne-eqb _ _ z, ← f, eq-eqb _ _ h)
+
+    pub is-false : (getD values v 0 ≡ s → ⊥) → 0 ≡ statusBy values universals x
+    unfolding statusBy
+    is-false h = rw (← e, ne-eqb _ _ z, ← f, ne-eqb _ _ h)

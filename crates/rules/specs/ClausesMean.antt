@@ -3,7 +3,7 @@
 use Prim.Native.Nat.{ℕ, zero, suc, _+_, _≤_, _<_, min}
 use mathlib.Core.Path.{_≡_, refl, sym, _∙_, ap}
 use mathlib.Core.Logic.{_⊎_, inl, inr}
-use mathlib.Core.Bool.{Bool, true, false, not, _&&_, _||_}
+use mathlib.Core.Bool.{Bool, true, false, not, _&&_, _||_, and-true, and-false, and-assoc}
 use mathlib.Core.List.{List, [], _∷_}
 use native.Mathlib.Omega.{arith}
 use lib.Dec.{eqb, ltb}
@@ -17,7 +17,8 @@ use Rattle.formula.specs.Formula.{existential, universal, level}
 use Rattle.theory.specs.Record.{Assignment, assigned}
 use Rattle.theory.specs.Tests.{unassignedE, unassignedU, inConflict, unitOn}
 use Rattle.rules.specs.Due.{pick, onFound, onPicked, literal, lowest, candidate, isUnit, lowestUnit}
-use Rattle.rules.specs.Clauses.{places, byStatus, conflictBy, staysUnit, unitFrom, lowestUnitBy}
+use Rattle.rules.specs.Tables.{signOf, valueOf, Values, Universals, Levels}
+use Rattle.rules.specs.Clauses.{places, statusBy, is-true, is-false, is-existential, is-universal, levelBy, byStatus, conflictBy, staysUnit, unitFrom, lowestUnitBy}
 use Rattle.rules.specs.declared.Picked.{Picked}
 use Rattle.rules.specs.declared.Picked.the-variants.{Is, NoLiteral}
 use Rattle.rules.specs.declared.Found.the-variants.{At}
@@ -55,11 +56,7 @@ module _ (p : List ℤ) (ρ : Assignment) (st lev : ℤ → ℕ) where
       go : Sorted x → conflictBy st C ≡ inConflict p ρ C → conflictBy st (x ∷ C) ≡ inConflict p ρ (x ∷ C)
       go (as-false s t e u) ih = rw (s, t, e) ih
       go (as-true s t) ih = rw (s, t)
-      go (as-existential s t e u) ih = rw (s, t, e) (closed (any ρ C))
-        where
-          closed : (a : Bool) → false ≡ (not a && false)
-          closed true = refl
-          closed false = refl
+      go (as-existential s t e u) ih = rw (s, t, e) (sym (and-false (not (any ρ C))))
       go (as-universal s t e u) ih = rw (s, t, e) ih
 
   -- every unassigned existential literal is l; every unassigned universal one is at a higher level than l
@@ -71,11 +68,7 @@ module _ (p : List ℤ) (ρ : Assignment) (st lev : ℤ → ℕ) where
 
   stays-means : (l : ℤ) → lev l ≡ level p l → (above : ℕ) (C : List ℤ) → AllMeant C → staysUnit st lev l above C ≡ (not (any ρ C) && onlyE l C && (ltb (level p l) above && higherU l C))
   unfolding staysUnit any all
-  stays-means l q above [] h = rw q (ends (ltb (level p l) above))
-    where
-      ends : (b : Bool) → b ≡ (b && true)
-      ends true = refl
-      ends false = refl
+  stays-means l q above [] h = rw q (sym (and-true (ltb (level p l) above)))
   stays-means l q above (x ∷ C) h = go (h x (here refl) .sorted) (h x (here refl) .at) (λ n. stays-means l q n C (λ y i. h y (there i)))
     where
       same : (k a b : Bool) → (k && (not a && b && (ltb (level p l) above && higherU l C))) ≡ (not a && (k && b) && (ltb (level p l) above && higherU l C))
@@ -83,15 +76,11 @@ module _ (p : List ℤ) (ρ : Assignment) (st lev : ℤ → ℕ) where
       same false true b = refl
       same false false b = refl
 
-      lower : (m w : Bool) → (not (any ρ C) && onlyE l C && (m && w && higherU l C)) ≡ (not (any ρ C) && onlyE l C && (m && (w && higherU l C)))
-      lower true w = refl
-      lower false w = refl
-
       go : Sorted x → lev x ≡ level p x → ((n : ℕ) → staysUnit st lev l n C ≡ (not (any ρ C) && onlyE l C && (ltb (level p l) n && higherU l C))) → staysUnit st lev l above (x ∷ C) ≡ (not (any ρ (x ∷ C)) && onlyE l (x ∷ C) && (ltb (level p l) above && higherU l (x ∷ C)))
       go (as-false s t e u) v ih = rw (s, t, e, u) (ih above)
       go (as-true s t) v ih = rw (s, t)
       go (as-existential s t e u) v ih = rw (s, t, e, u, ih above) (same (eqZ x l) (any ρ C) (onlyE l C))
-      go (as-universal s t e u) v ih = rw (s, t, e, u, v, ih (min above (level p x)), ltb-min (level p l) above (level p x)) (lower (ltb (level p l) above) (ltb (level p l) (level p x)))
+      go (as-universal s t e u) v ih = rw (s, t, e, u, v, ih (min above (level p x)), ltb-min (level p l) above (level p x)) (ap (λ b. not (any ρ C) && onlyE l C && b) (and-assoc (ltb (level p l) above) (ltb (level p l) (level p x)) (higherU l C)))
 
   -- the unit test with the universal literals before the clause, down to the level `above`
   abbrev unitIn : ℕ → List ℤ → ℤ → Bool
@@ -109,19 +98,11 @@ module _ (p : List ℤ) (ρ : Assignment) (st lev : ℤ → ℕ) where
       l : ℤ
       l = candidate p ρ C
 
-      lower : (m w : Bool) → (not (any ρ C) && any (unassignedE p ρ) C && onlyE l C && (m && w && higherU l C)) ≡ (not (any ρ C) && any (unassignedE p ρ) C && onlyE l C && (m && (w && higherU l C)))
-      lower true w = refl
-      lower false w = refl
-
       go : Sorted x → lev x ≡ level p x → ((n : ℕ) → unitFrom st lev n C ≡ taken (unitIn n C l) l) → unitFrom st lev above (x ∷ C) ≡ taken (unitIn above (x ∷ C) (candidate p ρ (x ∷ C))) (candidate p ρ (x ∷ C))
       go (as-false s t e u) v ih = rw (s, t, e, u) (ih above)
       go (as-true s t) v ih = rw (s, t)
-      go (as-existential s t e u) v ih = rw (s, t, e, u, eqZ-refl x, stays-means x v above C (λ y i. h y (there i))) (ap (λ b. taken (b && onlyE x C && (ltb (level p x) above && higherU x C)) x) (sym (with-true (not (any ρ C)))))
-        where
-          with-true : (b : Bool) → (b && true) ≡ b
-          with-true true = refl
-          with-true false = refl
-      go (as-universal s t e u) v ih = rw (s, t, e, u, v, ih (min above (level p x)), ltb-min (level p l) above (level p x)) (ap (λ b. taken b l) (lower (ltb (level p l) above) (ltb (level p l) (level p x))))
+      go (as-existential s t e u) v ih = rw (s, t, e, u, eqZ-refl x, stays-means x v above C (λ y i. h y (there i))) (ap (λ b. taken (b && onlyE x C && (ltb (level p x) above && higherU x C)) x) (sym (and-true (not (any ρ C)))))
+      go (as-universal s t e u) v ih = rw (s, t, e, u, v, ih (min above (level p x)), ltb-min (level p l) above (level p x)) (ap (λ b. taken (not (any ρ C) && any (unassignedE p ρ) C && onlyE l C && b) l) (and-assoc (ltb (level p l) above) (ltb (level p l) (level p x)) (higherU l C)))
 
   -- the candidate is the clause's, if it has an unassigned existential literal
   candidate-in : (C : List ℤ) → any (unassignedE p ρ) C ≡ true → In (candidate p ρ C) C × (unassignedE p ρ (candidate p ρ C) ≡ true)
@@ -140,15 +121,11 @@ module _ (p : List ℤ) (ρ : Assignment) (st lev : ℤ → ℕ) where
       l : ℤ
       l = candidate p ρ C
 
-      shut : (a m : Bool) → (a && false && onlyE l C && (m && higherU l C)) ≡ (a && false && onlyE l C && higherU l C)
-      shut true m = refl
-      shut false m = refl
-
       go : (any (unassignedE p ρ) C ≡ true) ⊎ (any (unassignedE p ρ) C ≡ false) → unitIn places C l ≡ isUnit p ρ C
       go (inl e) = let r = candidate-in C e in rw (e, mem-i (r .0), r .1, lt-ltb (level p l) places (h l (r .0)))
       go (inr e) =
           let none = to-false (mem l C && unassignedE p ρ l) (λ b. clash (any-i (unassignedE p ρ) (mem-e l C (and-l (mem l C) (unassignedE p ρ l) b)) (and-r (mem l C) (unassignedE p ρ l) b)) e) in
-          rw (e, none) (shut (not (any ρ C)) (ltb (level p l) places))
+          rw (e, none, and-false (not (any ρ C)))
 
   unit-means : (C : List ℤ) → AllMeant C → ((x : ℤ) → In x C → level p x < places) → unitFrom st lev places C ≡ taken (isUnit p ρ C) (candidate p ρ C)
   unit-means C m h = from-means places C m ∙ ap (λ b. taken b (candidate p ρ C)) (unit-in C h)
@@ -171,3 +148,69 @@ module _ {A : Type 0} (f g : A → Bool) where
   unfolding lowest
   lowest-same n [] h = refl
   lowest-same n (x ∷ m) h = rw (h x (here refl), lowest-same (suc n) m (λ y i. h y (there i)))
+
+-- ---- the tables
+-- no variable is both true and false
+abbrev pub Consistent : Assignment → Type 0
+Consistent ρ = (v : ℕ) → 0 < v → ρ (pos v) ≡ true → ρ (negℤ (pos v)) ≡ false
+
+-- the value of a literal's variable, against the literal's sign
+module _ (ρ : Assignment) (con : Consistent ρ) where
+  value-true : (x : ℤ) → 0 < natAbs x → ρ x ≡ true → valueOf ρ (natAbs x) ≡ signOf x
+  value-true (pos n) z h = rw h
+  value-true (negsuc n) z h = let k = to-false (ρ (pos (suc n))) (λ e. clash h (con (suc n) z e)) in rw (k, h)
+
+  value-false : (x : ℤ) → 0 < natAbs x → ρ x ≡ false → ρ (negℤ x) ≡ true → (valueOf ρ (natAbs x) ≡ 0 → ⊥) × (valueOf ρ (natAbs x) ≡ signOf x → ⊥)
+  value-false (pos zero) z h k = clash k h
+  value-false (pos (suc n)) z h k = rw (h, k) (λ e. omega arith, λ e. omega arith)
+  value-false (negsuc n) z h k = rw k (λ e. omega arith, λ e. omega arith)
+
+  value-none : (x : ℤ) → ρ x ≡ false → ρ (negℤ x) ≡ false → valueOf ρ (natAbs x) ≡ 0
+  value-none (pos n) h k = rw (h, k)
+  value-none (negsuc n) h k = rw (k, h)
+
+signOf-some : (x : ℤ) → signOf x ≡ 0 → ⊥
+signOf-some (pos n) e = omega arith
+signOf-some (negsuc n) e = omega arith
+
+module _ (p : List ℤ) (ρ : Assignment) where
+  pub assigned-none : (x : ℤ) → assigned ρ x ≡ true → (unassignedE p ρ x ≡ false) × (unassignedU p ρ x ≡ false)
+  unfolding unassignedE unassignedU
+  assigned-none x h = rw h (and-false (existential p x), and-false (universal p x))
+
+  pub unassigned-by : (x : ℤ) → assigned ρ x ≡ false → (unassignedE p ρ x ≡ existential p x) × (unassignedU p ρ x ≡ universal p x)
+  unfolding unassignedE unassignedU
+  unassigned-by x h = rw h (and-true (existential p x), and-true (universal p x))
+
+module _ (p : List ℤ) (ρ : Assignment) (values universals : List ℕ) (vals : Values ρ values) (unis : Universals p universals) (con : Consistent ρ) where
+  -- x is not 0, and its variable has one quantifier
+  sorted : (lev : ℤ → ℕ) (x : ℤ) → 0 < natAbs x → universal p x ≡ not (existential p x) → Sorted p ρ (statusBy values universals) lev x
+  unfolding assigned universal
+  sorted lev x z q = go (look (ρ x)) (look (ρ (negℤ x))) (look (existential p x))
+    where
+      val : getD values (natAbs x) 0 ≡ valueOf ρ (natAbs x)
+      val = vals (natAbs x)
+
+      signed : signOf x ≡ 0 → ⊥
+      signed = signOf-some x
+
+      go : (ρ x ≡ true) ⊎ (ρ x ≡ false) → (ρ (negℤ x) ≡ true) ⊎ (ρ (negℤ x) ≡ false) → (existential p x ≡ true) ⊎ (existential p x ≡ false) → Sorted p ρ (statusBy values universals) lev x
+      go (inl h) k e =
+          let v = val ∙ value-true ρ con x z h in
+          as-true (sym (is-true values universals x (natAbs x) refl (λ n. signed (sym v ∙ n)) (signOf x) refl v)) h
+      go (inr h) (inl k) e =
+          let v = value-false ρ con x z h k in
+          let (a, b) = assigned-none p ρ x (rw (h, k)) in
+          as-false (sym (is-false values universals x (natAbs x) refl (λ n. v .0 (sym val ∙ n)) (signOf x) refl (λ n. v .1 (sym val ∙ n)))) h a b
+      go (inr h) (inr k) (inl e) =
+          let v = val ∙ value-none ρ con x h k in
+          let (a, b) = unassigned-by p ρ x (rw (h, k)) in
+          let u : universal p x ≡ false = q ∙ ap not e in
+          let w : getD universals (natAbs x) 0 ≡ 0 = unis (natAbs x) ∙ (rw u) in
+          as-existential (sym (is-existential values universals x (natAbs x) refl v w)) h (a ∙ e) (b ∙ u)
+      go (inr h) (inr k) (inr e) =
+          let v = val ∙ value-none ρ con x h k in
+          let (a, b) = unassigned-by p ρ x (rw (h, k)) in
+          let u : universal p x ≡ true = q ∙ ap not e in
+          let w : getD universals (natAbs x) 0 ≡ 1 = unis (natAbs x) ∙ (rw u) in
+          as-universal (sym (is-universal values universals x (natAbs x) refl v (λ n. omega (arith, w, n)))) h (a ∙ e) (b ∙ u)

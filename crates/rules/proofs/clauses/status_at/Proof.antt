@@ -1,6 +1,6 @@
 use native.Mathlib.Omega.{arith}
 use Rattle.formula.specs.Limits.{limits}
-use Rattle.rules.proofs.Status.{is-existential, is-universal, is-true, is-false}
+use Rattle.rules.specs.Clauses.{is-existential, is-universal, is-true, is-false}
 use borrow.Author.Needs.{needs}
 use Rattle.rules.proofs.clauses.status_at.Statement.{statement}
 use Rattle.rules.proofs.clauses.status_at.Tie as tie
