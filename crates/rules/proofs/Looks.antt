@@ -1,18 +1,18 @@
 -- What one literal more does to the look at a clause, and what the look says at the clause's end: each by the literal's status.
 use Prim.Native.Nat.{ℕ, zero, suc, _+_, _-_, _≤_, _<_, min}
-use mathlib.Core.Path.{_≡_, refl, sym, _∙_, ap}
+use mathlib.Core.Path.{_≡_, refl, sym, _∙_}
 use mathlib.Core.Bool.{Bool, true, false, _&&_, Bool·beq}
 use mathlib.Core.List.{List, [], _∷_}
 use native.Mathlib.Numerals.{add-one}
 use native.Mathlib.Omega.{arith}
-use lib.Dec.{eqb, ltb, leb}
+use lib.Dec.{ltb, leb}
 use lib.IntN.{ℤ, pos, negsuc, natAbs}
 use lib.ListN.{length, getD, take, drop}
 use borrow.Author.Tests.{lt-ltb, le-ltb, le-leb, leb-true, eq-eqb}
 use Rattle.words.specs.declared.Literal.{Literal}
 use Rattle.words.specs.Bools.{clash, and-l, and-r}
-use Rattle.words.specs.Words.{negative, eqZ, eqZ-ne}
-use Rattle.formula.specs.Limits.{limits}
+use Rattle.words.specs.Words.{negative, eqZ}
+use Rattle.formula.specs.Limits.{variables-are}
 use Rattle.rules.specs.Due.{pick, literal}
 use Rattle.rules.specs.Clauses.{places, levelBy, staysUnit, unitFrom, unitAfter, decidedBy, lowestUnitBy}
 use Rattle.rules.specs.declared.Picked.{Picked}
@@ -122,8 +122,8 @@ module _ (st lev : ℤ → ℕ) (ls : List ℤ) (j end place above : ℕ) (over 
 
 -- the look before the first literal
 pub look-start : (st lev : ℤ → ℕ) (ls : List ℤ) (end : ℕ) (C : List ℤ) → unitAfter st lev ls end end 257 false C ≡ unitFrom st lev places C
-unfolding unitAfter limits
-look-start st lev ls end C = let l : end ≤ end = omega arith in rw (le-ltb end end l)
+unfolding unitAfter
+look-start st lev ls end C = let l : end ≤ end = omega arith in rw (le-ltb end end l, variables-are)
 
 -- one clause more
 module _ (st lev : ℤ → ℕ) (c : ℕ) (C : List ℤ) (m : List (List ℤ)) where

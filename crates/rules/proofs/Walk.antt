@@ -1,22 +1,23 @@
 -- The walk over the clauses of the literal words: each turn takes the clause from the end before it to its own, and what is left of the
 -- ends is still in order.
-use Prim.Native.Nat.{ℕ, zero, suc, _+_, _-_, _≤_, _<_, zero-le, min}
+use Prim.Native.Nat.{ℕ, suc, _+_, _-_, _≤_, _<_, zero-le}
 use mathlib.Core.Path.{_≡_, refl, sym, _∙_, ap}
 use mathlib.Core.Logic.{_⊎_, inl, inr}
-use mathlib.Core.Bool.{Bool, true, false, _||_}
+use mathlib.Core.Bool.{true, false}
 use mathlib.Core.List.{List, [], _∷_}
 use native.Mathlib.Omega.{arith}
 use lib.Dec.{ltb}
 use lib.IntN.{ℤ, pos, natAbs}
-use lib.ListN.{length, getD, take, drop, length-take, length-drop, List·getD-eq-default}
+use lib.ListN.{length, getD, take, drop, length-take, List·getD-eq-default}
 use lib.Seq.{getD-take, getD-drop}
 use borrow.Author.Tests.{ltb-true, ltb-false}
-use Rattle.words.specs.Bools.{look, or-fl, or-fr}
-use Rattle.words.specs.Lists.{next, ended}
-use Rattle.words.specs.Words.{negative}
+use Rattle.words.specs.Bools.{look}
+use Rattle.words.specs.Lists.{next}
 use Rattle.formula.specs.Limits.{limits}
 use Rattle.formula.specs.Formula.{clausesFrom}
 use Rattle.formula.specs.Block.{badEnds}
+use Rattle.formula.specs.Ends.{good-end}
+use Rattle.formula.specs.Clauses.{clauses-at, clauses-ended}
 use Rattle.rules.specs.Clauses.{Placed, Clauses}
 
 -- the clause that begins at `from` and is number c, when it ends at e
@@ -27,19 +28,13 @@ pub record Turn (es ls : List ℤ) (from c e : ℕ) : Type 0 where
   pub clauses : clausesFrom ls from (drop c es) ≡ take (e - from) (drop from ls) ∷ clausesFrom ls e (drop (c + 1) es)
 
 pub turn : (es ls : List ℤ) (from c e : ℕ) → c < length es → e ≡ natAbs (getD es c (pos 0)) → badEnds (length ls) from (drop c es) ≡ false → Turn es ls from c e
-unfolding badEnds clausesFrom
 turn es ls from c e l k b =
-    let w = getD es c (pos 0) in
-    let rest = badEnds (length ls) (natAbs w) (drop (c + 1) es) in
-    let over = ltb (length ls) (natAbs w) in
-    let falls = ltb (natAbs w) from in
-    let b0 = rw (next es c (pos 0) l) at b in
-    let b1 = or-fl (negative w || falls || over) rest b0 in
+    let good = good-end (length ls) from es c b l in
     record {
-      starts = rw k (ltb-false _ _ (or-fr (negative w) falls (or-fl (negative w || falls) over b1)));
-      stops = rw k (ltb-false _ _ (or-fr (negative w || falls) over b1));
-      ends = rw k (or-fr (negative w || falls || over) rest b0);
-      clauses = rw (next es c (pos 0) l, k);
+      starts = rw k (good .rises);
+      stops = rw k (good .fits);
+      ends = rw k (good .rest);
+      clauses = rw k (clauses-at ls from es c l);
     }
 
 -- a part of the words
@@ -80,5 +75,4 @@ module _ {A : Type 0} (f : ℕ → List (List ℤ) → A) (es ls : List ℤ) whe
     walk-stop = sym (ap (f c) (t .clauses)) ∙ w .same
 
   pub walk-end : (from c : ℕ) → length es ≤ c → Walk from c → f c [] ≡ f 0 (clausesFrom ls 0 es)
-  unfolding clausesFrom
-  walk-end from c h w = rw (ended es c h) at (w .same)
+  walk-end from c h w = rw (clauses-ended ls from es c h) at (w .same)

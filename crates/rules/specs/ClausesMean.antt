@@ -1,24 +1,23 @@
 -- What the tests over the tables mean: the rules' tests of the same clauses. Each literal of a clause is false, true, unassigned existential or
 -- unassigned universal, and its status says which; the rest goes by induction on the clause.
-use Prim.Native.Nat.{ℕ, zero, suc, _+_, _≤_, _<_, min}
+use Prim.Native.Nat.{ℕ, suc, _+_, _≤_, _<_, min}
 use mathlib.Core.Path.{_≡_, refl, sym, _∙_, ap}
 use mathlib.Core.Logic.{_⊎_, inl, inr}
 use mathlib.Core.Bool.{Bool, true, false, not, _&&_, _||_, and-true, and-false, and-assoc}
 use mathlib.Core.List.{List, [], _∷_}
 use native.Mathlib.Omega.{arith}
-use lib.Dec.{eqb, ltb}
-use lib.IntN.{ℤ, pos, negsuc, negℤ, natAbs}
-use lib.ListN.{length, getD}
+use lib.Dec.{ltb}
+use lib.IntN.{ℤ}
+use lib.ListN.{getD}
 use borrow.Author.Tests.{lt-ltb, le-ltb, ltb-true, ltb-false}
-use Rattle.words.specs.Bools.{clash, look, bool-eq, and-l, and-r, and-i, to-false}
-use Rattle.words.specs.Lists.{In, here, there, all, any, any-i, any-e}
+use Rattle.words.specs.Bools.{clash, look, and-l, and-r, to-false}
+use Rattle.words.specs.Lists.{In, here, there, all, any, any-i}
 use Rattle.words.specs.Words.{eqZ, eqZ-refl, mem, mem-i, mem-e}
 use Rattle.formula.specs.Formula.{existential, universal, level}
-use Rattle.theory.specs.Record.{Assignment, assigned}
+use Rattle.theory.specs.Record.{Assignment}
 use Rattle.theory.specs.Tests.{unassignedE, unassignedU, inConflict, unitOn}
 use Rattle.rules.specs.Due.{pick, onFound, onPicked, literal, lowest, candidate, isUnit, lowestUnit}
-use Rattle.rules.specs.Tables.{signOf, valueOf, Values, Universals, Levels}
-use Rattle.rules.specs.Clauses.{places, statusBy, is-true, is-false, is-existential, is-universal, levelBy, byStatus, conflictBy, staysUnit, unitFrom, lowestUnitBy}
+use Rattle.rules.specs.Clauses.{places, conflictBy, staysUnit, unitFrom, lowestUnitBy}
 use Rattle.rules.specs.declared.Picked.{Picked}
 use Rattle.rules.specs.declared.Picked.the-variants.{Is, NoLiteral}
 use Rattle.rules.specs.declared.Found.the-variants.{At}
@@ -32,8 +31,15 @@ ltb-min a b c = go (look (ltb a b)) (look (ltb a c))
     go (inl h) (inr k) = let m : min b c ≤ a = omega (arith, ltb-false a c k) in rw (h, k) (le-ltb a (min b c) m)
     go (inr h) k = let m : min b c ≤ a = omega (arith, ltb-false a b h) in rw h (le-ltb a (min b c) m)
 
--- p is the prefix, ρ says which literals are true
-module _ (p : List ℤ) (ρ : Assignment) (st lev : ℤ → ℕ) where
+-- tests that agree on a list's elements find the same one
+module _ {A : Type 0} (f g : A → Bool) where
+  lowest-same : (n : ℕ) (m : List A) → ((x : A) → In x m → f x ≡ g x) → lowest f n m ≡ lowest g n m
+  unfolding lowest
+  lowest-same n [] h = refl
+  lowest-same n (x ∷ m) h = rw (h x (here refl), lowest-same (suc n) m (λ y i. h y (there i)))
+
+-- p is the prefix, ρ says which literals are true, st is a literal's status
+module _ (p : List ℤ) (ρ : Assignment) (st : ℤ → ℕ) where
   -- the status of a literal says what it is
   pub data Sorted (x : ℤ) : Type 0 where
     as-false : st x ≡ 0 → ρ x ≡ false → unassignedE p ρ x ≡ false → unassignedU p ρ x ≡ false → Sorted x
@@ -41,23 +47,29 @@ module _ (p : List ℤ) (ρ : Assignment) (st lev : ℤ → ℕ) where
     as-existential : st x ≡ 2 → ρ x ≡ false → unassignedE p ρ x ≡ true → unassignedU p ρ x ≡ false → Sorted x
     as-universal : st x ≡ 3 → ρ x ≡ false → unassignedE p ρ x ≡ false → unassignedU p ρ x ≡ true → Sorted x
 
-  pub record Meant (x : ℤ) : Type 0 where
-    pub sorted : Sorted x
-    pub at : lev x ≡ level p x
-
-  abbrev pub AllMeant : List ℤ → Type 0
-  AllMeant C = (x : ℤ) → In x C → Meant x
-
-  pub conflict-means : (C : List ℤ) → AllMeant C → conflictBy st C ≡ inConflict p ρ C
+  conflict-means : (C : List ℤ) → ((x : ℤ) → In x C → Sorted x) → conflictBy st C ≡ inConflict p ρ C
   unfolding conflictBy inConflict any
   conflict-means [] h = refl
-  conflict-means (x ∷ C) h = go (h x (here refl) .sorted) (conflict-means C (λ y i. h y (there i)))
+  conflict-means (x ∷ C) h = go (h x (here refl)) (conflict-means C (λ y i. h y (there i)))
     where
       go : Sorted x → conflictBy st C ≡ inConflict p ρ C → conflictBy st (x ∷ C) ≡ inConflict p ρ (x ∷ C)
       go (as-false s t e u) ih = rw (s, t, e) ih
       go (as-true s t) ih = rw (s, t)
       go (as-existential s t e u) ih = rw (s, t, e) (sym (and-false (not (any ρ C))))
       go (as-universal s t e u) ih = rw (s, t, e) ih
+
+  pub lowest-conflict-means : (m : List (List ℤ)) → ((C : List ℤ) → In C m → (x : ℤ) → In x C → Sorted x) → lowest (conflictBy st) 0 m ≡ lowest (inConflict p ρ) 0 m
+  lowest-conflict-means m h = lowest-same (conflictBy st) (inConflict p ρ) 0 m (λ C i. conflict-means C (h C i))
+
+-- and lev its level
+module _ (p : List ℤ) (ρ : Assignment) (st lev : ℤ → ℕ) where
+  pub record Meant (x : ℤ) : Type 0 where
+    pub sorted : Sorted p ρ st x
+    pub at : lev x ≡ level p x
+    pub low : level p x < places
+
+  abbrev pub AllMeant : List ℤ → Type 0
+  AllMeant C = (x : ℤ) → In x C → Meant x
 
   -- every unassigned existential literal is l; every unassigned universal one is at a higher level than l
   abbrev onlyE : ℤ → List ℤ → Bool
@@ -76,7 +88,7 @@ module _ (p : List ℤ) (ρ : Assignment) (st lev : ℤ → ℕ) where
       same false true b = refl
       same false false b = refl
 
-      go : Sorted x → lev x ≡ level p x → ((n : ℕ) → staysUnit st lev l n C ≡ (not (any ρ C) && onlyE l C && (ltb (level p l) n && higherU l C))) → staysUnit st lev l above (x ∷ C) ≡ (not (any ρ (x ∷ C)) && onlyE l (x ∷ C) && (ltb (level p l) above && higherU l (x ∷ C)))
+      go : Sorted p ρ st x → lev x ≡ level p x → ((n : ℕ) → staysUnit st lev l n C ≡ (not (any ρ C) && onlyE l C && (ltb (level p l) n && higherU l C))) → staysUnit st lev l above (x ∷ C) ≡ (not (any ρ (x ∷ C)) && onlyE l (x ∷ C) && (ltb (level p l) above && higherU l (x ∷ C)))
       go (as-false s t e u) v ih = rw (s, t, e, u) (ih above)
       go (as-true s t) v ih = rw (s, t)
       go (as-existential s t e u) v ih = rw (s, t, e, u, ih above) (same (eqZ x l) (any ρ C) (onlyE l C))
@@ -98,7 +110,7 @@ module _ (p : List ℤ) (ρ : Assignment) (st lev : ℤ → ℕ) where
       l : ℤ
       l = candidate p ρ C
 
-      go : Sorted x → lev x ≡ level p x → ((n : ℕ) → unitFrom st lev n C ≡ taken (unitIn n C l) l) → unitFrom st lev above (x ∷ C) ≡ taken (unitIn above (x ∷ C) (candidate p ρ (x ∷ C))) (candidate p ρ (x ∷ C))
+      go : Sorted p ρ st x → lev x ≡ level p x → ((n : ℕ) → unitFrom st lev n C ≡ taken (unitIn n C l) l) → unitFrom st lev above (x ∷ C) ≡ taken (unitIn above (x ∷ C) (candidate p ρ (x ∷ C))) (candidate p ρ (x ∷ C))
       go (as-false s t e u) v ih = rw (s, t, e, u) (ih above)
       go (as-true s t) v ih = rw (s, t)
       go (as-existential s t e u) v ih = rw (s, t, e, u, eqZ-refl x, stays-means x v above C (λ y i. h y (there i))) (ap (λ b. taken (b && onlyE x C && (ltb (level p x) above && higherU x C)) x) (sym (and-true (not (any ρ C)))))
@@ -114,7 +126,7 @@ module _ (p : List ℤ) (ρ : Assignment) (st lev : ℤ → ℕ) where
       go (inl e) ih = rw e (here refl, e)
       go (inr e) ih = let r = ih (rw e at h) in rw e (there (r .0), r .1)
 
-  unit-in : (C : List ℤ) → ((x : ℤ) → In x C → level p x < places) → unitIn places C (candidate p ρ C) ≡ isUnit p ρ C
+  unit-in : (C : List ℤ) → AllMeant C → unitIn places C (candidate p ρ C) ≡ isUnit p ρ C
   unfolding unitOn
   unit-in C h = go (look (any (unassignedE p ρ) C))
     where
@@ -122,19 +134,19 @@ module _ (p : List ℤ) (ρ : Assignment) (st lev : ℤ → ℕ) where
       l = candidate p ρ C
 
       go : (any (unassignedE p ρ) C ≡ true) ⊎ (any (unassignedE p ρ) C ≡ false) → unitIn places C l ≡ isUnit p ρ C
-      go (inl e) = let r = candidate-in C e in rw (e, mem-i (r .0), r .1, lt-ltb (level p l) places (h l (r .0)))
+      go (inl e) = let r = candidate-in C e in rw (e, mem-i (r .0), r .1, lt-ltb (level p l) places (h l (r .0) .low))
       go (inr e) =
           let none = to-false (mem l C && unassignedE p ρ l) (λ b. clash (any-i (unassignedE p ρ) (mem-e l C (and-l (mem l C) (unassignedE p ρ l) b)) (and-r (mem l C) (unassignedE p ρ l) b)) e) in
           rw (e, none, and-false (not (any ρ C)))
 
-  unit-means : (C : List ℤ) → AllMeant C → ((x : ℤ) → In x C → level p x < places) → unitFrom st lev places C ≡ taken (isUnit p ρ C) (candidate p ρ C)
-  unit-means C m h = from-means places C m ∙ ap (λ b. taken b (candidate p ρ C)) (unit-in C h)
+  unit-means : (C : List ℤ) → AllMeant C → unitFrom st lev places C ≡ taken (isUnit p ρ C) (candidate p ρ C)
+  unit-means C h = from-means places C h ∙ ap (λ b. taken b (candidate p ρ C)) (unit-in C h)
 
   -- the lowest unit clause. G is the candidate by the clause's number
-  lowest-means : (n : ℕ) (m : List (List ℤ)) → ((C : List ℤ) → In C m → unitFrom st lev places C ≡ taken (isUnit p ρ C) (candidate p ρ C)) → (G : ℕ → ℤ) → ((i : ℕ) → G (n + i) ≡ candidate p ρ (getD m i [])) → lowestUnitBy st lev n m ≡ onFound (lowest (isUnit p ρ) n m) (λ c. On (literal (G c)) c) NoUnit
+  lowest-from : (n : ℕ) (m : List (List ℤ)) → ((C : List ℤ) → In C m → AllMeant C) → (G : ℕ → ℤ) → ((i : ℕ) → G (n + i) ≡ candidate p ρ (getD m i [])) → lowestUnitBy st lev n m ≡ onFound (lowest (isUnit p ρ) n m) (λ c. On (literal (G c)) c) NoUnit
   unfolding lowestUnitBy lowest
-  lowest-means n [] h G e = refl
-  lowest-means n (C ∷ m) h G e = rw (h C (here refl)) (go (isUnit p ρ C) (lowest-means (suc n) m (λ D i. h D (there i)) G (λ i. let z : suc n + i ≡ n + suc i = omega arith in rw z (e (suc i)))))
+  lowest-from n [] h G e = refl
+  lowest-from n (C ∷ m) h G e = rw (unit-means C (h C (here refl))) (go (isUnit p ρ C) (lowest-from (suc n) m (λ D i. h D (there i)) G (λ i. let z : suc n + i ≡ n + suc i = omega arith in rw z (e (suc i)))))
     where
       first : G n ≡ candidate p ρ C
       first = let z : n + 0 ≡ n = omega arith in rw z at (e 0)
@@ -143,74 +155,6 @@ module _ (p : List ℤ) (ρ : Assignment) (st lev : ℤ → ℕ) where
       go true ih = ap (λ x. On (literal x) n) (sym first)
       go false ih = ih
 
-module _ {A : Type 0} (f g : A → Bool) where
-  lowest-same : (n : ℕ) (m : List A) → ((x : A) → In x m → f x ≡ g x) → lowest f n m ≡ lowest g n m
-  unfolding lowest
-  lowest-same n [] h = refl
-  lowest-same n (x ∷ m) h = rw (h x (here refl), lowest-same (suc n) m (λ y i. h y (there i)))
-
--- ---- the tables
--- no variable is both true and false
-abbrev pub Consistent : Assignment → Type 0
-Consistent ρ = (v : ℕ) → 0 < v → ρ (pos v) ≡ true → ρ (negℤ (pos v)) ≡ false
-
--- the value of a literal's variable, against the literal's sign
-module _ (ρ : Assignment) (con : Consistent ρ) where
-  value-true : (x : ℤ) → 0 < natAbs x → ρ x ≡ true → valueOf ρ (natAbs x) ≡ signOf x
-  value-true (pos n) z h = rw h
-  value-true (negsuc n) z h = let k = to-false (ρ (pos (suc n))) (λ e. clash h (con (suc n) z e)) in rw (k, h)
-
-  value-false : (x : ℤ) → 0 < natAbs x → ρ x ≡ false → ρ (negℤ x) ≡ true → (valueOf ρ (natAbs x) ≡ 0 → ⊥) × (valueOf ρ (natAbs x) ≡ signOf x → ⊥)
-  value-false (pos zero) z h k = clash k h
-  value-false (pos (suc n)) z h k = rw (h, k) (λ e. omega arith, λ e. omega arith)
-  value-false (negsuc n) z h k = rw k (λ e. omega arith, λ e. omega arith)
-
-  value-none : (x : ℤ) → ρ x ≡ false → ρ (negℤ x) ≡ false → valueOf ρ (natAbs x) ≡ 0
-  value-none (pos n) h k = rw (h, k)
-  value-none (negsuc n) h k = rw (k, h)
-
-signOf-some : (x : ℤ) → signOf x ≡ 0 → ⊥
-signOf-some (pos n) e = omega arith
-signOf-some (negsuc n) e = omega arith
-
-module _ (p : List ℤ) (ρ : Assignment) where
-  pub assigned-none : (x : ℤ) → assigned ρ x ≡ true → (unassignedE p ρ x ≡ false) × (unassignedU p ρ x ≡ false)
-  unfolding unassignedE unassignedU
-  assigned-none x h = rw h (and-false (existential p x), and-false (universal p x))
-
-  pub unassigned-by : (x : ℤ) → assigned ρ x ≡ false → (unassignedE p ρ x ≡ existential p x) × (unassignedU p ρ x ≡ universal p x)
-  unfolding unassignedE unassignedU
-  unassigned-by x h = rw h (and-true (existential p x), and-true (universal p x))
-
-module _ (p : List ℤ) (ρ : Assignment) (values universals : List ℕ) (vals : Values ρ values) (unis : Universals p universals) (con : Consistent ρ) where
-  -- x is not 0, and its variable has one quantifier
-  sorted : (lev : ℤ → ℕ) (x : ℤ) → 0 < natAbs x → universal p x ≡ not (existential p x) → Sorted p ρ (statusBy values universals) lev x
-  unfolding assigned universal
-  sorted lev x z q = go (look (ρ x)) (look (ρ (negℤ x))) (look (existential p x))
-    where
-      val : getD values (natAbs x) 0 ≡ valueOf ρ (natAbs x)
-      val = vals (natAbs x)
-
-      signed : signOf x ≡ 0 → ⊥
-      signed = signOf-some x
-
-      go : (ρ x ≡ true) ⊎ (ρ x ≡ false) → (ρ (negℤ x) ≡ true) ⊎ (ρ (negℤ x) ≡ false) → (existential p x ≡ true) ⊎ (existential p x ≡ false) → Sorted p ρ (statusBy values universals) lev x
-      go (inl h) k e =
-          let v = val ∙ value-true ρ con x z h in
-          as-true (sym (is-true values universals x (natAbs x) refl (λ n. signed (sym v ∙ n)) (signOf x) refl v)) h
-      go (inr h) (inl k) e =
-          let v = value-false ρ con x z h k in
-          let (a, b) = assigned-none p ρ x (rw (h, k)) in
-          as-false (sym (is-false values universals x (natAbs x) refl (λ n. v .0 (sym val ∙ n)) (signOf x) refl (λ n. v .1 (sym val ∙ n)))) h a b
-      go (inr h) (inr k) (inl e) =
-          let v = val ∙ value-none ρ con x h k in
-          let (a, b) = unassigned-by p ρ x (rw (h, k)) in
-          let u : universal p x ≡ false = q ∙ ap not e in
-          let w : getD universals (natAbs x) 0 ≡ 0 = unis (natAbs x) ∙ (rw u) in
-          as-existential (sym (is-existential values universals x (natAbs x) refl v w)) h (a ∙ e) (b ∙ u)
-      go (inr h) (inr k) (inr e) =
-          let v = val ∙ value-none ρ con x h k in
-          let (a, b) = unassigned-by p ρ x (rw (h, k)) in
-          let u : universal p x ≡ true = q ∙ ap not e in
-          let w : getD universals (natAbs x) 0 ≡ 1 = unis (natAbs x) ∙ (rw u) in
-          as-universal (sym (is-universal values universals x (natAbs x) refl v (λ n. omega (arith, w, n)))) h (a ∙ e) (b ∙ u)
+  pub lowest-unit-means : (m : List (List ℤ)) → ((C : List ℤ) → In C m → AllMeant C) → lowestUnitBy st lev 0 m ≡ lowestUnit p ρ m
+  unfolding lowestUnit
+  lowest-unit-means m h = lowest-from 0 m h (λ c. candidate p ρ (getD m c [])) (λ i. let z : 0 + i ≡ i = omega arith in rw z)

@@ -7,3 +7,4 @@ pub mod Ready
 pub mod Tables
 pub mod Clauses
 pub mod ClausesMean
+pub mod ClausesReady

@@ -8,9 +8,6 @@ use Rattle.rules.specs.Clauses.{statusBy, conflictBy}
 use Rattle.rules.proofs.Conflict.{open-true, open-existential, closed, all-closed}
 use Rattle.rules.proofs.clauses.in_conflict.Statement.{statement}
 use Rattle.rules.proofs.clauses.in_conflict.Tie as tie
-use Rattle.rules.proofs.clauses.in_conflict.Reads as reads
-use Rattle.rules.proofs.clauses.in_conflict.Lts as lts
-use Rattle.rules.proofs.clauses.status_at.Reads as status-at-reads
 
 abbrev Inv-loop : tie.InvT-loop
 Inv-loop clause values universals i₀ i =

@@ -1,6 +1,6 @@
 -- The walk over the clauses; none of those passed is in conflict.
 use Prim.Native.Nat.{_-_}
-use mathlib.Core.Path.{_≡_, sym, _∙_}
+use mathlib.Core.Path.{sym, _∙_}
 use native.Mathlib.Omega.{arith}
 use lib.ListN.{length}
 use borrow.Author.Needs.{needs}
@@ -10,10 +10,6 @@ use Rattle.rules.proofs.Walk.{Turn, turn, placed-part, Walk, walk-start
 use Rattle.rules.proofs.Conflict.{lowest-hit, lowest-miss, lowest-none}
 use Rattle.rules.proofs.clauses.lowest_conflict.Statement.{statement}
 use Rattle.rules.proofs.clauses.lowest_conflict.Tie as tie
-use Rattle.rules.proofs.clauses.lowest_conflict.Reads as reads
-use Rattle.rules.proofs.clauses.lowest_conflict.Lts as lts
-use Rattle.rules.proofs.clauses.in_conflict.Reads as in-conflict-reads
-use Rattle.words.proofs.size_at.Reads as size-at-reads
 
 abbrev Inv-loop : tie.InvT-loop
 Inv-loop ends literals values universals from₀ c₀ from c =

@@ -1,23 +1,17 @@
 -- The walk over the clauses; none of those passed is a unit clause. In a clause, what is left of it decides with the look so far.
 use Prim.Native.Nat.{_≤_, _-_}
 use mathlib.Core.Path.{_≡_, refl, sym, _∙_, ap}
-use mathlib.Core.Bool.{Bool, true, false}
+use mathlib.Core.Bool.{false}
 use mathlib.Core.Logic.{⊎-elim}
 use native.Mathlib.Omega.{arith}
 use lib.ListN.{length, take, drop}
 use borrow.Author.Needs.{needs}
 use Rattle.rules.specs.Clauses.{places, statusBy, levelBy, unitFrom, unitAfter, lowestUnitBy}
 use Rattle.rules.specs.declared.UnitFound.the-variants.{On, NoUnit}
-use Rattle.rules.proofs.Walk.{Turn, turn, part-next, part-ended, Walk, walk-start, walk-on, walk-stop, walk-end}
+use Rattle.rules.proofs.Walk.{Turn, turn, Walk, walk-start, walk-on, walk-stop, walk-end}
 use Rattle.rules.proofs.Looks.{look-start, clause-unit, clause-none, clause-next, clause-over, unit-hit, unit-miss, unit-none}
 use Rattle.rules.proofs.clauses.lowest_unit.Statement.{statement}
 use Rattle.rules.proofs.clauses.lowest_unit.Tie as tie
-use Rattle.rules.proofs.clauses.lowest_unit.Reads as reads
-use Rattle.rules.proofs.clauses.lowest_unit.Lts as lts
-use Rattle.rules.proofs.clauses.Look.is_unit.Reads as is-unit-reads
-use Rattle.rules.proofs.clauses.Look.with.Reads as with-reads
-use Rattle.rules.proofs.variables.literal_at.Reads as literal-at-reads
-use Rattle.words.proofs.size_at.Reads as size-at-reads
 
 abbrev Inv-loop : tie.InvT-loop
 Inv-loop ends literals values universals levels found₀ from c end look₀ j₀ found look j =

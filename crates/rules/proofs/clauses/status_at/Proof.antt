@@ -1,24 +1,18 @@
 use native.Mathlib.Omega.{arith}
-use Rattle.formula.specs.Limits.{limits}
+use Rattle.formula.specs.Limits.{variables-are}
 use Rattle.rules.specs.Clauses.{is-existential, is-universal, is-true, is-false}
 use borrow.Author.Needs.{needs}
 use Rattle.rules.proofs.clauses.status_at.Statement.{statement}
 use Rattle.rules.proofs.clauses.status_at.Tie as tie
-use Rattle.rules.proofs.clauses.status_at.Reads as reads
-use Rattle.rules.proofs.clauses.status_at.Lts as lts
-use Rattle.rules.proofs.tables.sign_at.Reads as sign-at-reads
-use Rattle.words.proofs.size_at.Reads as size-at-reads
 
 size-at-requires : tie.Need-size-at-requires
 size-at-requires c κs = search needs
 
 element-copy-out-value : tie.Need-element-copy-out-value
-unfolding limits
-element-copy-out-value c = omega (arith, c .size-at .ensures, c .before .pre)
+element-copy-out-value c = omega (arith, variables-are, c .size-at .ensures, c .before .pre)
 
 element-copy-out-if2 : tie.Need-element-copy-out-if2
-unfolding limits
-element-copy-out-if2 c = omega (arith, c .before .before .size-at .ensures, c .before .before .before .pre)
+element-copy-out-if2 c = omega (arith, variables-are, c .before .before .size-at .ensures, c .before .before .before .pre)
 
 returns : tie.Need-returns
 returns c =

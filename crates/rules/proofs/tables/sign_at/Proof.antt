@@ -8,9 +8,6 @@ use Rattle.rules.specs.Tables.{signOf}
 use borrow.Author.Needs.{needs}
 use Rattle.rules.proofs.tables.sign_at.Statement.{statement}
 use Rattle.rules.proofs.tables.sign_at.Tie as tie
-use Rattle.rules.proofs.tables.sign_at.Reads as reads
-use Rattle.rules.proofs.tables.sign_at.Lts as lts
-use Rattle.words.proofs.negative_at.Reads as negative-at-reads
 
 minus : (x : ℤ) → negative x ≡ true → 2 ≡ signOf x
 minus (pos n) h = clash h refl

@@ -5,8 +5,6 @@ use Rattle.rules.specs.Due.{literal}
 use borrow.Author.Needs.{needs}
 use Rattle.rules.proofs.variables.literal_at.Statement.{statement}
 use Rattle.rules.proofs.variables.literal_at.Tie as tie
-use Rattle.rules.proofs.variables.literal_at.Reads as reads
-use Rattle.rules.proofs.variables.literal_at.Lts as lts
 
 mul-t6 : tie.Need-mul-t6
 mul-t6 c = search needs

@@ -1,15 +1,11 @@
 -- The three tests in turn; the literal's size is a place of the table of levels.
-use mathlib.Core.Path.{_≡_, sym}
 use native.Mathlib.Omega.{arith}
 use borrow.Author.Needs.{needs}
 use borrow.Author.Tests.{le-leb, lt-leb, lt-ltb, le-ltb}
-use Rattle.formula.specs.Limits.{limits}
+use Rattle.formula.specs.Limits.{variables-are}
 use Rattle.rules.specs.Clauses.{decidedBy}
 use Rattle.rules.proofs.clauses.Look.is_unit.Statement.{statement}
 use Rattle.rules.proofs.clauses.Look.is_unit.Tie as tie
-use Rattle.rules.proofs.clauses.Look.is_unit.Reads as reads
-use Rattle.rules.proofs.clauses.Look.is_unit.Lts as lts
-use Rattle.words.proofs.size_at.Reads as size-at-reads
 
 returns : tie.Need-returns
 unfolding decidedBy
@@ -23,12 +19,10 @@ size-at-requires : tie.Need-size-at-requires
 size-at-requires c κs = search needs
 
 mul-result : tie.Need-mul-result
-unfolding limits
-mul-result c = omega (arith, c .size-at .ensures, c .before .before .before .before .pre (c .before .before .before .before .args .self .place))
+mul-result c = omega (arith, variables-are, c .size-at .ensures, c .before .before .before .before .pre (c .before .before .before .before .args .self .place))
 
 element-copy-out-result : tie.Need-element-copy-out-result
-unfolding limits
-element-copy-out-result c = omega (arith, c .size-at .ensures, c .before .before .before .before .pre (c .before .before .before .before .args .self .place))
+element-copy-out-result c = omega (arith, variables-are, c .size-at .ensures, c .before .before .before .before .pre (c .before .before .before .before .args .self .place))
 
 returns-3 : tie.Need-returns-3
 unfolding decidedBy

@@ -4,16 +4,10 @@ use native.Mathlib.Omega.{arith}
 use lib.ListN.{getD}
 use borrow.Author.Needs.{needs}
 use borrow.Author.Tests.{not-true, not-false}
-use Rattle.formula.specs.Limits.{limits}
-use Rattle.rules.specs.Clauses.{statusBy, levelBy}
+use Rattle.formula.specs.Limits.{variables-are}
 use Rattle.rules.proofs.Looks.{with-false, with-true, with-first, with-same, with-other, with-universal}
 use Rattle.rules.proofs.clauses.Look.with.Statement.{statement}
 use Rattle.rules.proofs.clauses.Look.with.Tie as tie
-use Rattle.rules.proofs.clauses.Look.with.Reads as reads
-use Rattle.rules.proofs.clauses.Look.with.Lts as lts
-use Rattle.rules.proofs.clauses.same_at.Reads as same-at-reads
-use Rattle.rules.proofs.clauses.status_at.Reads as status-at-reads
-use Rattle.words.proofs.size_at.Reads as size-at-reads
 
 status-at-requires : tie.Need-status-at-requires
 status-at-requires c κs = c .pre .0 (c .args .j)
@@ -50,12 +44,10 @@ size-at-requires : tie.Need-size-at-requires
 size-at-requires c κs = search needs
 
 mul-level : tie.Need-mul-level
-unfolding limits
-mul-level c = omega (arith, c .size-at .ensures, c .before .before .before .before .before .pre .0 (c .before .before .before .before .before .args .j))
+mul-level c = omega (arith, variables-are, c .size-at .ensures, c .before .before .before .before .before .pre .0 (c .before .before .before .before .before .args .j))
 
 element-copy-out-level : tie.Need-element-copy-out-level
-unfolding limits
-element-copy-out-level c = omega (arith, c .size-at .ensures, c .before .before .before .before .before .pre .0 (c .before .before .before .before .before .args .j))
+element-copy-out-level c = omega (arith, variables-are, c .size-at .ensures, c .before .before .before .before .before .pre .0 (c .before .before .before .before .before .args .j))
 
 returns-6 : tie.Need-returns-6
 returns-6 c =
