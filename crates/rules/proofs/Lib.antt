@@ -17,3 +17,6 @@ pub mod Kept
 pub mod Places
 pub mod Exits
 pub mod Row12
+pub mod Looks
+pub mod Walk
+pub mod Conflict

@@ -1,7 +1,14 @@
 // The rules over checked input: which is due, and one rule applied.
-mod tables;
-mod variables;
+mod tables; // tables by variable
+mod variables; // the variables of the prefix
+mod clauses; // the clauses in conflict and the unit clauses
+mod buffers; // the record's two buffers
+mod record; // row 12
+mod applied; // one rule applied
 
+pub use applied::apply;
+pub use buffers::clear;
+pub use record::bad_record;
 use words::Literal;
 ghost use mathlib.Core.Path.{_≡_};
 ghost use lib.ListN.{take};
@@ -10,16 +17,6 @@ ghost use Rattle.theory.specs.Tests.{isOpen};
 ghost use Rattle.rules.specs.Due as due;
 ghost use Rattle.rules.specs.Preferred.{firstOpen};
 ghost use Rattle.rules.specs.Ready.{Held};
-
-mod tables; // tables by variable
-mod variables; // the variables of the prefix
-mod buffers; // the record's two buffers
-mod record; // row 12
-mod applied; // one rule applied
-
-pub use applied::apply;
-pub use buffers::clear;
-pub use record::bad_record;
 
 // The state of a search.
 pub enum State {
