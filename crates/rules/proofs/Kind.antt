@@ -2,7 +2,7 @@
 use mathlib.Core.Path.{_≡_, refl, sym, _∙_, ap}
 use mathlib.Core.Bool.{true, false}
 use mathlib.Core.List.{List}
-use Prim.Native.Nat.{ℕ, zero, suc, _+_, _≤_, _<_}
+use Prim.Native.Nat.{ℕ, _+_, _≤_, _<_}
 use native.Mathlib.Omega.{arith}
 use lib.IntN.{ℤ, pos, negsuc, negℤ, natAbs}
 use lib.ListN.{length, getD, drop}
@@ -14,18 +14,13 @@ use Rattle.rules.specs.Due.{pick}
 use Rattle.rules.specs.Apply.{kindOf}
 use Rattle.rules.specs.Ready.{Bound}
 use Rattle.rules.proofs.Lists.{other-word}
+use Rattle.rules.proofs.Universals.{plus-word}
 use Rattle.rules.proofs.Named.{named-at}
 
 -- ---- one word q of the prefix, against the universal word of the variable v
 word-minus : (q : ℤ) (v : ℕ) → natAbs q ≡ v → negative q ≡ true → eqZ (negℤ (pos v)) q ≡ true
 word-minus (pos n) v e g = clash g refl
 word-minus (negsuc n) v e g = rw (← e) (eqZ-refl (negsuc n))
-
-word-plus : (q : ℤ) (v : ℕ) → 0 < natAbs q → natAbs q ≡ v → negative q ≡ false → eqZ (negℤ (pos v)) q ≡ false
-unfolding eqZ
-word-plus (pos zero) v h e g = absurd (omega arith)
-word-plus (pos (suc n)) v h e g = rw (← e)
-word-plus (negsuc n) v h e g = clash refl g
 
 word-other : (q : ℤ) (v : ℕ) → (natAbs q ≡ v → ⊥) → eqZ (negℤ (pos v)) q ≡ false
 word-other q v k = other-word (negℤ (pos v)) q (λ e. k (sym e ∙ natAbs-neg (pos v)))
@@ -64,5 +59,5 @@ module _ (p : List ℤ) (v i : ℕ) (k : Looking p v i) (h : i < length p) where
   pub looking-other : (natAbs (getD p i (pos 0)) ≡ v → ⊥) → Looking p v (i + 1)
   looking-other o = past (word-other (getD p i (pos 0)) v o)
 
-  pub looking-plus : Bound p → natAbs (getD p i (pos 0)) ≡ v → negative (getD p i (pos 0)) ≡ false → Looking p v (i + 1)
-  looking-plus b e g = past (word-plus (getD p i (pos 0)) v (named-at (length p) p (b .named) i h .from) e g)
+  pub looking-plus : Bound p → negative (getD p i (pos 0)) ≡ false → Looking p v (i + 1)
+  looking-plus b g = past (plus-word (getD p i (pos 0)) (named-at (length p) p (b .named) i h .from) g v)

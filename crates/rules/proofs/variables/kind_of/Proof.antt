@@ -53,7 +53,7 @@ loop-again c =
     let turn = sized .before in
     let start = turn .before .before .before .before in
     ⊎-elim
-    (λ w. looking-plus _ _ _ (turn .before .loop .inv) (turn .loop-test .taken) (start .pre) (sym (sized .size-at .ensures) ∙ w .0 .taken) (sym (w .1 .ensures) ∙ w .2 .left))
+    (λ w. looking-plus _ _ _ (turn .before .loop .inv) (turn .loop-test .taken) (start .pre) (sym (w .1 .ensures) ∙ w .2 .left))
     (λ w. looking-other _ _ _ (turn .before .loop .inv) (turn .loop-test .taken) (λ e. w .left (sized .size-at .ensures ∙ e)))
     (c .if1 .came)
 
