@@ -1,3 +1,4 @@
+-- By the word's sign.
 use mathlib.Core.Path.{_≡_, refl, sym, _∙_}
 use mathlib.Core.Bool.{true, false}
 use lib.IntN.{ℤ, pos, negsuc}

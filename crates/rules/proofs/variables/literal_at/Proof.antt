@@ -1,3 +1,4 @@
+-- Within the list it is the element read; past the end `getD` gives its default, 0.
 use mathlib.Core.Path.{sym, ap}
 use lib.IntN.{pos}
 use lib.ListN.{List·getD-eq-default}
