@@ -14,7 +14,8 @@ use Rattle.words.specs.Bools.{clash, and-l, and-r}
 use Rattle.words.specs.Words.{negative, eqZ}
 use Rattle.formula.specs.Limits.{variables-are}
 use Rattle.rules.specs.Due.{pick, literal}
-use Rattle.rules.specs.Clauses.{places, levelBy, staysUnit, unitFrom, unitAfter, decidedBy, lowestUnitBy}
+use Rattle.rules.specs.Clauses.{places, levelBy, staysUnit, unitFrom, unitAfter, unitWith, Shown, decidedBy, lowestUnitBy}
+use Rattle.rules.specs.declared.clauses.Look.{Look}
 use Rattle.rules.specs.declared.Picked.{Picked}
 use Rattle.rules.specs.declared.Picked.the-variants.{Is, NoLiteral}
 use Rattle.rules.specs.declared.UnitFound.the-variants.{On, NoUnit}
@@ -76,47 +77,45 @@ module _ (st lev : ℤ → ℕ) (ls : List ℤ) (end place above : ℕ) (x : ℤ
     with-universal false n e = rw (above-two (st x) a b c .1, e)
 
 -- at the clause's end
-module _ (st : ℤ → ℕ) (levels : List ℕ) (ls : List ℤ) (j end place above : ℕ) where
+module _ (st : ℤ → ℕ) (levels : List ℕ) (ls : List ℤ) (j end : ℕ) (k : Look) where
   abbrev below : Bool
-  below = ltb (levelBy levels (getD ls place (pos 0))) above
+  below = ltb (levelBy levels (getD ls (k .place) (pos 0))) (k .above)
 
-  decided : decidedBy levels ls j end place above ≡ true → (end ≤ j) × (unitAfter st (levelBy levels) ls end place above false [] ≡ Is (literal (getD ls place (pos 0))))
+  decided : decidedBy levels ls j end k ≡ true → (end ≤ j) × (unitAfter st (levelBy levels) ls end (k .place) (k .above) false [] ≡ Is (literal (getD ls (k .place) (pos 0))))
   unfolding unitAfter staysUnit unitFrom decidedBy
   decided h =
-      let r = and-r (leb end j) (ltb place end && below) h in (
-        leb-true end j (and-l (leb end j) (ltb place end && below) h),
-        rw (and-l (ltb place end) below r, and-r (ltb place end) below r),
+      let r = and-r (leb end j) (ltb (k .place) end && below) h in (
+        leb-true end j (and-l (leb end j) (ltb (k .place) end && below) h),
+        rw (and-l (ltb (k .place) end) below r, and-r (ltb (k .place) end) below r),
       )
 
-  not-decided : end ≤ j → decidedBy levels ls j end place above ≡ false → unitAfter st (levelBy levels) ls end place above false [] ≡ NoLiteral
+  not-decided : end ≤ j → decidedBy levels ls j end k ≡ false → unitAfter st (levelBy levels) ls end (k .place) (k .above) false [] ≡ NoLiteral
   unfolding unitAfter staysUnit unitFrom decidedBy
-  not-decided l h = go (ltb place end) below (rw (le-leb end j l) at h)
+  not-decided l h = go (ltb (k .place) end) below (rw (le-leb end j l) at h)
     where
-      go : (a b : Bool) → (a && b) ≡ false → pick a (pick b (Is (literal (getD ls place (pos 0)))) NoLiteral) NoLiteral ≡ NoLiteral
+      go : (a b : Bool) → (a && b) ≡ false → pick a (pick b (Is (literal (getD ls (k .place) (pos 0)))) NoLiteral) NoLiteral ≡ NoLiteral
       go true true h = clash refl h
       go true false h = refl
       go false b h = refl
 
   -- what is left of the clause from j on decides, with the look so far
-  module _ {u : Picked} {over : Bool} (o : over ≡ false) (e : unitAfter st (levelBy levels) ls end place above over (take (end - j) (drop j ls)) ≡ u) where
-    at-end : end ≤ j → unitAfter st (levelBy levels) ls end place above false [] ≡ u
+  module _ {u : Picked} (o : k .over ≡ false) (e : unitWith st (levelBy levels) ls end k (take (end - j) (drop j ls)) ≡ u) where
+    at-end : end ≤ j → unitAfter st (levelBy levels) ls end (k .place) (k .above) false [] ≡ u
     at-end l = rw (part-ended ls j end l, o) at e
 
-    pub clause-unit : decidedBy levels ls j end place above ≡ true → u ≡ Is (literal (getD ls place (pos 0)))
+    pub clause-unit : decidedBy levels ls j end k ≡ true → u ≡ Is (literal (getD ls (k .place) (pos 0)))
     clause-unit h = sym (at-end (decided h .0)) ∙ decided h .1
 
-    pub clause-none : end ≤ j → decidedBy levels ls j end place above ≡ false → u ≡ NoLiteral
+    pub clause-none : end ≤ j → decidedBy levels ls j end k ≡ false → u ≡ NoLiteral
     clause-none l h = sym (at-end l) ∙ not-decided l h
 
 -- one literal more, and the look that it leaves
-module _ (st lev : ℤ → ℕ) (ls : List ℤ) (j end place above : ℕ) (over : Bool) (place′ above′ : ℕ) (over′ : Bool) {u : Picked}
-    (h : j < end) (l : end ≤ length ls)
-    (n : (C : List ℤ) → unitAfter st lev ls end place′ above′ over′ C ≡ unitAfter st lev ls end place above over (getD ls j (pos 0) ∷ C))
-    (e : unitAfter st lev ls end place above over (take (end - j) (drop j ls)) ≡ u) where
-  pub clause-next : unitAfter st lev ls end place′ above′ over′ (take (end - (j + 1)) (drop (j + 1) ls)) ≡ u
+module _ (st lev : ℤ → ℕ) (ls : List ℤ) (j end : ℕ) (k k′ : Look) {u : Picked} (h : j < end) (l : end ≤ length ls)
+    (n : Shown st lev ls end k (getD ls j (pos 0)) k′) (e : unitWith st lev ls end k (take (end - j) (drop j ls)) ≡ u) where
+  pub clause-next : unitWith st lev ls end k′ (take (end - (j + 1)) (drop (j + 1) ls)) ≡ u
   clause-next = n _ ∙ (rw (part-next ls j end h l) at e)
 
-  pub clause-over : over′ ≡ true → u ≡ NoLiteral
+  pub clause-over : k′ .over ≡ true → u ≡ NoLiteral
   unfolding unitAfter
   clause-over o = sym clause-next ∙ (rw o)
 

@@ -12,6 +12,7 @@ use Rattle.formula.specs.Limits.{limits}
 use Rattle.formula.specs.Block.{badEnds}
 use Rattle.rules.specs.Due.{pick, onPicked, literal}
 use Rattle.rules.specs.Tables.{signOf}
+use Rattle.rules.specs.declared.clauses.Look.{Look}
 use Rattle.rules.specs.declared.Picked.{Picked}
 use Rattle.rules.specs.declared.Picked.the-variants.{Is, NoLiteral}
 use Rattle.rules.specs.declared.UnitFound.{UnitFound}
@@ -52,10 +53,11 @@ unfoldable pub conflictBy : (ℤ → ℕ) → List ℤ → Bool
 conflictBy st [] = true
 conflictBy st (x ∷ C) = byStatus (st x) (conflictBy st C) false false (conflictBy st C)
 
--- by the literals' status and level
+-- by the literals' status and level. `above` is the lowest level of the unassigned universal literals so far, more than any level if there is
+-- none
 module _ (st lev : ℤ → ℕ) where
-  -- what is left of a clause, after the unassigned existential literal l and unassigned universal literals down to the level `above`, makes
-  -- no other existential literal of it, and l's level is lower than every universal one's
+  -- a clause whose one unassigned existential literal so far is l stays a unit clause to its end: no literal of the rest is true, no other
+  -- one is existential, and all universal ones are at a higher level than l
   unfoldable pub staysUnit : ℤ → ℕ → List ℤ → Bool
   staysUnit l above [] = ltb (lev l) above
   staysUnit l above (x ∷ C) =
@@ -65,7 +67,7 @@ module _ (st lev : ℤ → ℕ) where
       (eqZ x l && staysUnit l above C)
       (staysUnit l (min above (lev x)) C)
 
-  -- the literal of a unit clause, after unassigned universal literals down to the level `above`
+  -- the literal of a unit clause that has no unassigned existential literal so far
   unfoldable pub unitFrom : ℕ → List ℤ → Picked
   unitFrom above [] = NoLiteral
   unitFrom above (x ∷ C) =
@@ -80,7 +82,7 @@ module _ (st lev : ℤ → ℕ) where
   lowestUnitBy n [] = NoUnit
   lowestUnitBy n (C ∷ m) = onPicked (unitFrom places C) (λ l. On l n) (lowestUnitBy (suc n) m)
 
-  -- the same with the look that the code keeps: the place of the existential literal among the words, `end` while there is none
+  -- what the code's look at a clause that ends at `end` makes of the clause's rest
   unfoldable pub unitAfter : List ℤ → ℕ → ℕ → ℕ → Bool → List ℤ → Picked
   unitAfter ls end place above true C = NoLiteral
   unitAfter ls end place above false C =
@@ -88,9 +90,16 @@ module _ (st lev : ℤ → ℕ) where
       (pick (staysUnit (getD ls place (pos 0)) above C) (Is (literal (getD ls place (pos 0)))) NoLiteral)
       (unitFrom above C)
 
--- every literal up to the clause's end is seen, there is an existential one, and its level is lower than `above`
-unfoldable pub decidedBy : List ℕ → List ℤ → ℕ → ℕ → ℕ → ℕ → Bool
-decidedBy levels ls j end place above = leb end j && (ltb place end && ltb (levelBy levels (getD ls place (pos 0))) above)
+  abbrev pub unitWith : List ℤ → ℕ → Look → List ℤ → Picked
+  unitWith ls end k C = unitAfter ls end (k .place) (k .above) (k .over) C
+
+  -- the look k′ is the look k after one literal more
+  abbrev pub Shown : List ℤ → ℕ → Look → ℤ → Look → Type 0
+  Shown ls end k x k′ = (C : List ℤ) → unitWith ls end k′ C ≡ unitWith ls end k (x ∷ C)
+
+-- at j every literal of the clause is seen, and there is an existential one, of a lower level than the universal ones
+unfoldable pub decidedBy : List ℕ → List ℤ → ℕ → ℕ → Look → Bool
+decidedBy levels ls j end k = leb end j && (ltb (k .place) end && ltb (levelBy levels (getD ls (k .place) (pos 0))) (k .above))
 
 -- ---- laws of the status: what each of its tests leaves. v is the variable of x
 module _ (values universals : List ℕ) (x : ℤ) (v : ℕ) (e : v ≡ natAbs x) where

@@ -17,7 +17,7 @@ use Rattle.formula.specs.Limits.{limits}
 use Rattle.formula.specs.Formula.{existential, universal, change, levelOf, level, clausesFrom}
 use Rattle.formula.specs.Block.{twice}
 use Rattle.formula.specs.Named.{Named, in-named}
-use Rattle.formula.specs.Prefix.{once-in, all-bound, quantifier}
+use Rattle.formula.specs.Permuted.{once-in, all-bound, quantifier}
 use Rattle.formula.specs.Clauses.{clauses-in}
 use Rattle.theory.specs.Record.{Assignment, among, assigned}
 use Rattle.theory.specs.Tests.{unassignedE, unassignedU, inConflict}

@@ -5,15 +5,14 @@ use crate::tables::PLACES;
 use crate::tables::sign_at;
 use crate::variables::literal_at;
 ghost use mathlib.Core.Path.{_≡_};
-ghost use mathlib.Core.List.{List, _∷_};
 ghost use Prim.Native.Nat.{_≤_, _<_};
-ghost use lib.IntN.{ℤ, pos, natAbs};
+ghost use lib.IntN.{pos, natAbs};
 ghost use lib.ListN.{getD};
 ghost use Rattle.words.specs.Words.{eqZ};
 ghost use Rattle.formula.specs.Limits.{limits};
 ghost use Rattle.formula.specs.Formula.{clausesFrom};
 ghost use Rattle.rules.specs.Due.{lowest};
-ghost use Rattle.rules.specs.Clauses.{Placed, Clauses, statusBy, levelBy, conflictBy, unitAfter, decidedBy, lowestUnitBy};
+ghost use Rattle.rules.specs.Clauses.{Placed, Clauses, statusBy, levelBy, conflictBy, Shown, decidedBy, lowestUnitBy};
 
 // What a literal is to its clause: 0 false, 1 true, 2 unassigned existential, 3 unassigned universal.
 fn status_at(ws: &[i32], i: usize, values: &[u8; PLACES], universals: &[u8; PLACES]) -> u8
@@ -103,7 +102,7 @@ impl Look {
     ) -> Look
         requires { ⌜ Placed (now literals) ⌝ }
         requires { ⌜ j < end ⌝ }
-        ensures { λ r. ⌜ ((C : List ℤ) → unitAfter (statusBy (now (values .entry)) (now (universals .entry))) (levelBy (now (levels .entry))) (now (literals .entry)) end (r .place) (r .above) (r .over) C ≡ unitAfter (statusBy (now (values .entry)) (now (universals .entry))) (levelBy (now (levels .entry))) (now (literals .entry)) end (self .place) (self .above) (self .over) (getD (now (literals .entry)) j (pos 0) ∷ C)) ⌝ }
+        ensures { λ r. ⌜ Shown (statusBy (now (values .entry)) (now (universals .entry))) (levelBy (now (levels .entry))) (now (literals .entry)) end self (getD (now (literals .entry)) j (pos 0)) r ⌝ }
     {
         let status = status_at(literals, j, values, universals);
         if status == 0 {
@@ -131,7 +130,7 @@ impl Look {
     // Whether all the literals up to the clause's end were seen and it is a unit clause.
     fn is_unit(self, literals: &[i32], j: usize, end: usize, levels: &[usize; PLACES]) -> bool
         requires { ⌜ Placed (now literals) ⌝ }
-        ensures { λ r. ⌜ r ≡ decidedBy (now (levels .entry)) (now (literals .entry)) j end (self .place) (self .above) ⌝ }
+        ensures { λ r. ⌜ r ≡ decidedBy (now (levels .entry)) (now (literals .entry)) j end self ⌝ }
     {
         if j < end {
             return false;

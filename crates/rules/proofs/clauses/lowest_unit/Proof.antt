@@ -6,7 +6,7 @@ use mathlib.Core.Logic.{⊎-elim}
 use native.Mathlib.Omega.{arith}
 use lib.ListN.{length, take, drop}
 use borrow.Author.Needs.{needs}
-use Rattle.rules.specs.Clauses.{places, statusBy, levelBy, unitFrom, unitAfter, lowestUnitBy}
+use Rattle.rules.specs.Clauses.{places, statusBy, levelBy, unitFrom, unitWith, lowestUnitBy}
 use Rattle.rules.specs.declared.UnitFound.the-variants.{On, NoUnit}
 use Rattle.rules.proofs.Walk.{Turn, turn, Walk, walk-start, walk-on, walk-stop, walk-end}
 use Rattle.rules.proofs.Looks.{look-start, clause-unit, clause-none, clause-next, clause-over, unit-hit, unit-miss, unit-none}
@@ -18,7 +18,7 @@ Inv-loop ends literals values universals levels found₀ from c end look₀ j₀
     (found ≡ found₀)
     × (j ≤ end)
     × (look .over ≡ false)
-    × (unitAfter (statusBy values universals) (levelBy levels) literals end (look .place) (look .above) (look .over) (take (end - j) (drop j literals))
+    × (unitWith (statusBy values universals) (levelBy levels) literals end look (take (end - j) (drop j literals))
     ≡ unitFrom (statusBy values universals) (levelBy levels) places (take (end - from) (drop from literals)))
 
 abbrev μ-loop : tie.MeasureT-loop
@@ -67,7 +67,7 @@ loop-again c =
       l .inv .0,
       omega (arith, c .before .before .if2 .left),
       c .if3 .left,
-      clause-next _ _ _ (l .j) _ _ _ _ _ _ _ (c .before .before .if2 .left) (t .stops) (c .before .with .ensures) (l .inv .3),
+      clause-next _ _ _ (l .j) _ (l .look) _ (c .before .before .if2 .left) (t .stops) (c .before .with .ensures) (l .inv .3),
     )
 
 add-c : tie.Need-add-c Inv-loop μ-loop Inv-search μ-search
@@ -84,8 +84,8 @@ search-again c =
       l .inv .0 ∙ s .inv .0,
       walk-on _ _ _ _ _ _ (s .inv .1) t (unit-miss _ _ _ _ _
           (⊎-elim
-          (λ w. clause-none _ _ _ (l .j) _ _ _ (l .inv .2) (l .inv .3) (w .taken) (sym (c .before .before .is-unit .ensures) ∙ c .before .if1 .left))
-          (λ w. clause-over _ _ _ (l .j) _ _ _ _ _ _ _ (w .0 .left) (t .stops) (w .1 .ensures) (l .inv .3) (w .2 .taken))
+          (λ w. clause-none _ _ _ (l .j) _ (l .look) (l .inv .2) (l .inv .3) (w .taken) (sym (c .before .before .is-unit .ensures) ∙ c .before .if1 .left))
+          (λ w. clause-over _ _ _ (l .j) _ (l .look) _ (w .0 .left) (t .stops) (w .1 .ensures) (l .inv .3) (w .2 .taken))
           (c .if2 .came))),
     )
 
@@ -97,7 +97,7 @@ returns-2 c =
     let l = c .before .before .before .loop in
     let s = c .before .before .before .before .before .before .search in
     let t = this (c .before .before .before .before) in
-    let k = clause-unit _ _ _ (l .j) _ _ _ (l .inv .2) (l .inv .3) (sym (c .before .before .is-unit .ensures) ∙ c .before .if1 .taken) in
+    let k = clause-unit _ _ _ (l .j) _ (l .look) (l .inv .2) (l .inv .3) (sym (c .before .before .is-unit .ensures) ∙ c .before .if1 .taken) in
     ap (λ x. On x (s .c)) (c .literal-at .ensures) ∙ sym (unit-hit _ _ _ _ _ k) ∙ walk-stop _ _ _ _ _ _ (s .inv .1) t
 
 pub lowest-unit-spec : {M : Type 1} → statement M

@@ -1,3 +1,4 @@
+-- One law for each return; a word's size is a place of the tables.
 use native.Mathlib.Omega.{arith}
 use Rattle.formula.specs.Limits.{variables-are}
 use Rattle.rules.specs.Clauses.{is-existential, is-universal, is-true, is-false}
