@@ -20,3 +20,4 @@ pub mod Row12
 pub mod Looks
 pub mod Walk
 pub mod Conflict
+pub mod Ways

@@ -15,3 +15,4 @@ pub mod Written
 pub mod Clauses
 pub mod ClausesMean
 pub mod ClausesReady
+pub mod Told

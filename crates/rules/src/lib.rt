@@ -4,10 +4,12 @@ mod variables; // the variables of the prefix
 mod clauses; // the clauses in conflict and the unit clauses
 mod buffers; // the record's two buffers
 mod record; // row 12
+mod ordered; // the due rule
 mod applied; // one rule applied
 
 pub use applied::apply;
 pub use buffers::clear;
+pub use ordered::due;
 pub use record::bad_record;
 use words::Literal;
 ghost use mathlib.Core.Path.{_≡_};
