@@ -6,7 +6,8 @@ pub mod Values
 pub mod Universals
 pub mod Signs
 pub mod Levels
-pub mod KindOf
+pub mod Bound
+pub mod Kind
 pub mod Places
 pub mod Exits
 pub mod Row12
