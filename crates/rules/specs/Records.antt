@@ -236,7 +236,7 @@ module _ (p ls : List ℤ) (ks : List ℕ) (n : ℕ) where
   unfolding badRecord badEntries
   good-passes g = rw (le-ltb (length p) n (g .few), g .named, g .once, g .kinds)
 
-in-literals : {e : Entry} {r : Record} → In e r → In (e .literal) (literals r)
+pub in-literals : {e : Entry} {r : Record} → In e r → In (e .literal) (literals r)
 unfolding literals
 in-literals (here e) = here (ap (λ x. x .literal) e)
 in-literals (there i) = there (in-literals i)

@@ -1,5 +1,5 @@
 -- The last kind 1 entry, or none, picks the case.
-use mathlib.Core.Path.{_≡_, refl, sym, _∙_}
+use mathlib.Core.Path.{_∙_}
 use Rattle.rules.proofs.Ways as out
 use borrow.Author.Needs.{needs}
 use Rattle.rules.proofs.ordered.due_conflict.Statement.{statement}

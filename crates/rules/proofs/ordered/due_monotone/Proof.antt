@@ -1,6 +1,7 @@
 -- The first monotone variable, or none, picks the case; the table of signs is that of all clauses.
-use mathlib.Core.Path.{_≡_, refl, sym, _∙_}
 use Rattle.rules.proofs.Kept.{ready-named, ready-spread}
+use denote.Ref.{now}
+use Rattle.formula.specs.Formula.{clausesFrom}
 use Rattle.rules.proofs.Ways as out
 use borrow.Author.Needs.{needs}
 use Rattle.rules.proofs.ordered.due_monotone.Statement.{statement}
@@ -25,7 +26,7 @@ returns : tie.Need-returns
 returns c = λ r told. out.monotone _ r (c .before .before .before .first-monotone .ensures _ _ _ (told .values) (c .before .before .before .before .before .signs-of .ensures) (ready-spread _ _ _ (c .before .before .before .before .before .before .before .pre .0))) (c .before .literal .given .1)
 
 returns-2 : tie.Need-returns-2
-returns-2 c = λ r told. out.no-monotone _ r (c .before .before .before .first-monotone .ensures _ _ _ (told .values) (c .before .before .before .before .before .signs-of .ensures) (ready-spread _ _ _ (c .before .before .before .before .before .before .before .pre .0))) (c .before .enum-told .given .1) (c .due-decide .ensures _ r told)
+returns-2 c = λ r told. out.no-monotone _ r (c .before .before .before .first-monotone .ensures _ _ _ (told .values) (c .before .before .before .before .before .signs-of .ensures) (ready-spread _ _ _ (c .before .before .before .before .before .before .before .pre .0))) (c .before .enum-told .given .1) (c .due-decide .ensures (clausesFrom (now (c .before .before .before .before .before .before .before .args .literals)) 0 (now (c .before .before .before .before .before .before .before .args .ends))) r told)
 
 pub due-monotone-spec : {M : Type 1} → statement M
 due-monotone-spec =
