@@ -1,0 +1,4 @@
+-- The listing of openings: what an opening is, and what a page answers and leaves, for every input.
+pub mod Opening
+pub mod Page
+pub mod Cases

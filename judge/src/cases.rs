@@ -1,0 +1,217 @@
+//! Document 01's formulas worked by hand, as blocks, and the cases of the check:
+//! for each row blocks that only this row refuses, and for each two neighbouring
+//! rows a block that breaks both.
+
+use crate::block::lay_out;
+
+/// A block with the number that its check must give.
+pub struct Case {
+    pub name: String,
+    pub block: Vec<i32>,
+    pub number: u8,
+}
+
+/// "source example 1, a d b c as 1 2 3 4".
+pub const A: [i32; 28] = [
+    4, 5, 13, 6, 10, 15, 1, -2, 3, 4, 3, 5, 7, 10, 13, -1, -2, 3, -2, -3, 3, 4, 1, -2, -4, 2, 3, -4,
+];
+
+/// "0 0 0 6 6 6: Valid, 1 step."
+pub const E: [i32; 6] = [0, 0, 0, 6, 6, 6];
+
+/// "0 1 0 6 6 7 0: Unsat, 1 step."
+pub const F: [i32; 7] = [0, 1, 0, 6, 6, 7, 0];
+
+/// The block of the listing's cases G and H.
+pub const G: [i32; 19] = [4, 3, 6, 6, 10, 13, 1, 2, -3, 4, 2, 4, 6, 1, 2, -3, 4, 3, -4];
+
+/// "prefix -1 2, clauses {2,-1} {-2,1}".
+pub fn b() -> Vec<i32> {
+    lay_out(&[-1, 2], &[vec![2, -1], vec![-2, 1]])
+}
+
+/// "the same clauses, prefix 1 -2".
+pub fn c() -> Vec<i32> {
+    lay_out(&[1, -2], &[vec![2, -1], vec![-2, 1]])
+}
+
+/// "prefix 1 -2 3, clauses {1,-2} {-1,2}".
+pub fn d() -> Vec<i32> {
+    lay_out(&[1, -2, 3], &[vec![1, -2], vec![-1, 2]])
+}
+
+/// "prefix -1 2, clauses {2,1} {-2,-1}".
+pub fn i() -> Vec<i32> {
+    lay_out(&[-1, 2], &[vec![2, 1], vec![-2, -1]])
+}
+
+/// "prefix -1 2, clause {1}".
+pub fn j() -> Vec<i32> {
+    lay_out(&[-1, 2], &[vec![1]])
+}
+
+/// "word -2147483648 as a clause literal".
+pub fn l() -> Vec<i32> {
+    lay_out(&[1], &[vec![1], vec![i32::MIN]])
+}
+
+/// A block with these counts that is right in all else: the variables in turn,
+/// all positive, spread evenly over the clauses.
+pub fn of_counts(v: usize, c: usize, t: usize) -> Vec<i32> {
+    let prefix: Vec<i32> = (1..=v as i32).collect();
+    let mut clauses = vec![Vec::new(); c];
+    for word in 0..t {
+        clauses[(word * c / t).min(c - 1)].push((word % v) as i32 + 1);
+    }
+    lay_out(&prefix, &clauses)
+}
+
+/// All cases of the check, in the order in which they are written out.
+pub fn check_cases() -> Vec<Case> {
+    let mut cases = by_hand();
+    cases.extend(at_the_limits());
+    cases.extend(accepted());
+    cases.extend(alone().into_iter().map(|(row, block)| Case {
+        name: format!("only row {row} refuses"),
+        block,
+        number: row,
+    }));
+    cases.extend(neighbours().into_iter().map(|(row, block)| Case {
+        name: format!("rows {row} and {} both refuse", row + 1),
+        block,
+        number: row,
+    }));
+    cases
+}
+
+fn case(name: &str, number: u8, block: &[i32]) -> Case {
+    Case {
+        name: name.to_string(),
+        block: block.to_vec(),
+        number,
+    }
+}
+
+fn by_hand() -> Vec<Case> {
+    vec![
+        case("A", 0, &A),
+        case("B", 0, &b()),
+        case("C", 7, &c()),
+        case("D", 0, &d()),
+        case("E", 0, &E),
+        case("F", 0, &F),
+        case("G", 0, &G),
+        case("I", 0, &i()),
+        case("J", 0, &j()),
+        case("L", 9, &l()),
+    ]
+}
+
+/// "V 256, C 1,024, T 4,096 pass check 2; one more of each gives 2."
+fn at_the_limits() -> Vec<Case> {
+    vec![
+        case(
+            "M: all three at their limits",
+            0,
+            &of_counts(256, 1024, 4096),
+        ),
+        case("M: V 257", 2, &of_counts(257, 1024, 4096)),
+        case("M: C 1025", 2, &of_counts(256, 1025, 4096)),
+        case("M: T 4097", 2, &of_counts(256, 1024, 4097)),
+        case("M: V 256 alone", 0, &of_counts(256, 1, 1)),
+        case("M: C 1024 alone", 0, &of_counts(1, 1024, 1)),
+        case("M: T 4096 alone", 0, &of_counts(1, 1, 4096)),
+        case("M: V 257 alone", 2, &of_counts(257, 1, 1)),
+        case("M: C 1025 alone", 2, &of_counts(1, 1025, 1)),
+        case("M: T 4097 alone", 2, &of_counts(1, 1, 4097)),
+    ]
+}
+
+/// What comes near to a refusal and gets none.
+fn accepted() -> Vec<Case> {
+    let both = lay_out(&[1], &[vec![1], vec![-1]]);
+    let again = lay_out(&[2, -1, 3], &[vec![-1, 3, -1, 3, 3]]);
+    let empty = lay_out(&[1], &[vec![], vec![1], vec![], vec![]]);
+    vec![
+        case("both signs, in two clauses", 0, &both),
+        case("a literal repeated in its clause", 0, &again),
+        case("clauses without literals", 0, &empty),
+        case("no clauses", 0, &lay_out(&[-2, 1], &[])),
+    ]
+}
+
+/// Blocks that only the named row refuses.
+pub fn alone() -> Vec<(u8, Vec<i32>)> {
+    let mut cases = alone_in_header();
+    cases.extend(alone_in_prefix());
+    cases.extend(alone_in_clauses());
+    cases
+}
+
+fn alone_in_header() -> Vec<(u8, Vec<i32>)> {
+    vec![
+        (1, vec![]),
+        (1, vec![0, 0]),
+        (2, lay_out(&(1..=257).collect::<Vec<i32>>(), &[])),
+        (2, vec![-1, 1, 0, 6, 5, 6]),
+        (2, vec![1, -1, 0, 6, 7, 6]),
+        (2, vec![0, 1, -1, 6, 6, 7]),
+        (3, vec![0, 0, 0, 7, 6, 6]),
+        (3, vec![1, 0, 0, 6, 6, 7, 1]),
+        (3, vec![0, 0, 0, 6, 6, 7]),
+        (3, vec![1, 1, 1, i32::MIN, i32::MIN, i32::MIN, 1, 1, 1]),
+        (4, vec![0, 0, 0, 6, 6, 6, 0]),
+        (4, vec![1, 1, 1, 6, 7, 8, 1, 1]),
+        (4, vec![256, 1024, 4096, 6, 262, 1286]),
+    ]
+}
+
+fn alone_in_prefix() -> Vec<(u8, Vec<i32>)> {
+    vec![
+        (5, lay_out(&[0], &[])),
+        (5, lay_out(&[2], &[])),
+        (5, lay_out(&[-3, 1], &[])),
+        (5, lay_out(&[i32::MIN, 1], &[])),
+        (5, lay_out(&[i32::MAX, 1], &[])),
+        (6, lay_out(&[1, 1], &[])),
+        (6, lay_out(&[-2, 2], &[vec![2]])),
+        (6, lay_out(&[3, -1, 3], &[])),
+        (7, lay_out(&[-1], &[])),
+        (7, lay_out(&[1, -2], &[vec![1, -2]])),
+    ]
+}
+
+fn alone_in_clauses() -> Vec<(u8, Vec<i32>)> {
+    vec![
+        (8, vec![1, 2, 1, 6, 7, 9, 1, -1, 1, 1]),
+        (8, vec![1, 3, 1, 6, 7, 10, 1, 1, 0, 1, 1]),
+        (8, vec![1, 2, 1, 6, 7, 9, 1, 2, 1, 1]),
+        (8, vec![1, 1, 1, 6, 7, 8, 1, 2, 1]),
+        (8, vec![1, 1, 1, 6, 7, 8, 1, 0, 1]),
+        (8, vec![1, 0, 1, 6, 7, 7, 1, 1]),
+        (8, vec![1, 2, 1, 6, 7, 9, 1, i32::MIN, 1, 1]),
+        (9, lay_out(&[1], &[vec![0]])),
+        (9, lay_out(&[1], &[vec![1], vec![2]])),
+        (9, lay_out(&[1], &[vec![-2]])),
+        (9, lay_out(&[1], &[vec![i32::MIN]])),
+        (9, lay_out(&[], &[vec![1]])),
+        (10, lay_out(&[1], &[vec![1, -1]])),
+        (10, lay_out(&[2, -3, 1], &[vec![1], vec![-3, 2, 3]])),
+        (10, lay_out(&[1, 2], &[vec![-2, -1, -2, 2]])),
+    ]
+}
+
+/// For each two neighbouring rows, by the lower one, a block that breaks both.
+pub fn neighbours() -> Vec<(u8, Vec<i32>)> {
+    vec![
+        (1, vec![-1]),
+        (2, vec![257, 0, 0, 6, 6, 6]),
+        (3, vec![0, 0, 0, 6, 6, 7, 0]),
+        (4, vec![1, 0, 0, 6, 7, 7, 0, 9]),
+        (5, lay_out(&[1, 1, 0], &[])),
+        (6, lay_out(&[1, -1], &[])),
+        (7, vec![1, 0, 1, 6, 7, 7, -1, 1]),
+        (8, vec![1, 0, 1, 6, 7, 7, 1, 0]),
+        (9, lay_out(&[1], &[vec![0, 1, -1]])),
+    ]
+}

@@ -1,0 +1,19 @@
+//! The judge: an independent reading of the solver's scope (document 01), to
+//! compare answers with. It shares nothing with the solver.
+
+pub mod block;
+pub mod cases;
+pub mod console;
+pub mod damage;
+pub mod desks;
+pub mod dice;
+pub mod hits;
+pub mod nonsense;
+pub mod page;
+pub mod record;
+pub mod rules;
+pub mod session;
+pub mod shapes;
+pub mod tally;
+pub mod truth;
+pub mod yardstick;

@@ -1,0 +1,95 @@
+//! The judge's commands.
+
+use std::io::{self, BufRead, BufWriter, Write};
+use std::process::ExitCode;
+
+use judge::cases;
+use judge::console::Desk;
+use judge::desks;
+use judge::tally::Tally;
+
+const USAGE: &str = "\
+judge cases               writes the check's cases as console lines
+judge console             answers console lines from standard input
+judge desks SEED LINES    writes generated console lines
+judge tally               counts what console lines from standard input try
+";
+
+fn main() -> ExitCode {
+    let words: Vec<String> = std::env::args().skip(1).collect();
+    let words: Vec<&str> = words.iter().map(String::as_str).collect();
+    let done = match words[..] {
+        ["cases"] => write_cases(&mut io::stdout().lock()),
+        ["console"] => serve(&mut io::stdin().lock(), &mut io::stdout().lock()),
+        ["tally"] => count(&mut io::stdin().lock(), &mut io::stdout().lock()),
+        ["desks", seed, lines] => match (seed.parse(), lines.parse()) {
+            (Ok(seed), Ok(lines)) => write_desks(seed, lines),
+            _ => return usage(),
+        },
+        _ => return usage(),
+    };
+    ended(done)
+}
+
+fn usage() -> ExitCode {
+    eprint!("{USAGE}");
+    ExitCode::from(2)
+}
+
+fn ended(done: io::Result<()>) -> ExitCode {
+    match done {
+        Ok(()) => ExitCode::SUCCESS,
+        // Whoever reads may stop reading.
+        Err(error) if error.kind() == io::ErrorKind::BrokenPipe => ExitCode::SUCCESS,
+        Err(error) => {
+            eprintln!("judge: {error}");
+            ExitCode::FAILURE
+        }
+    }
+}
+
+fn write_cases(to: &mut impl Write) -> io::Result<()> {
+    for case in cases::check_cases() {
+        writeln!(to, "# {}", case.name)?;
+        writeln!(to, "{}", judge::console::line("block", &case.block))?;
+    }
+    Ok(())
+}
+
+/// One desk, until the input ends. Each answer is out before the next line is
+/// waited for.
+fn serve(from: &mut impl BufRead, to: &mut impl Write) -> io::Result<()> {
+    let mut desk = Desk::default();
+    each_line(from, |line| match desk.answer(line) {
+        Some(answer) => writeln!(to, "{answer}").and_then(|()| to.flush()),
+        None => Ok(()),
+    })
+}
+
+fn count(from: &mut impl BufRead, to: &mut impl Write) -> io::Result<()> {
+    let mut tally = Tally::default();
+    each_line(from, |line| {
+        tally.note(line);
+        Ok(())
+    })?;
+    write!(to, "{tally}")
+}
+
+fn write_desks(seed: u64, lines: usize) -> io::Result<()> {
+    let mut to = BufWriter::new(io::stdout().lock());
+    desks::write(seed, lines, &mut to)?;
+    to.flush()
+}
+
+/// The lines without their line feeds; the last one may have none.
+fn each_line(
+    from: &mut impl BufRead,
+    mut with: impl FnMut(&[u8]) -> io::Result<()>,
+) -> io::Result<()> {
+    let mut line = Vec::new();
+    while from.read_until(b'\n', &mut line)? > 0 {
+        with(line.strip_suffix(b"\n").unwrap_or(&line))?;
+        line.clear();
+    }
+    Ok(())
+}

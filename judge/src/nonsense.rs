@@ -1,0 +1,81 @@
+//! Lines that are no command, whose numbers don't fit their place, or that ask
+//! for more room than there is; and their neighbours that just fit.
+
+use crate::console::{self, OUTPUT_ROOM, RECORD_ROOM};
+use crate::dice::Dice;
+
+/// One such line. The revision is one that would be right.
+pub fn line(dice: &mut Dice, revision: u64) -> String {
+    if dice.chance(1, 60) {
+        return more_than_the_room(dice);
+    }
+    let bad = dice.pick(&BAD_NUMBERS);
+    match dice.below(12) {
+        0 => format!("open {bad}"),
+        1 => format!("step {revision} {bad}"),
+        2 => format!("step {bad} 0"),
+        3 => format!("run {revision} {}", dice.pick(&BAD_BUDGETS)),
+        4 => format!("run {revision} 1 1 {bad} 2"),
+        5 => format!("page {bad} 1"),
+        6 => format!("page 0 1 {bad}"),
+        7 => format!("session {bad} 0 0"),
+        8 => format!("block 0 0 0 6 6 {}", dice.pick(&BAD_WORDS)),
+        9 => format!("kinds 0 {bad}"),
+        10 => format!("out 1 {bad}"),
+        _ => dice.pick(&BAD_LINES).to_string(),
+    }
+}
+
+/// A buffer at the limit of its room, or one word over it.
+fn more_than_the_room(dice: &mut Dice) -> String {
+    let rooms = [
+        ("lits", RECORD_ROOM),
+        ("kinds", RECORD_ROOM),
+        ("out", OUTPUT_ROOM),
+    ];
+    let (command, room) = dice.pick(&rooms);
+    console::line(command, &vec![0; room + dice.below(2)])
+}
+
+/// Numbers that fit no place, or one kind of place only.
+const BAD_NUMBERS: [&str; 14] = [
+    "-1",
+    "-2147483648",
+    "-2147483649",
+    "2147483647",
+    "2147483648",
+    "4294967295",
+    "4294967296",
+    "18446744073709551616",
+    "340282366920938463463374607431768211456",
+    "256",
+    "+1",
+    "-",
+    "0x1",
+    "1,",
+];
+
+/// Numbers that are no budget. (A large one that fits could be a long search.)
+const BAD_BUDGETS: [&str; 6] = ["-1", "4294967296", "18446744073709551615", "+1", "-", "1e3"];
+
+/// Words that no block can hold.
+const BAD_WORDS: [&str; 6] = ["2147483648", "-2147483649", "4294967302", "+6", "6.", "--6"];
+
+const BAD_LINES: [&str; 16] = [
+    "help",
+    "Show",
+    "show 1",
+    "shows",
+    "open",
+    "open 1 1",
+    "step 0",
+    "step 0 0 0",
+    "run 0",
+    "run",
+    "page 0",
+    "session 0 0 3",
+    "session 0 0",
+    "session 1 1 1 1",
+    "show\t",
+    " #",
+];

@@ -1,0 +1,67 @@
+//! The record, and its check (refusals 11 and 12).
+
+use std::collections::HashSet;
+
+use crate::block::Formula;
+
+/// "kinds: 0 forced, 1 existential decision, 2 universal decision".
+pub const FORCED: u8 = 0;
+pub const EXISTENTIAL_DECISION: u8 = 1;
+pub const UNIVERSAL_DECISION: u8 = 2;
+
+/// One place of the record: a literal that is true, and how it came there.
+#[derive(Clone, Copy, Debug, PartialEq, Eq)]
+pub struct Entry {
+    pub literal: i32,
+    pub kind: u8,
+}
+
+/// Row 11: "a record buffer shorter than V".
+pub fn buffers_short(formula: &Formula, literals: &[i32], kinds: &[u8]) -> bool {
+    literals.len().min(kinds.len()) < formula.variables()
+}
+
+/// The record of this length in the two lent buffers, or its refusal: 11 or 12.
+/// The length is a number from outside and can be any.
+pub fn read(
+    formula: &Formula,
+    literals: &[i32],
+    kinds: &[u8],
+    length: u64,
+) -> Result<Vec<Entry>, u8> {
+    if buffers_short(formula, literals, kinds) {
+        return Err(11);
+    }
+    if length > formula.variables() as u64 {
+        return Err(12);
+    }
+    let places = literals.iter().zip(kinds).take(length as usize);
+    let record: Vec<Entry> = places
+        .map(|(&literal, &kind)| Entry { literal, kind })
+        .collect();
+    if record.iter().any(|entry| entry_wrong(formula, entry)) || variable_twice(&record) {
+        return Err(12);
+    }
+    Ok(record)
+}
+
+/// Row 12, of one entry: "0, size over V, [...] kind above 2, kind 1 on a
+/// universal or 2 on an existential variable".
+fn entry_wrong(formula: &Formula, entry: &Entry) -> bool {
+    if !formula.has_literal(entry.literal) {
+        return true;
+    }
+    match entry.kind {
+        FORCED => false,
+        EXISTENTIAL_DECISION => !formula.existential(entry.literal),
+        UNIVERSAL_DECISION => formula.existential(entry.literal),
+        _ => true,
+    }
+}
+
+/// Row 12, over the entries: "variable twice".
+fn variable_twice(record: &[Entry]) -> bool {
+    let mut seen = HashSet::new();
+    let mut named = record.iter().map(|entry| entry.literal.unsigned_abs());
+    named.any(|variable| !seen.insert(variable))
+}

@@ -1,0 +1,217 @@
+//! The due rule and what it does to a record. A yardstick of correctness, not
+//! of speed: each question is asked of the record anew.
+
+use crate::block::Formula;
+use crate::record::{Entry, EXISTENTIAL_DECISION, FORCED, UNIVERSAL_DECISION};
+
+/// "The due rule is the first that applies".
+#[derive(Clone, Copy, Debug, PartialEq, Eq)]
+pub enum Rule {
+    /// A conflict, with the place of the last kind 1 entry.
+    BacktrackExists(usize),
+    /// A conflict, with no such entry.
+    Fail,
+    /// The literal of the lowest unit clause.
+    Unit(i32),
+    /// The literal that a monotone variable takes.
+    Monotone(i32),
+    /// Some variable is unassigned, and nothing above applies.
+    Decide,
+    /// All assigned, with the place of the last kind 2 entry.
+    BacktrackForall(usize),
+    /// All assigned, with no such entry.
+    Succeed,
+}
+
+/// The due rule of a record.
+pub fn due(formula: &Formula, record: &[Entry]) -> Rule {
+    let values = Values::of(formula, record);
+    if values.some_conflict() {
+        return match last_of_kind(record, EXISTENTIAL_DECISION) {
+            Some(place) => Rule::BacktrackExists(place),
+            None => Rule::Fail,
+        };
+    }
+    if let Some(literal) = values.unit() {
+        return Rule::Unit(literal);
+    }
+    if let Some(literal) = values.monotone() {
+        return Rule::Monotone(literal);
+    }
+    if values.first_unassigned().is_some() {
+        return Rule::Decide;
+    }
+    match last_of_kind(record, UNIVERSAL_DECISION) {
+        Some(place) => Rule::BacktrackForall(place),
+        None => Rule::Succeed,
+    }
+}
+
+/// The record after the rule. "Fail and Succeed leave the record." The
+/// proposal matters at Decide only: 0, or an open literal.
+pub fn apply(formula: &Formula, record: &[Entry], rule: Rule, proposal: i32) -> Vec<Entry> {
+    match rule {
+        Rule::BacktrackExists(place) | Rule::BacktrackForall(place) => turned(record, place),
+        Rule::Unit(literal) | Rule::Monotone(literal) => extended(record, literal, FORCED),
+        Rule::Decide => decided(formula, record, proposal),
+        Rule::Fail | Rule::Succeed => record.to_vec(),
+    }
+}
+
+/// "A literal is open if its variable is unassigned and no variable of a lower
+/// level is." A word that is no literal of the formula is not open.
+pub fn open(formula: &Formula, record: &[Entry], word: i32) -> bool {
+    let values = Values::of(formula, record);
+    formula.has_literal(word)
+        && !values.assigned(word)
+        && formula
+            .order()
+            .filter(|&variable| formula.level(variable) < formula.level(word))
+            .all(|variable| values.assigned(variable))
+}
+
+/// "At Decide it proposes the first open one in the list, else 0."
+pub fn proposal_of(formula: &Formula, record: &[Entry], preferred: &[i32]) -> i32 {
+    let mut open_ones = preferred
+        .iter()
+        .filter(|&&word| open(formula, record, word));
+    open_ones.next().copied().unwrap_or(0)
+}
+
+/// "Append the proposed literal, or for proposal 0 the first unassigned
+/// variable in prefix order, true. Kind 1 or 2 by quantifier."
+fn decided(formula: &Formula, record: &[Entry], proposal: i32) -> Vec<Entry> {
+    let first = Values::of(formula, record).first_unassigned();
+    let literal = match proposal {
+        0 => first.expect("Decide is due when some variable is unassigned"),
+        proposed => proposed,
+    };
+    let kind = if formula.existential(literal) {
+        EXISTENTIAL_DECISION
+    } else {
+        UNIVERSAL_DECISION
+    };
+    extended(record, literal, kind)
+}
+
+fn extended(record: &[Entry], literal: i32, kind: u8) -> Vec<Entry> {
+    let mut next = record.to_vec();
+    next.push(Entry { literal, kind });
+    next
+}
+
+/// "Cut the record at its last kind 1 entry and put the opposite there, kind 0."
+fn turned(record: &[Entry], place: usize) -> Vec<Entry> {
+    extended(&record[..place], -record[place].literal, FORCED)
+}
+
+fn last_of_kind(record: &[Entry], kind: u8) -> Option<usize> {
+    record.iter().rposition(|entry| entry.kind == kind)
+}
+
+/// What a record makes true, by variable, beside its formula.
+struct Values<'a> {
+    formula: &'a Formula,
+    by_variable: Vec<Option<bool>>,
+}
+
+impl<'a> Values<'a> {
+    fn of(formula: &'a Formula, record: &[Entry]) -> Values<'a> {
+        let mut by_variable = vec![None; formula.variables() + 1];
+        for entry in record {
+            by_variable[entry.literal.unsigned_abs() as usize] = Some(entry.literal > 0);
+        }
+        Values {
+            formula,
+            by_variable,
+        }
+    }
+
+    fn assigned(&self, literal: i32) -> bool {
+        self.by_variable[literal.unsigned_abs() as usize].is_some()
+    }
+
+    fn is_true(&self, literal: i32) -> bool {
+        self.by_variable[literal.unsigned_abs() as usize] == Some(literal > 0)
+    }
+
+    fn first_unassigned(&self) -> Option<i32> {
+        self.formula
+            .order()
+            .find(|&variable| !self.assigned(variable))
+    }
+
+    /// The unassigned literals of a clause, by quantifier; `None` if it has a true
+    /// literal.
+    fn left(&self, clause: usize) -> Option<Left> {
+        let literals = &self.formula.clauses[clause];
+        if literals.iter().any(|&literal| self.is_true(literal)) {
+            return None;
+        }
+        let free = literals.iter().filter(|&&literal| !self.assigned(literal));
+        let (existential, universal) = free
+            .copied()
+            .partition(|&literal| self.formula.existential(literal));
+        Some(Left {
+            existential,
+            universal,
+        })
+    }
+
+    /// "A clause is in conflict if it has no true literal and no unassigned
+    /// existential literal."
+    fn some_conflict(&self) -> bool {
+        (0..self.formula.clauses.len())
+            .filter_map(|clause| self.left(clause))
+            .any(|left| left.existential.is_empty())
+    }
+
+    /// "the lowest clause with no true literal, exactly one unassigned
+    /// existential literal l, and each unassigned universal literal at a higher
+    /// level than l".
+    fn unit(&self) -> Option<i32> {
+        (0..self.formula.clauses.len())
+            .filter_map(|clause| self.left(clause))
+            .find_map(|left| match left.existential[..] {
+                [literal] if self.all_higher(&left.universal, literal) => Some(literal),
+                _ => None,
+            })
+    }
+
+    fn all_higher(&self, universal: &[i32], literal: i32) -> bool {
+        let level = self.formula.level(literal);
+        universal
+            .iter()
+            .all(|&other| self.formula.level(other) > level)
+    }
+
+    /// "the first unassigned variable in prefix order that occurs with one sign
+    /// only over the whole matrix. An existential one takes that sign, a
+    /// universal one the opposite." One that occurs nowhere has no sign to take.
+    fn monotone(&self) -> Option<i32> {
+        let occurs = |literal| {
+            let mut clauses = self.formula.clauses.iter();
+            clauses.any(|clause| clause.contains(&literal))
+        };
+        let free = self.formula.order().filter(|&v| !self.assigned(v));
+        free.filter_map(|variable| match (occurs(variable), occurs(-variable)) {
+            (true, false) => Some(variable),
+            (false, true) => Some(-variable),
+            _ => None,
+        })
+        .map(|sign| {
+            if self.formula.existential(sign) {
+                sign
+            } else {
+                -sign
+            }
+        })
+        .next()
+    }
+}
+
+/// The unassigned literals of a clause with no true literal.
+struct Left {
+    existential: Vec<i32>,
+    universal: Vec<i32>,
+}

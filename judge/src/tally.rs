@@ -1,0 +1,90 @@
+//! What a list of console lines tries: how often each command, refusal number
+//! and rule comes up, by the judge's own answers.
+
+use std::collections::BTreeMap;
+use std::fmt;
+
+use crate::console::Desk;
+use crate::hits::NAMES;
+
+/// The commands whose answer begins with a number of the table.
+const CALLS: [&str; 5] = ["block", "open", "step", "run", "page"];
+
+const COMMANDS: [&str; 10] = [
+    "block", "lits", "kinds", "out", "session", "open", "step", "run", "page", "show",
+];
+
+#[derive(Default)]
+pub struct Tally {
+    desk: Desk,
+    lines: u64,
+    /// Answers by their first word, `?` being one.
+    answers: BTreeMap<String, u64>,
+    /// Answers to calls by number, 0 being an accepted one, and command.
+    numbers: BTreeMap<(u8, String), u64>,
+}
+
+impl Tally {
+    /// Counts a line, given without its line feed.
+    pub fn note(&mut self, line: &[u8]) {
+        self.lines += 1;
+        let Some(answer) = self.desk.answer(line) else {
+            return;
+        };
+        let mut words = answer.split(' ');
+        let command = words.next().unwrap_or("").to_string();
+        let number = words.next().and_then(|word| word.parse().ok());
+        *self.answers.entry(command.clone()).or_default() += 1;
+        if let (Some(number), true) = (number, CALLS.contains(&command.as_str())) {
+            *self.numbers.entry((number, command)).or_default() += 1;
+        }
+    }
+
+    fn answered(&self, first_word: &str) -> u64 {
+        self.answers.get(first_word).copied().unwrap_or(0)
+    }
+
+    fn given(&self, number: u8, command: &str) -> u64 {
+        let key = (number, command.to_string());
+        self.numbers.get(&key).copied().unwrap_or(0)
+    }
+
+    fn number_row(&self, f: &mut fmt::Formatter, name: &str, number: u8) -> fmt::Result {
+        let counts = CALLS.map(|command| (command, self.given(number, command)));
+        row(f, name, &counts)
+    }
+
+    fn rule_row(&self, f: &mut fmt::Formatter, rule: usize) -> fmt::Result {
+        let [step, run, page] = self.desk.hits.map(|hits| hits.0[rule]);
+        let counts = [("step", step), ("run", run), ("page", page)];
+        row(f, &format!("rule {}", NAMES[rule]), &counts)
+    }
+}
+
+/// A count and its parts, those that are 0 left out.
+fn row(f: &mut fmt::Formatter, name: &str, parts: &[(&str, u64)]) -> fmt::Result {
+    write!(f, "{name} {}", parts.iter().map(|part| part.1).sum::<u64>())?;
+    for (command, count) in parts.iter().filter(|part| part.1 > 0) {
+        write!(f, " {command} {count}")?;
+    }
+    writeln!(f)
+}
+
+/// One count to a line: `lines N`, `answers N`, `no-command N` (the answer `?`),
+/// `command NAME N`, `accepted N`, `refusal NUMBER N` and `rule NAME N`, the last
+/// three with the share of each command behind.
+impl fmt::Display for Tally {
+    fn fmt(&self, f: &mut fmt::Formatter) -> fmt::Result {
+        writeln!(f, "lines {}", self.lines)?;
+        writeln!(f, "answers {}", self.answers.values().sum::<u64>())?;
+        writeln!(f, "no-command {}", self.answered("?"))?;
+        for command in COMMANDS {
+            writeln!(f, "command {command} {}", self.answered(command))?;
+        }
+        self.number_row(f, "accepted", 0)?;
+        for number in 1..=21 {
+            self.number_row(f, &format!("refusal {number}"), number)?;
+        }
+        (0..NAMES.len()).try_for_each(|rule| self.rule_row(f, rule))
+    }
+}

@@ -1,0 +1,38 @@
+//! The generated lines try everything that there is to try.
+
+use judge::desks;
+use judge::tally::Tally;
+
+fn lines(seed: u64, count: usize) -> Vec<u8> {
+    let mut bytes = Vec::new();
+    desks::write(seed, count, &mut bytes).unwrap();
+    bytes
+}
+
+#[test]
+fn the_same_seed_gives_the_same_lines() {
+    let once = lines(7, 2000);
+    assert_eq!(once.iter().filter(|&&byte| byte == b'\n').count(), 2000);
+    assert_eq!(once, lines(7, 2000));
+    assert_ne!(once, lines(8, 2000));
+}
+
+/// "every refusal number 1 to 21 and every rule is hit often".
+#[test]
+fn every_number_and_rule_is_hit() {
+    for seed in [1, 2] {
+        let mut tally = Tally::default();
+        for line in lines(seed, 20_000).split(|&byte| byte == b'\n') {
+            tally.note(line);
+        }
+        let told = tally.to_string();
+        let counted = told
+            .lines()
+            .filter(|line| line.starts_with("refusal ") || line.starts_with("rule "));
+        let counts: Vec<u64> = counted
+            .map(|line| line.split(' ').nth(2).unwrap().parse().unwrap())
+            .collect();
+        assert_eq!(counts.len(), 30);
+        assert!(counts.iter().all(|&count| count >= 30), "{told}");
+    }
+}
