@@ -2,3 +2,5 @@
 pub mod Opening
 pub mod Page
 pub mod Cases
+pub mod Values
+pub mod Start
