@@ -2,13 +2,13 @@
 use Prim.Native.Nat.{ℕ, zero, suc, _+_, _-_, min, _≤_, _<_}
 use mathlib.Core.Path.{_≡_, refl, sym, _∙_, ap}
 use mathlib.Core.Logic.{_⊎_, inl, inr}
-use mathlib.Core.Bool.{Bool, true, false, not, _&&_, _||_}
+use mathlib.Core.Bool.{Bool, true, false, not, _&&_, _||_, and-false}
 use mathlib.Core.List.{List, [], _∷_}
 use native.Mathlib.Omega.{arith}
 use lib.Dec.{eqb, ltb}
 use lib.IntN.{ℤ, pos, natAbs}
 use lib.ListN.{length, take, drop, length-take, length-drop}
-use borrow.Author.Tests.{eqb-true, eqb-false, ltb-false, not-false}
+use borrow.Author.Tests.{eqb-true, eqb-false, ltb-false, not-false, le-ltb, eq-eqb, ne-eqb}
 use Rattle.words.specs.Bools.{clash, look, or-fl, or-fr, not-f, to-false}
 use Rattle.words.specs.declared.Literal.{Literal}
 use Rattle.words.specs.Lists.{any, any-none}
@@ -119,3 +119,36 @@ module _ (s : Session) (b ls : List ℤ) (ks : List ℕ) (seen : Revision) where
   run-guarded budget e =
       let (h, r) = after-zero (refusal limits b) (runRows s b ls ks seen budget) e in
       record { guard = guarded h (r 0) (r 1) (r 2) (r 3); below = ltb-false lastRevision (s .revision .0 + budget) (r 4) }
+
+-- ---- the other way round: a step that is so breaks no row
+module _ (s : Session) (b ls : List ℤ) (ks : List ℕ) (seen : Revision) (g : Guarded s b ls ks seen) where
+  roomy : short b ls ks ≡ false
+  roomy =
+      let e = prefix-length b (g .block) in
+      let x : variablesOf b ≤ length ls = rw (← e) (g .kept .lits-room) in
+      let y : variablesOf b ≤ length ks = rw (← e) (g .kept .kinds-room) in
+      rw (le-ltb (length ls) (variablesOf b) x, le-ltb (length ks) (variablesOf b) y)
+
+  fresh : stale s seen ≡ false
+  fresh = rw (eq-eqb (seen .0) (s .revision .0) (g .current))
+
+  -- row 15 before 16 and 17
+  pub step-last : s .revision .0 ≡ lastRevision → (l : Literal) → stepRefusal s b ls ks seen l ≡ 15
+  unfolding stepRefusal
+  step-last e l = rw (g .block, roomy, g .kept .good, g .live, fresh, eq-eqb (s .revision .0) lastRevision e)
+
+  module _ (below : s .revision .0 ≡ lastRevision → ⊥) (l : Literal) where
+    unproposed : (x : Bool) → natAbs (l .0) ≡ 0 → (proposed l && x) ≡ false
+    unproposed x e = rw (eq-eqb (natAbs (l .0)) 0 e)
+
+    not-due : (natAbs (l .0) ≡ 0) ⊎ (decides (due (formulaOf b) (recordOf ls ks (s .length))) ≡ true) → (proposed l && not (decides (due (formulaOf b) (recordOf ls ks (s .length))))) ≡ false
+    not-due (inl e) = unproposed _ e
+    not-due (inr e) = rw e (and-false (proposed l))
+
+    not-free : Permitted (prefixOf b) (trueIn (recordOf ls ks (s .length))) (l .0) → (proposed l && not (isOpen (prefixOf b) (trueIn (recordOf ls ks (s .length))) (l .0))) ≡ false
+    not-free (inl e) = unproposed _ e
+    not-free (inr e) = rw e (and-false (proposed l))
+
+    pub step-passes : (natAbs (l .0) ≡ 0) ⊎ (decides (due (formulaOf b) (recordOf ls ks (s .length))) ≡ true) → Permitted (prefixOf b) (trueIn (recordOf ls ks (s .length))) (l .0) → stepRefusal s b ls ks seen l ≡ 0
+    unfolding stepRefusal formulaOf
+    step-passes d a = rw (g .block, roomy, g .kept .good, g .live, fresh, ne-eqb (s .revision .0) lastRevision below, not-due d, not-free a)

@@ -7,5 +7,7 @@ pub mod Play
 pub mod Accepted
 pub mod Refused
 pub mod Follows
+pub mod ByHand
+pub mod History
 pub mod Only
 pub mod Cases

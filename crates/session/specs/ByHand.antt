@@ -1,0 +1,211 @@
+-- A run is the steps that it counts: as many accepted steps by hand, one after the other, each at the revision of the moment and with the
+-- proposal that the preferences give, leave the same desk. The run's search goes on rule by rule; each of these is an accepted step.
+use Prim.Native.Nat.{ℕ, zero, suc, _+_, _≤_, _<_}
+use mathlib.Core.Path.{_≡_, refl, sym, _∙_, ap}
+use mathlib.Core.Logic.{_⊎_, inl, inr}
+use mathlib.Core.Bool.{Bool, true, false}
+use mathlib.Core.List.{List, [], _∷_}
+use native.Mathlib.Omega.{arith}
+use lib.IntN.{ℤ, pos, natAbs}
+use Rattle.words.specs.Bools.{look}
+use Rattle.words.specs.declared.Literal.{Literal}
+use Rattle.formula.specs.Limits.{limits}
+use Rattle.formula.specs.Formula.{Formula, formulaOf, prefixOf}
+use Rattle.formula.specs.Block.{refusal}
+use Rattle.theory.specs.Record.{Record, Assignment, trueIn}
+use Rattle.rules.specs.declared.State.{State}
+use Rattle.rules.specs.declared.State.the-variants.{Open, Valid, Unsat}
+use Rattle.rules.specs.declared.Rule.{Rule}
+use Rattle.rules.specs.declared.Rule.the-variants.{BacktrackExists, Fail, Unit, Monotone, Decide, BacktrackForall, Succeed}
+use Rattle.rules.specs.Due.{literal, pick, due}
+use Rattle.rules.specs.Preferred.{firstOpen}
+use Rattle.rules.specs.Apply.{Search, search, recordOf, apply}
+use Rattle.rules.specs.Searches.{first-open}
+use Rattle.rules.specs.Steps.{KeptIn, Permitted, recordIn, due-keeps}
+use Rattle.session.specs.declared.Revision.{Revision}
+use Rattle.session.specs.declared.Session.{Session}
+use Rattle.session.specs.declared.Ran.{Ran}
+use Rattle.session.specs.declared.Ran.the-variants.{Until, Stopped}
+use Rattle.session.specs.Refusals.{lastRevision, decides, stepRefusal, runRefusal}
+use Rattle.session.specs.Accepted.{accepted-proper, Guarded, run-guarded, step-passes}
+use Rattle.session.specs.Outcome.{Outcome, moved, searchOf, stepped, stepOutcome}
+use Rattle.session.specs.Run.{RunOutcome, Trip, trip, whileOpen, advance, runFrom, ran, unlessRun, runOf}
+use Rattle.session.specs.Play.{Desk, desk, Call, step, run, afterStep, afterRun, call}
+use Rattle.session.specs.Refused.{run-refused}
+use Rattle.session.specs.Follows.{accepted-is}
+
+-- "At Decide it proposes the first open one in the list, else 0."
+abbrev pub proposalAt : Formula → Record → List ℤ → ℤ
+proposalAt F r preferred = pick (decides (due F r)) (firstOpen (F .prefix) (trueIn r) preferred) (pos 0)
+
+-- one step by hand with that proposal, at the revision of the moment; and n of them
+unfoldable pub handed : List ℤ → List ℤ → Desk → Desk
+handed b preferred d =
+    let r = recordOf (d .lits) (d .kinds) (d .latest .length) in
+    call b d (step (d .latest .revision) (literal (proposalAt (formulaOf b) r preferred)))
+
+unfoldable pub byHand : List ℤ → List ℤ → ℕ → Desk → Desk
+byHand b preferred zero d = d
+byHand b preferred (suc n) d = byHand b preferred n (handed b preferred d)
+
+-- ---- a proposal counts at Decide only
+apply-proposal : (p : List ℤ) (rule : Rule) (x : ℤ) (t : Search) → apply p rule (pick (decides rule) x (pos 0)) t ≡ apply p rule x t
+unfolding apply
+apply-proposal p (BacktrackExists i c) x t = refl
+apply-proposal p (Fail c) x t = refl
+apply-proposal p (Unit y c) x t = refl
+apply-proposal p (Monotone y) x t = refl
+apply-proposal p (Decide y) x t = refl
+apply-proposal p (BacktrackForall i) x t = refl
+apply-proposal p Succeed x t = refl
+
+proposal-due : (rule : Bool) (x : ℤ) → (natAbs (pick rule x (pos 0)) ≡ 0) ⊎ (rule ≡ true)
+proposal-due true x = inr refl
+proposal-due false x = inl refl
+
+proposal-permitted : (p : List ℤ) (ρ : Assignment) (rule : Bool) (x : ℤ) → Permitted p ρ x → Permitted p ρ (pick rule x (pos 0))
+proposal-permitted p ρ true x a = a
+proposal-permitted p ρ false x a = inl refl
+
+-- ---- a run's search, rule by rule
+while-open : (st : State) (a b : Trip) → st ≡ Open → whileOpen st a b ≡ a
+while-open st a b e = rw e
+
+while-ended : (st : State) (a b : Trip) → (st ≡ Open → ⊥) → whileOpen st a b ≡ b
+while-ended Open a b f = absurd (f refl)
+while-ended Valid a b f = refl
+while-ended Unsat a b f = refl
+
+module _ (F : Formula) (preferred : List ℤ) where
+  goOn : ℕ → Search → Search
+  goOn zero t = t
+  goOn (suc c) t = goOn c (advance F preferred t)
+
+  -- n rules at most, of which c are taken: the state is open before each, and after the last one only if n are taken
+  record Went (n : ℕ) (t : Search) (k : ℕ) : Type 0 where
+    taken : ℕ
+    reached : runFrom F preferred n t k ≡ trip (goOn taken t) (k + taken)
+    within : taken ≤ n
+    live : (j : ℕ) → j < taken → goOn j t .state ≡ Open
+    used : goOn taken t .state ≡ Open → taken ≡ n
+
+  went : (n : ℕ) (t : Search) (k : ℕ) → Went n t k
+  unfolding runFrom goOn
+  went zero t k = let e : k + 0 ≡ k = omega arith in record { taken = 0; reached = rw e; within = omega arith; live = λ j l. absurd (omega arith); used = λ e. refl }
+  went (suc n) t k = go (t .state) refl (went n (advance F preferred t) (k + 1))
+    where
+      open-before : t .state ≡ Open → (w : Went n (advance F preferred t) (k + 1)) (j : ℕ) → j < suc (w .taken) → goOn j t .state ≡ Open
+      open-before e w zero l = e
+      open-before e w (suc j) l = w .live j (omega arith)
+
+      more : t .state ≡ Open → Went n (advance F preferred t) (k + 1) → Went (suc n) t k
+      more e w =
+          let z : k + 1 + w .taken ≡ k + suc (w .taken) = omega arith in
+          record {
+            taken = suc (w .taken);
+            reached = while-open (t .state) _ _ e ∙ w .reached ∙ ap (trip (goOn (w .taken) (advance F preferred t))) z;
+            within = (let h = w .within in omega arith);
+            live = open-before e w;
+            used = λ h. ap suc (w .used h);
+          }
+
+      stop : (t .state ≡ Open → ⊥) → Went (suc n) t k
+      stop f =
+          let z : k ≡ k + 0 = omega arith in
+          record { taken = 0; reached = while-ended (t .state) _ _ f ∙ ap (trip t) z; within = omega arith; live = λ j l. absurd (omega arith); used = λ h. absurd (f h) }
+
+      go : (st : State) → t .state ≡ st → Went n (advance F preferred t) (k + 1) → Went (suc n) t k
+      go Open e w = more e w
+      go Valid e w = stop (λ h. let z : _≡_ {A = ℕ} 0 1 = cc in omega arith)
+      go Unsat e w = stop (λ h. let z : _≡_ {A = ℕ} 0 1 = cc in omega arith)
+
+-- ---- steps by hand, rule by rule
+-- a desk whose search has gone on by n accepted steps
+abbrev deskAfter : Desk → ℕ → Search → Desk
+deskAfter d n u = desk (moved (d .latest) n u) (u .lits) (u .kinds) (d .steps + n)
+
+abbrev pub searchAt : Desk → Search
+searchAt d = searchOf (d .latest) (d .lits) (d .kinds)
+
+module _ (b : List ℤ) (block : refusal limits b ≡ 0) (preferred : List ℤ) where
+  hand-step : (d : Desk) → KeptIn (prefixOf b) (searchAt d) → d .latest .state ≡ Open → d .latest .revision .0 < lastRevision
+      → handed b preferred d ≡ deskAfter d 1 (advance (formulaOf b) preferred (searchAt d))
+  unfolding handed call advance formulaOf
+  hand-step d k o h =
+      let r = recordIn (searchAt d) in
+      let F = formulaOf b in
+      let x = firstOpen (F .prefix) (trueIn r) preferred in
+      let l = literal (proposalAt F r preferred) in
+      let g : Guarded (d .latest) b (d .lits) (d .kinds) (d .latest .revision) = record { block = block; kept = k; live = o; current = refl } in
+      let below : d .latest .revision .0 ≡ lastRevision → ⊥ = λ e. omega arith in
+      let e = step-passes (d .latest) b (d .lits) (d .kinds) (d .latest .revision) g below l (proposal-due (decides (due F r)) x) (proposal-permitted (F .prefix) (trueIn r) (decides (due F r)) x (first-open (F .prefix) (trueIn r) preferred)) in
+      rw (accepted-is (d .latest) b (d .lits) (d .kinds) (d .latest .revision) l e, apply-proposal (F .prefix) (due F r) x (searchAt d))
+
+  hand-goes : (c : ℕ) (d : Desk) → KeptIn (prefixOf b) (searchAt d) → d .latest .revision .0 + c ≤ lastRevision → ((j : ℕ) → j < c → goOn (formulaOf b) preferred j (searchAt d) .state ≡ Open)
+      → byHand b preferred c d ≡ deskAfter d c (goOn (formulaOf b) preferred c (searchAt d))
+  unfolding byHand goOn formulaOf advance
+  hand-goes zero d k h live =
+      let x : d .latest .revision .0 + 0 ≡ d .latest .revision .0 = omega arith in
+      let y : d .steps + 0 ≡ d .steps = omega arith in
+      rw (x, y)
+  hand-goes (suc c) d k h live =
+      let F = formulaOf b in
+      let t = searchAt d in
+      let u = advance F preferred t in
+      let v = goOn F preferred c u in
+      let k′ : KeptIn (prefixOf b) u = due-keeps F (accepted-proper b block) t k (firstOpen (F .prefix) (trueIn (recordIn t)) preferred) (first-open (F .prefix) (trueIn (recordIn t)) preferred) in
+      let x : d .latest .revision .0 + 1 + c ≡ d .latest .revision .0 + suc c = omega arith in
+      let y : d .steps + 1 + c ≡ d .steps + suc c = omega arith in
+      ap (byHand b preferred c) (hand-step d k (live 0 (omega arith)) (omega arith))
+      ∙ hand-goes c (deskAfter d 1 u) k′ (omega arith) (λ j l. live (suc j) (omega arith))
+      ∙ rw (x, y)
+
+-- ---- the run
+-- how many steps an answer counts; a refused run has none
+abbrev pub counted : Ran → ℕ
+counted (Until s n) = n
+counted (Stopped n) = 0
+
+module _ (b : List ℤ) (d : Desk) (seen : Revision) (budget : ℕ) (preferred : List ℤ) where
+  taking : Went (formulaOf b) preferred budget (searchAt d) 0
+  taking = went (formulaOf b) preferred budget (searchAt d) 0
+
+  -- where an accepted run leads
+  last : Search
+  last = goOn (formulaOf b) preferred (taking .taken) (searchAt d)
+
+  run-accepted : runRefusal (d .latest) b (d .lits) (d .kinds) seen budget ≡ 0 → runOf (d .latest) b (d .lits) (d .kinds) seen budget preferred ≡ ran (d .latest) (trip last (taking .taken))
+  unfolding runOf last
+  run-accepted e = let z : 0 + taking .taken ≡ taking .taken = omega arith in rw (e, taking .reached, z)
+
+  accepted-steps : runRefusal (d .latest) b (d .lits) (d .kinds) seen budget ≡ 0 → byHand b preferred (taking .taken) d ≡ deskAfter d (taking .taken) last
+  unfolding last
+  accepted-steps e =
+      let g = run-guarded (d .latest) b (d .lits) (d .kinds) seen budget e in
+      let h = taking .within in
+      hand-goes b (g .guard .block) preferred (taking .taken) d (g .guard .kept) (omega (arith, g .below)) (taking .live)
+
+  -- a run is the steps that it counts
+  pub run-is-steps : call b d (run seen budget preferred) ≡ byHand b preferred (counted (runOf (d .latest) b (d .lits) (d .kinds) seen budget preferred .answer)) d
+  unfolding call byHand
+  run-is-steps = go (runRefusal (d .latest) b (d .lits) (d .kinds) seen budget) refl
+    where
+      go : (n : ℕ) → runRefusal (d .latest) b (d .lits) (d .kinds) seen budget ≡ n → call b d (run seen budget preferred) ≡ byHand b preferred (counted (runOf (d .latest) b (d .lits) (d .kinds) seen budget preferred .answer)) d
+      go zero e = rw (run-accepted e) (sym (accepted-steps e))
+      go (suc n) e = rw (run-refused (d .latest) b (d .lits) (d .kinds) seen budget preferred n e)
+
+  -- "it pauses exactly if it isn't ended when the budget is used": a run that is open after its steps has used its budget
+  pub run-pauses : (s′ : Session) (c : ℕ) → runOf (d .latest) b (d .lits) (d .kinds) seen budget preferred .answer ≡ Until s′ c → (c ≤ budget) × (s′ .state ≡ Open → c ≡ budget)
+  unfolding last
+  run-pauses s′ c a = go (runRefusal (d .latest) b (d .lits) (d .kinds) seen budget) refl
+    where
+      go : (n : ℕ) → runRefusal (d .latest) b (d .lits) (d .kinds) seen budget ≡ n → (c ≤ budget) × (s′ .state ≡ Open → c ≡ budget)
+      go zero e =
+          let a′ = rw (run-accepted e) at a in
+          let x : taking .taken ≡ c = cc in
+          let y : moved (d .latest) (taking .taken) last ≡ s′ = cc in
+          let h = taking .within in
+          (omega arith, λ o. sym x ∙ taking .used (ap (λ (s : Session). s .state) y ∙ o))
+      go (suc n) e =
+          let a′ = rw (run-refused (d .latest) b (d .lits) (d .kinds) seen budget preferred n e) at a in
+          let z : _≡_ {A = ℕ} 0 1 = cc in absurd (omega arith)

@@ -1,0 +1,170 @@
+-- Demand 2 for any history of calls: "any list of steps and runs with any arguments, refused ones included, each given that formula, that
+-- record and the latest session". On every desk that calls lead to from a fresh one the accepted steps are a path of the theory's rules from
+-- the empty record to the search that stands there; what the theory says of such paths is said of the desk.
+use Prim.Native.Nat.{ℕ, zero, suc, _+_, _^_, _≤_, _<_}
+use mathlib.Core.Path.{_≡_, refl, sym, _∙_, ap}
+use mathlib.Core.Logic.{_⊎_, inl, inr}
+use mathlib.Core.Bool.{Bool, true, false}
+use mathlib.Core.List.{List, [], _∷_}
+use native.Mathlib.Omega.{arith}
+use lib.Dec.{ltb}
+use lib.IntN.{ℤ, pos}
+use lib.ListN.{length}
+use borrow.Author.Tests.{ltb-false}
+use Rattle.words.specs.Bools.{or-fl, or-fr}
+use Rattle.words.specs.declared.Literal.{Literal}
+use Rattle.formula.specs.Limits.{limits}
+use Rattle.formula.specs.Formula.{Formula, formulaOf, variablesOf, prefixOf}
+use Rattle.formula.specs.Block.{refusal}
+use Rattle.formula.specs.Truth.{true?}
+use Rattle.theory.specs.Record.{Record}
+use Rattle.theory.specs.Rules.{State as Standing, going, valid, unsat, Step, Path, stop}
+use Rattle.theory.specs.Paths.{path-snoc}
+use Rattle.theory.specs.Sound.{sound-formula}
+use Rattle.theory.specs.Good.{good-none}
+use Rattle.theory.specs.Finite.{finite-formula}
+use Rattle.rules.specs.declared.State.{State}
+use Rattle.rules.specs.declared.State.the-variants.{Open, Valid, Unsat}
+use Rattle.rules.specs.Due.{literal}
+use Rattle.rules.specs.Apply.{Search, search, recordOf, wiped}
+use Rattle.rules.specs.Records.{wiped-length}
+use Rattle.rules.specs.Passed.{good-kept}
+use Rattle.rules.specs.Steps.{standing, stateOf, KeptIn}
+use Rattle.session.specs.declared.Revision.{Revision}
+use Rattle.session.specs.declared.Session.{Session}
+use Rattle.session.specs.declared.Answer.{Answer}
+use Rattle.session.specs.declared.Answer.the-variants.{To, Refused}
+use Rattle.session.specs.Refusals.{lastRevision, short, openRows, openRefusal, stepRefusal}
+use Rattle.session.specs.Rows.{after-zero}
+use Rattle.session.specs.Outcome.{Outcome, outcome, session, moved, searchOf, unless, openOutcome, stepOutcome}
+use Rattle.session.specs.Run.{runOf}
+use Rattle.session.specs.Play.{Desk, desk, Call, step, run, afterStep, call, play}
+use Rattle.session.specs.Accepted.{prefix-length, accepted-bound, accepted-proper, Guarded, step-guarded, step-last, step-passes}
+use Rattle.session.specs.Refused.{step-refused, step-refused-leaves}
+use Rattle.session.specs.Follows.{Follows, accepted-is, accepted-step, answered-accepted}
+use Rattle.session.specs.ByHand.{searchAt, handed, byHand, counted, run-is-steps}
+
+-- what is asked of a desk of a session opened at the revision `first` on the block b
+pub record Demand (b : List ℤ) (first : ℕ) (d : Desk) : Type 0 where
+  -- "accepted steps in all at most 2^(V+1) - 1", each adding one to the revision
+  pub steps : d .steps < 2 ^ suc (variablesOf b)
+  pub revision : d .latest .revision .0 ≡ first + d .steps
+  -- "Valid exactly with truth, Unsat exactly without"
+  pub valid-true : d .latest .state ≡ Valid → true? (formulaOf b) ≡ true
+  pub unsat-false : d .latest .state ≡ Unsat → true? (formulaOf b) ≡ false
+  -- "while open, a step with proposal 0 at the session's revision is accepted unless the revision is 2^64 - 1, and then refused with 15"
+  pub accepted : d .latest .state ≡ Open → (d .latest .revision .0 ≡ lastRevision → ⊥)
+      → (s : Session) × (stepOutcome (d .latest) b (d .lits) (d .kinds) (d .latest .revision) (literal (pos 0)) .answer ≡ To s)
+  pub refused : d .latest .state ≡ Open → d .latest .revision .0 ≡ lastRevision
+      → stepOutcome (d .latest) b (d .lits) (d .kinds) (d .latest .revision) (literal (pos 0)) .answer ≡ Refused 15
+
+-- ---- what every call keeps
+record Reached (b : List ℤ) (first : ℕ) (d : Desk) : Type 0 where
+  path : Path (formulaOf b) (d .steps) (going []) (stateOf (searchAt d))
+  kept : KeptIn (prefixOf b) (searchAt d)
+  revision : d .latest .revision .0 ≡ first + d .steps
+
+module _ (b : List ℤ) (first : ℕ) where
+  -- one more rule
+  grown : (d : Desk) (l : ℤ) (s′ : Session) (ls′ : List ℤ) (ks′ : List ℕ) → Reached b first d → d .latest .state ≡ Open → Follows b l (d .latest) s′ (d .lits) ls′ (d .kinds) ks′ → Reached b first (desk s′ ls′ ks′ (d .steps + 1))
+  grown d l s′ ls′ ks′ r o f =
+      let x : d .steps + 1 ≡ suc (d .steps) = omega arith in
+      let y = r .revision in
+      let z = f .revision in
+      record {
+        path = rw x (path-snoc (formulaOf b) (rw o at (r .path)) (f .step));
+        kept = f .kept;
+        revision = omega arith;
+      }
+
+  step-reached : (d : Desk) (seen : Revision) (l : Literal) → Reached b first d → Reached b first (call b d (step seen l))
+  unfolding call
+  step-reached d seen l r = go (stepOutcome (d .latest) b (d .lits) (d .kinds) seen l .answer) refl
+    where
+      o : Outcome
+      o = stepOutcome (d .latest) b (d .lits) (d .kinds) seen l
+
+      go : (a : Answer) → o .answer ≡ a → Reached b first (afterStep d a (o .lits) (o .kinds))
+      go (To s′) e =
+          let g = step-guarded (d .latest) b (d .lits) (d .kinds) seen l (answered-accepted (d .latest) b (d .lits) (d .kinds) seen l s′ e) in
+          grown d (l .0) s′ (o .lits) (o .kinds) r (g .guard .live) (accepted-step (d .latest) b (d .lits) (d .kinds) seen l s′ e)
+      go (Refused n) e = let w = step-refused-leaves (d .latest) b (d .lits) (d .kinds) seen l n e in rw (w .lits, w .kinds) r
+
+  hand-reached : (preferred : List ℤ) (c : ℕ) (d : Desk) → Reached b first d → Reached b first (byHand b preferred c d)
+  unfolding byHand handed
+  hand-reached preferred zero d r = r
+  hand-reached preferred (suc c) d r = hand-reached preferred c (handed b preferred d) (step-reached d _ _ r)
+
+  call-reached : (d : Desk) (c : Call) → Reached b first d → Reached b first (call b d c)
+  call-reached d (step seen l) r = step-reached d seen l r
+  call-reached d (run seen budget preferred) r = rw (run-is-steps b d seen budget preferred) (hand-reached preferred _ d r)
+
+  play-reached : (cs : List Call) (d : Desk) → Reached b first d → Reached b first (play b d cs)
+  unfolding play
+  play-reached [] d r = r
+  play-reached (c ∷ cs) d r = play-reached cs (call b d c) (call-reached d c r)
+
+-- ---- what is kept is what is asked
+module _ (b : List ℤ) (block : refusal limits b ≡ 0) (first : ℕ) where
+  guard : (d : Desk) → Reached b first d → d .latest .state ≡ Open → Guarded (d .latest) b (d .lits) (d .kinds) (d .latest .revision)
+  guard d r o = record { block = block; kept = r .kept; live = o; current = refl }
+
+  demand : (d : Desk) → Reached b first d → Demand b first d
+  unfolding formulaOf
+  demand d r =
+      let F = formulaOf b in
+      let ok = accepted-proper b block in
+      record {
+        steps = rw (prefix-length b block) at (finite-formula F (r .path));
+        revision = r .revision;
+        valid-true = λ e. sound-formula F ok true (rw e at (r .path));
+        unsat-false = λ e. sound-formula F ok false (rw e at (r .path));
+        accepted = λ o h.
+            let e = step-passes (d .latest) b (d .lits) (d .kinds) (d .latest .revision) (guard d r o) h (literal (pos 0)) (inl refl) (inl refl) in
+            (_, ap (λ (o : Outcome). o .answer) (accepted-is (d .latest) b (d .lits) (d .kinds) (d .latest .revision) (literal (pos 0)) e));
+        refused = λ o h.
+            let e = step-last (d .latest) b (d .lits) (d .kinds) (d .latest .revision) (guard d r o) h (literal (pos 0)) in
+            ap (λ (o : Outcome). o .answer) (step-refused (d .latest) b (d .lits) (d .kinds) (d .latest .revision) (literal (pos 0)) 14 e);
+      }
+
+-- ---- a fresh desk
+module _ (b xs : List ℤ) (ys : List ℕ) (rev : Revision) where
+  opened : Desk
+  opened = desk (session 0 (rev .0) Open) (wiped (pos 0) xs 0 (variablesOf b)) (wiped 0 ys 0 (variablesOf b)) 0
+
+  open-reached : openRefusal b xs ys ≡ 0 → Reached b (rev .0) opened
+  unfolding openRefusal opened formulaOf recordOf
+  open-reached e =
+      let (h, r) = after-zero (refusal limits b) (openRows b xs ys) e in
+      let F = formulaOf b in
+      let V′ = variablesOf b in
+      let p = prefix-length b h in
+      record {
+        path = stop;
+        kept = record {
+          prefix = accepted-bound b h;
+          lits-room = rw (wiped-length, p) (ltb-false (length xs) V′ (or-fl _ _ (r 0)));
+          kinds-room = rw (wiped-length, p) (ltb-false (length ys) V′ (or-fr (ltb (length xs) V′) _ (r 0)));
+          good = good-kept F (wiped (pos 0) xs 0 V′) (wiped 0 ys 0 V′) 0 (accepted-proper b h) (accepted-bound b h) (omega arith) (good-none F);
+        };
+        revision = omega arith;
+      }
+
+  -- an answer with a session comes from an accepted opening
+  opened-is : (s : Session) → let o = openOutcome b xs ys rev in o .answer ≡ To s → (openRefusal b xs ys ≡ 0) × (desk s (o .lits) (o .kinds) 0 ≡ opened)
+  unfolding openOutcome opened
+  opened-is s = go (openRefusal b xs ys)
+    where
+      then : Outcome
+      then = outcome (To (session 0 (rev .0) Open)) (wiped (pos 0) xs 0 (variablesOf b)) (wiped 0 ys 0 (variablesOf b))
+
+      go : (n : ℕ) → unless n xs ys then .answer ≡ To s → (n ≡ 0) × (desk s (unless n xs ys then .lits) (unless n xs ys then .kinds) 0 ≡ desk (session 0 (rev .0) Open) (then .lits) (then .kinds) 0)
+      go zero e = let z : s ≡ session 0 (rev .0) Open = cc in (refl, ap (λ (s : Session). desk s (then .lits) (then .kinds) 0) z)
+      go (suc n) e = let z : _≡_ {A = ℕ} 0 1 = cc in absurd (omega arith)
+
+  -- Demand 2: whatever is called after an accepted opening
+  pub any-history : (s : Session) → let o = openOutcome b xs ys rev in o .answer ≡ To s → (calls : List Call) → Demand b (rev .0) (play b (desk s (o .lits) (o .kinds) 0) calls)
+  unfolding openRefusal
+  any-history s a calls =
+      let (e, z) = opened-is s a in
+      demand b (after-zero (refusal limits b) (openRows b xs ys) e .0) (rev .0) _ (rw z (play-reached b (rev .0) calls opened (open-reached e)))
