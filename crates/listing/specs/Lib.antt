@@ -4,3 +4,4 @@ pub mod Page
 pub mod Cases
 pub mod Values
 pub mod Start
+pub mod Wins
