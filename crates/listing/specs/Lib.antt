@@ -5,3 +5,4 @@ pub mod Cases
 pub mod Values
 pub mod Start
 pub mod Wins
+pub mod Searched
