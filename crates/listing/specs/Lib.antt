@@ -6,3 +6,4 @@ pub mod Values
 pub mod Start
 pub mod Wins
 pub mod Searched
+pub mod Aside

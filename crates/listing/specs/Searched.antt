@@ -50,7 +50,7 @@ module _ (F : Formula) (ok : Proper F) (preferred : List ℤ) where
   unfolding advance
   advance-step t k = due-step F ok t k _ (first-open (F .prefix) (trueIn (recordIn t)) preferred)
 
-  advance-keeps : (t : Search) → KeptIn (F .prefix) t → KeptIn (F .prefix) (advance F preferred t)
+  pub advance-keeps : (t : Search) → KeptIn (F .prefix) t → KeptIn (F .prefix) (advance F preferred t)
   unfolding advance
   advance-keeps t k = due-keeps F ok t k _ (first-open (F .prefix) (trueIn (recordIn t)) preferred)
 
