@@ -7,3 +7,4 @@ pub mod Start
 pub mod Wins
 pub mod Searched
 pub mod Aside
+pub mod Turns
