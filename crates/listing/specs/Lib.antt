@@ -8,3 +8,4 @@ pub mod Wins
 pub mod Searched
 pub mod Aside
 pub mod Turns
+pub mod Sheets
