@@ -9,3 +9,4 @@ pub mod Searched
 pub mod Aside
 pub mod Turns
 pub mod Sheets
+pub mod Rows

@@ -1,0 +1,108 @@
+-- Which number a page is refused with: "a page 1 to 11 and 18 to 21", each exactly when the table says; and what an accepted page has shown.
+-- The rows of the block, of opening and of a page make one table, in which rows 12 to 17 never apply.
+use Prim.Native.Nat.{ℕ, zero, suc, _+_, _-_, _^_, _≤_, _<_}
+use mathlib.Core.Path.{_≡_, refl, sym, _∙_, ap}
+use mathlib.Core.Bool.{Bool, true, false, _&&_, _||_}
+use mathlib.Core.List.{List, [], _∷_, _++_}
+use native.Mathlib.Omega.{arith}
+use lib.Dec.{ltb}
+use lib.IntN.{ℤ}
+use lib.ListN.{length, getD, replicate}
+use borrow.Author.Tests.{ltb-false, le-ltb}
+use Rattle.words.specs.Bools.{or-fl, or-fr}
+use Rattle.words.specs.Words.{negative}
+use Rattle.formula.specs.Limits.{limits}
+use Rattle.formula.specs.Formula.{Formula, formulaOf, word, variablesOf, prefixOf, firstGroup}
+use Rattle.formula.specs.Block.{first, rows, refusal}
+use Rattle.session.specs.Refusals.{short, openRows, openRefusal}
+use Rattle.session.specs.Rows.{NoRow, Numbered, numbered, join, first-join, after-first, after-zero}
+use Rattle.session.specs.Accepted.{prefix-length}
+use Rattle.listing.specs.Page.{firstUniversal, openings, after, pageRefusal}
+
+-- rows 18 to 21
+abbrev pub pageRows : Formula → ℕ → List ℕ → List Bool
+pageRows F start out = firstUniversal F ∷ ltb 16 (firstGroup (F .prefix)) ∷ ltb (openings F) start ∷ ltb (length out) 2 ∷ []
+
+-- rows 12 to 17 are not a page's
+abbrev pub skipped : List Bool
+skipped = false ∷ false ∷ false ∷ false ∷ false ∷ false ∷ []
+
+-- the whole table: row 1 first
+abbrev pub tableOf : List ℤ → List ℤ → List ℕ → ℕ → List ℕ → List Bool
+tableOf b ls ks start out = rows limits b ++ openRows b ls ks ++ skipped ++ pageRows (formulaOf b) start out
+
+-- ---- one table
+first-skipped : (n : ℕ) (ts : List Bool) → first (suc n) (ts ++ skipped) ≡ first (suc n) ts
+first-skipped n [] = refl
+first-skipped n (true ∷ ts) = refl
+first-skipped n (false ∷ ts) = first-skipped (suc n) ts
+
+after-join : (n : ℕ) (us : List Bool) → after n us ≡ join n (first 18 us)
+unfolding join
+after-join zero us = refl
+after-join (suc n) us = refl
+
+module _ (b ls : List ℤ) (ks : List ℕ) (start : ℕ) (out : List ℕ) where
+  table-first : pageRefusal b ls ks start out ≡ first 1 (tableOf b ls ks start out)
+  unfolding pageRefusal openRefusal
+  table-first =
+      let ts = rows limits b ++ openRows b ls ks in
+      let us = pageRows (formulaOf b) start out in
+      after-join (openRefusal b ls ks) us
+      ∙ ap (λ (n : ℕ). join n (first 18 us)) (after-first b (openRows b ls ks) ∙ sym (first-skipped 0 ts))
+      ∙ first-join 0 (ts ++ skipped) us
+
+  -- "a page 1 to 11 and 18 to 21", each exactly when the table says
+  pub page-numbered : Numbered (tableOf b ls ks start out) (pageRefusal b ls ks start out)
+  page-numbered = rw table-first (numbered (tableOf b ls ks start out))
+
+  -- ---- what an accepted page has shown
+  pub record PageGuarded : Type 0 where
+    pub block : refusal limits b ≡ 0
+    pub lits-room : length (prefixOf b) ≤ length ls
+    pub kinds-room : length (prefixOf b) ≤ length ks
+    pub exists : firstUniversal (formulaOf b) ≡ false
+    pub narrow : firstGroup (prefixOf b) ≤ 16
+    pub inside : start ≤ 2 ^ firstGroup (prefixOf b)
+    pub room : 2 ≤ length out
+
+  opens : pageRefusal b ls ks start out ≡ 0 → openRefusal b ls ks ≡ 0
+  unfolding pageRefusal
+  opens = go (openRefusal b ls ks)
+    where
+      go : (n : ℕ) → after n (pageRows (formulaOf b) start out) ≡ 0 → n ≡ 0
+      go zero e = refl
+      go (suc n) e = absurd (omega arith)
+
+  pub page-guarded : pageRefusal b ls ks start out ≡ 0 → PageGuarded
+  unfolding openRefusal formulaOf
+  page-guarded e =
+      let (h, r) = after-zero (refusal limits b) (openRows b ls ks) (opens e) in
+      let row = page-numbered .none .0 e in
+      let p = prefix-length b h in
+      record {
+        block = h;
+        lits-room = rw p (ltb-false (length ls) (variablesOf b) (or-fl _ _ (r 0)));
+        kinds-room = rw p (ltb-false (length ks) (variablesOf b) (or-fr (ltb (length ls) (variablesOf b)) _ (r 0)));
+        exists = row 17;
+        narrow = ltb-false 16 (firstGroup (prefixOf b)) (row 18);
+        inside = ltb-false (2 ^ firstGroup (prefixOf b)) start (row 19);
+        room = ltb-false (length out) 2 (row 20);
+      }
+
+  -- and the other way round
+  pub page-passes : PageGuarded → pageRefusal b ls ks start out ≡ 0
+  unfolding pageRefusal openRefusal formulaOf
+  page-passes g =
+      let e = prefix-length b (g .block) in
+      let x : variablesOf b ≤ length ls = rw (← e) (g .lits-room) in
+      let y : variablesOf b ≤ length ks = rw (← e) (g .kinds-room) in
+      rw (
+        g .block,
+        le-ltb (length ls) (variablesOf b) x,
+        le-ltb (length ks) (variablesOf b) y,
+        g .exists,
+        le-ltb 16 (firstGroup (prefixOf b)) (g .narrow),
+        le-ltb (2 ^ firstGroup (prefixOf b)) start (g .inside),
+        le-ltb (length out) 2 (g .room),
+      )
