@@ -10,3 +10,5 @@ pub mod Aside
 pub mod Turns
 pub mod Sheets
 pub mod Rows
+pub mod Refused
+pub mod Only
