@@ -69,6 +69,9 @@ module _ {n : ℕ} {ls : List ℤ} {ks : List ℕ} where
   pub aside-trans : {ls′ ls″ : List ℤ} {ks′ ks″ : List ℕ} → Aside n ls ks ls′ ks′ → Aside n ls′ ks′ ls″ ks″ → Aside n ls ks ls″ ks″
   aside-trans a b = record { lits = same-trans (a .lits) (b .lits); kinds = same-trans (a .kinds) (b .kinds) }
 
+pub wiped-aside : (n : ℕ) (ls : List ℤ) (ks : List ℕ) → Aside n ls ks (wiped (pos 0) ls 0 n) (wiped 0 ks 0 n)
+wiped-aside n ls ks = record { lits = wiped-same (pos 0) n ls; kinds = wiped-same 0 n ks }
+
 -- ---- one rule, and a search, write no place from V on
 module _ (F : Formula) (ok : Proper F) (preferred : List ℤ) where
   few : (t : Search) → KeptIn (F .prefix) t → t .count ≤ length (F .prefix)

@@ -12,3 +12,4 @@ pub mod Sheets
 pub mod Rows
 pub mod Refused
 pub mod Only
+pub mod Accepted
