@@ -46,6 +46,8 @@ module _ (F : Formula) (preferred : List ℤ) (budget : ℕ) (ls : List ℤ) (ks
 pub record Turned (b ls : List ℤ) (ks : List ℕ) (start : ℕ) (preferred : List ℤ) (budget : ℕ) (out : List ℕ) (s : Sheet) (ls′ : List ℤ) (ks′ : List ℕ) : Type 0 where
   pub from : start ≤ s .next
   pub upTo : s .next ≤ openings (formulaOf b)
+  -- at most one entry for each opening
+  pub few : s .entries + start ≤ s .next
   -- with its entries the listing below its start is the listing below next
   pub listed : listing (formulaOf b) start ++ take (2 * s .entries) (s .output) ≡ listing (formulaOf b) (s .next)
   -- "Output past the entries is untouched"
@@ -101,6 +103,7 @@ module _ (b ls : List ℤ) (ks : List ℕ) (start : ℕ) (preferred : List ℤ) 
       record {
         from = f .from;
         upTo = f .upTo;
+        few = (let c = f .few in omega arith);
         listed = f .listed (listing F start) (append-nil (listing F start));
         fits = f .fits;
         long = f .long;

@@ -13,3 +13,4 @@ pub mod Rows
 pub mod Refused
 pub mod Only
 pub mod Accepted
+pub mod Pages

@@ -64,6 +64,8 @@ module _ (F : Formula) (preferred : List ℤ) (budget : ℕ) (ls : List ℤ) (ks
     pub from : n ≤ s .next
     pub upTo : s .next ≤ total
     pub more : e ≤ s .entries
+    -- at most one entry for each opening
+    pub few : s .entries + n ≤ e + s .next
     pub fits : 2 * s .entries ≤ length out
     pub long : length (s .output) ≡ length out
     -- if what was written before is the listing below n, then with this page's entries it is the listing below next
@@ -81,6 +83,7 @@ module _ (F : Formula) (preferred : List ℤ) (budget : ℕ) (ls : List ℤ) (ks
       from = omega arith;
       upTo = h;
       more = omega arith;
+      few = omega arith;
       fits = fit;
       long = refl;
       listed = λ before z. z;
@@ -96,10 +99,12 @@ module _ (F : Formula) (preferred : List ℤ) (budget : ℕ) (ls : List ℤ) (ks
           let l = written-length n e out in
           let a = g .from in
           let b = g .more in
+          let c = g .few in
           record {
             from = omega arith;
             upTo = g .upTo;
             more = omega arith;
+            few = omega arith;
             fits = rw l at (g .fits);
             long = g .long ∙ l;
             listed = λ before z. g .listed before (rw (written-take n e out r, ← (append-assoc before (take (2 * e) out) (n ∷ ones n ∷ [])), z) (sym (listing-won F n w)));
@@ -111,10 +116,12 @@ module _ (F : Formula) (preferred : List ℤ) (budget : ℕ) (ls : List ℤ) (ks
       goes-lost : wins F n ≡ false → Filled (n + 1) e out total s → Filled n e out total s
       goes-lost w g =
           let a = g .from in
+          let c = g .few in
           record {
             from = omega arith;
             upTo = g .upTo;
             more = g .more;
+            few = omega arith;
             fits = g .fits;
             long = g .long;
             listed = λ before z. g .listed before (z ∙ sym (listing-lost F n w));
