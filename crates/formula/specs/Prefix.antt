@@ -89,7 +89,8 @@ twice-snoc [] l h s = refl
 twice-snoc (x ∷ xs) l h s =
     let t = rw (stands-step x xs l, eqb-comm (natAbs l) (natAbs x)) at s in
     let e = or-fl (eqb (natAbs x) (natAbs l)) (stands xs l) t in
-    twice-cons x (xs ++ l ∷ []) (rw (stands-append xs (l ∷ []) x, twice-head x xs h, stands-step l [] x, stands-none x, e)) (twice-snoc xs l (twice-tail x xs h) (or-fr (eqb (natAbs x) (natAbs l)) (stands xs l) t))
+    let f : stands (xs ++ l ∷ []) x ≡ false = rw (stands-append xs (l ∷ []) x, twice-head x xs h, stands-step l [] x, stands-none x, e) in
+    twice-cons x (xs ++ l ∷ []) f (twice-snoc xs l (twice-tail x xs h) (or-fr (eqb (natAbs x) (natAbs l)) (stands xs l) t))
 
 -- a word that stands elsewhere has another variable
 pub other : (q : ℤ) {x : ℤ} {p : List ℤ} → stands p q ≡ false → In x p → natAbs q ≡ natAbs x → ⊥
@@ -118,10 +119,6 @@ existential-neg p x = rw (natAbs-neg x)
 pub universal-neg : (p : List ℤ) (x : ℤ) → universal p (negℤ x) ≡ universal p x
 unfolding universal
 universal-neg p x = rw (natAbs-neg x)
-
-pub level-neg : (p : List ℤ) (x : ℤ) → level p (negℤ x) ≡ level p x
-unfolding level
-level-neg p x = rw (natAbs-neg x)
 
 -- literals of one variable have one quantifier and one level
 pub existential-var : (p : List ℤ) (x y : ℤ) → natAbs x ≡ natAbs y → existential p x ≡ existential p y

@@ -8,7 +8,7 @@ pub mod Tables
 pub mod Buffers
 pub mod Records
 pub mod Searches
-pub mod Reasons
 pub mod Passed
+pub mod Reasons
 pub mod Steps
 pub mod Written

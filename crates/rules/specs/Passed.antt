@@ -1,33 +1,31 @@
 -- A record that passes row 12 is one that the theory calls good, and the other way round: V distinct words of sizes 1 to V are all of them,
 -- so every word of such a size names a variable of the prefix.
-use Prim.Native.Nat.{ℕ, zero, suc, _+_, _≤_, _<_, zero-le, suc-le-suc}
-use mathlib.Core.Path.{_≡_, refl, sym, _∙_, ap}
-use mathlib.Core.Logic.{_⊎_, inl, inr}
-use mathlib.Core.Bool.{Bool, true, false, not, _&&_, _||_}
+use Prim.Native.Nat.{ℕ, zero, suc, _≤_, _<_}
+use mathlib.Core.Path.{_≡_, refl, ap}
+use mathlib.Core.Logic.{inl, inr}
+use mathlib.Core.Bool.{true, false}
 use mathlib.Core.List.{List, [], _∷_}
-use native.Mathlib.Nat.{not-suc-le-zero, le-of-suc-le-suc}
 use native.Mathlib.Omega.{arith}
 use native.Mathlib.Decide.{ℕ-discrete}
 use lib.Dec.{eqb, ltb}
 use lib.IntN.{ℤ, pos, natAbs}
 use lib.ListN.{length}
-use borrow.Author.Tests.{eqb-false, ltb-false, le-ltb, ne-eqb}
-use Rattle.words.specs.Bools.{clash, look, or-e, or-fl, or-fr, or-l, or-r, and-l, and-r, to-false}
+use borrow.Author.Tests.{eqb-false, ltb-false}
+use Rattle.words.specs.Bools.{clash, look, or-fl, or-fr, or-l, or-r, to-false}
 use Rattle.words.specs.Lists.{In, here, there, all, any, all-e, all-i, any-f, any-none}
 use Rattle.words.specs.Words.{mem, mem-e}
 use Rattle.formula.specs.Formula.{Formula, existential, universal}
-use Rattle.formula.specs.Block.{noVariable, twice}
+use Rattle.formula.specs.Block.{noVariable}
 use Rattle.formula.specs.Prefix.{stands, stands-i, stands-e, stands-bound, twice-cons, universal-existential, existential-universal}
 use Rattle.formula.specs.Proper.{Proper}
-use Rattle.theory.specs.Record.{Entry, entry, Record, literals, Assignment, among}
-use Rattle.theory.specs.Moves.{suits, suits-stands}
-use Rattle.theory.specs.Good.{Good}
-use Rattle.theory.specs.Free.{free, free-taken, good-taken}
+use Rattle.theory.specs.Record.{Entry, entry, Record, literals}
+use Rattle.theory.specs.Start.{suits, allSuit, Good}
+use Rattle.theory.specs.Moves.{suits-stands}
+use Rattle.theory.specs.Free.{free-taken}
 use Rattle.rules.specs.Apply.{recordOf}
-use Rattle.rules.specs.Check.{badKind, badEntries, badRecord}
+use Rattle.rules.specs.Check.{badKind, badRecord}
 use Rattle.rules.specs.Ready.{Bound, Kept}
-use Rattle.rules.specs.Buffers.{Room}
-use Rattle.rules.specs.Records.{record-length, in-literals, good, good-passes}
+use Rattle.rules.specs.Records.{in-literals, good, good-passes}
 
 -- ---- the words 1 to n
 upTo : ℕ → List ℤ
@@ -70,6 +68,14 @@ bound-stands p b l h = elim (look (stands p l)) [ inl e ↦ e | inr e ↦ absurd
 pub stands-named : (p : List ℤ) → Bound p → (l : ℤ) → stands p l ≡ true → noVariable (length p) l ≡ false
 stands-named p b l h = let r = stands-e p l h in rw (r .2) (any-none (noVariable (length p)) p (b .named) (r .1))
 
+-- so the prefix is proper, whatever the clauses: with none, say
+abbrev pub bare : List ℤ → Formula
+bare p = record { prefix = p; clauses = [] }
+
+pub bare-proper : (p : List ℤ) → Bound p → Proper (bare p)
+unfolding any
+bare-proper p b = record { named = to-false (mem (pos 0) p) (λ e. clash refl (any-none (noVariable (length p)) p (b .named) (mem-e (pos 0) p e))); once = b .once; plain = refl }
+
 -- ---- one entry: the kind is as row 12 asks, or suits as the theory asks
 kind-suits : (p : List ℤ) (k : ℕ) (l : ℤ) → stands p l ≡ true → badKind p (entry k l) ≡ false → suits p k l ≡ true
 unfolding suits
@@ -78,12 +84,12 @@ kind-suits p (suc zero) l s h = elim (stands-bound p l s) [ inl e ↦ e | inr e 
 kind-suits p (suc (suc zero)) l s h = elim (stands-bound p l s) [ inl e ↦ clash e h | inr e ↦ e ]
 kind-suits p (suc (suc (suc k))) l s h = let z = ltb-false 2 (suc (suc (suc k))) (or-fl (ltb 2 (suc (suc (suc k)))) _ (or-fl _ _ h)) in absurd (omega arith)
 
-suits-kind : (F : Formula) → Proper F → (k : ℕ) (l : ℤ) → suits (F .prefix) k l ≡ true → badKind (F .prefix) (entry k l) ≡ false
+suits-kind : (p : List ℤ) → Bound p → (k : ℕ) (l : ℤ) → suits p k l ≡ true → badKind p (entry k l) ≡ false
 unfolding suits
-suits-kind F ok zero l h = refl
-suits-kind F ok (suc zero) l h = rw (existential-universal ok l h)
-suits-kind F ok (suc (suc zero)) l h = universal-existential ok l h
-suits-kind F ok (suc (suc (suc k))) l h = clash h refl
+suits-kind p b zero l h = refl
+suits-kind p b (suc zero) l h = rw (existential-universal {F = bare p} (bare-proper p b) l h)
+suits-kind p b (suc (suc zero)) l h = universal-existential {F = bare p} (bare-proper p b) l h
+suits-kind p b (suc (suc (suc k))) l h = clash h refl
 
 -- ---- the whole record
 literals-in : (r : Record) {x : ℤ} → In x (literals r) → (e : Entry) × In e r × (x ≡ e .literal)
@@ -94,6 +100,7 @@ literals-in (e ∷ r) (there i) = let t = literals-in r i in (t .0, there (t .1)
 module _ (F : Formula) (ls : List ℤ) (ks : List ℕ) (n : ℕ) where
   -- what a guarded call has shown of the record is what the theory asks of it
   pub kept-good : Kept (F .prefix) ls ks n → Good F (recordOf ls ks n)
+  unfolding allSuit
   kept-good k = record { distinct = g .once; suited = all-i (λ e. suits p (e .kind) (e .literal)) r (λ e i. fits e i) }
     where
       p : List ℤ
@@ -108,12 +115,13 @@ module _ (F : Formula) (ls : List ℤ) (ks : List ℕ) (n : ℕ) where
       fits : (e : Entry) → In e r → suits p (e .kind) (e .literal) ≡ true
       fits e i = kind-suits p (e .kind) (e .literal) (bound-stands p (k .prefix) (e .literal) (any-none (noVariable (length p)) (literals r) (g .named) (in-literals i))) (any-none (badKind p) r (g .kinds) i)
 
-  pub good-kept : Proper F → Bound (F .prefix) → n ≤ length (F .prefix) → Good F (recordOf ls ks n) → badRecord (F .prefix) ls ks n ≡ false
-  good-kept ok b h g = good-passes p ls ks n (record {
+  pub good-kept : Bound (F .prefix) → n ≤ length (F .prefix) → Good F (recordOf ls ks n) → badRecord (F .prefix) ls ks n ≡ false
+  unfolding allSuit
+  good-kept b h g = good-passes p ls ks n (record {
     few = h;
     named = any-f (noVariable (length p)) (literals r) (λ x i. size x (literals-in r i));
     once = g .distinct;
-    kinds = any-f (badKind p) r (λ e i. suits-kind F ok (e .kind) (e .literal) (suited e i));
+    kinds = any-f (badKind p) r (λ e i. suits-kind p b (e .kind) (e .literal) (suited e i));
   })
     where
       p : List ℤ

@@ -1,18 +1,19 @@
 -- Why the due rule is due: for each rule, what its searches have shown. By the cases of the searches, in their order.
 use Prim.Native.Nat.{ℕ}
 use mathlib.Core.Path.{_≡_, refl}
-use mathlib.Core.Bool.{Bool, true, false}
-use mathlib.Core.List.{List, [], _∷_}
-use lib.IntN.{ℤ}
-use Rattle.words.specs.Lists.{any, any-i}
+use mathlib.Core.Bool.{true}
+use mathlib.Core.List.{[]}
+use Rattle.words.specs.Lists.{any-i}
 use Rattle.words.specs.declared.Literal.{Literal}
 use Rattle.formula.specs.Formula.{Formula}
-use Rattle.formula.specs.Proper.{Proper}
 use Rattle.theory.specs.Record.{Record, trueIn}
 use Rattle.theory.specs.Tests.{inConflict, conflict, monotone as isMonotone, isOpen}
 use Rattle.theory.specs.Rules.{Conflict, Quiet, Full}
+use Rattle.theory.specs.Progress.{first-open}
 use Rattle.rules.specs.Due.{onFound, onUnit, onPicked, lowest, last, lowestUnit, firstMonotone, firstUnassigned, dueAssigned, dueDecide, dueMonotone, dueUnit, dueConflict, due}
-use Rattle.rules.specs.Searches.{lowest-none, lowest-at, UnitOf, unit-found, monotone-found, unassigned-none, unassigned-open}
+use Rattle.rules.specs.Ready.{Bound}
+use Rattle.rules.specs.Passed.{bare, bare-proper}
+use Rattle.rules.specs.Searches.{lowest-none, lowest-at, UnitOf, unit-found, monotone-found, unassigned-none, unassigned-found}
 use Rattle.rules.specs.declared.Rule.{Rule}
 use Rattle.rules.specs.declared.Rule.the-variants.{BacktrackExists, Fail, Unit, Monotone, Decide, BacktrackForall, Succeed}
 use Rattle.rules.specs.declared.Found.{Found}
@@ -31,7 +32,7 @@ pub data Reason (F : Formula) (r : Record) : Rule → Type 0 where
   backtrack-forall : (i : ℕ) → Quiet F r → Full F r → last 2 0 r ≡ At i → Reason F r (BacktrackForall i)
   succeed : Quiet F r → Full F r → last 2 0 r ≡ Nothing → Reason F r Succeed
 
-module _ (F : Formula) (ok : Proper F) (r : Record) where
+module _ (F : Formula) (bound : Bound (F .prefix)) (r : Record) where
   by-conflict : (c : ℕ) → Conflict F r → Reason F r (dueConflict F r c)
   by-conflict c h = go (last 1 0 r) refl
     where
@@ -51,7 +52,7 @@ module _ (F : Formula) (ok : Proper F) (r : Record) where
     by-decide = go (firstUnassigned (trueIn r) (F .prefix)) refl
       where
         go : (o : Picked) → firstUnassigned (trueIn r) (F .prefix) ≡ o → Reason F r (onPicked o (λ l. Decide l) (dueAssigned F r))
-        go (Is l) e = decide l quiet (unassigned-open F ok (trueIn r) l e)
+        go (Is l) e = let (w, v) = unassigned-found (trueIn r) (F .prefix) l e in decide l quiet (first-open (bare (F .prefix)) (bare-proper (F .prefix) bound) (trueIn r) w (l .0) v)
         go NoLiteral e = by-assigned (unassigned-none (trueIn r) (F .prefix) e)
 
     by-monotone : Reason F r (dueMonotone F r)

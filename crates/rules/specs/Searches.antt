@@ -1,29 +1,23 @@
 -- What each search of the due rule finds, and what it means that it finds nothing. By induction on the list that is searched.
-use Prim.Native.Nat.{ℕ, zero, suc, _+_, _≤_, _<_}
-use mathlib.Core.Path.{_≡_, refl, sym, _∙_, ap}
+use Prim.Native.Nat.{ℕ, suc, _+_}
+use mathlib.Core.Path.{_≡_, refl, sym, ap}
 use mathlib.Core.Logic.{_⊎_, inl, inr}
-use mathlib.Core.Bool.{Bool, true, false, not, _||_}
+use mathlib.Core.Bool.{Bool, true, false, _||_}
 use mathlib.Core.List.{List, [], _∷_}
 use native.Mathlib.Omega.{arith}
 use lib.IntN.{ℤ, pos, negℤ, natAbs}
 use lib.ListN.{getD}
-use Rattle.words.specs.Bools.{look, clash, or-r, and-i}
+use Rattle.words.specs.Bools.{and-i}
 use Rattle.words.specs.Lists.{In, here, there, all, any}
 use Rattle.words.specs.declared.Literal.{Literal}
-use Rattle.formula.specs.Formula.{Formula, existential, universal, level}
-use Rattle.formula.specs.Prefix.{Ordered, none, more, ordered, level-var, stands-i, stands-bound}
-use Rattle.formula.specs.Proper.{Proper}
 use Rattle.theory.specs.Record.{Assignment, assigned}
-use Rattle.theory.specs.Tests.{unassignedE, unassignedU, unitOn, monotone, isOpen, allAssigned}
-use Rattle.theory.specs.Assignment.{assigned-var}
-use Rattle.theory.specs.Tested.{unassignedE-i, unassignedU-i, open-i}
+use Rattle.theory.specs.Tests.{unitOn, monotone, isOpen, allAssigned}
+use Rattle.theory.specs.Progress.{First}
 use Rattle.rules.specs.Due.{literal, pick, onFound, lowest, candidate, isUnit, lowestUnit, firstMonotone, firstUnassigned}
 use Rattle.rules.specs.Preferred.{firstOpen}
 use Rattle.rules.specs.declared.Found.{Found}
 use Rattle.rules.specs.declared.Found.the-variants.{At, Nothing}
-use Rattle.rules.specs.declared.Picked.{Picked}
 use Rattle.rules.specs.declared.Picked.the-variants.{Is, NoLiteral}
-use Rattle.rules.specs.declared.UnitFound.{UnitFound}
 use Rattle.rules.specs.declared.UnitFound.the-variants.{On, NoUnit}
 
 -- ---- the lowest that passes
@@ -92,44 +86,19 @@ unassigned-none ρ (q ∷ qs) e = go (assigned ρ q) refl (unassigned-none ρ qs
     go true p ih e = and-i p (ih e)
     go false p ih e = let z : _≡_ {A = ℕ} 0 1 = cc in absurd (omega arith)
 
--- it is one of the words, and no word of a lower level is unassigned: levels do not fall along the prefix
-record First (P qs : List ℤ) (ρ : Assignment) (l : ℤ) : Type 0 where
-  word : ℤ
-  inside : In word qs
-  variable : natAbs l ≡ natAbs word
-  unset : assigned ρ word ≡ false
-  least : (x : ℤ) → In x qs → (assigned ρ x ≡ true) ⊎ (level P word ≤ level P x)
-
-unassigned-found : (P qs : List ℤ) → Ordered P qs → (ρ : Assignment) (l : Literal) → firstUnassigned ρ qs ≡ Is l → First P qs ρ (l .0)
-unfolding firstUnassigned
-unassigned-found P qs none ρ l e = let z : _≡_ {A = ℕ} 0 1 = cc in absurd (omega arith)
-unassigned-found P qs (more {q = q} {p = p} a b c d rest) ρ l e = go (assigned ρ q) refl (unassigned-found P p rest ρ l) e
+-- it is the first word that is unassigned, with either sign
+pub unassigned-found : (ρ : Assignment) (qs : List ℤ) (l : Literal) → firstUnassigned ρ qs ≡ Is l → (w : First qs ρ) × (natAbs (l .0) ≡ natAbs (w .word))
+unfolding firstUnassigned allAssigned all
+unassigned-found ρ [] l e = let z : _≡_ {A = ℕ} 0 1 = cc in absurd (omega arith)
+unassigned-found ρ (q ∷ qs) l e = go (assigned ρ q) refl (unassigned-found ρ qs l) e
   where
-    go : (b : Bool) → assigned ρ q ≡ b → (firstUnassigned ρ p ≡ Is l → First P p ρ (l .0)) → pick b (firstUnassigned ρ p) (Is (literal (pos (natAbs q)))) ≡ Is l → First P (q ∷ p) ρ (l .0)
-    go true s ih e = let r = ih e in record { word = r .word; inside = there (r .inside); variable = r .variable; unset = r .unset; least = low r }
-      where
-        low : (r : First P p ρ (l .0)) (x : ℤ) → In x (q ∷ p) → (assigned ρ x ≡ true) ⊎ (level P (r .word) ≤ level P x)
-        low r x (here z) = inl (rw z s)
-        low r x (there i) = r .least x i
-    go false s ih e =
+    go : (b : Bool) → assigned ρ q ≡ b → (firstUnassigned ρ qs ≡ Is l → (w : First qs ρ) × (natAbs (l .0) ≡ natAbs (w .word))) → pick b (firstUnassigned ρ qs) (Is (literal (pos (natAbs q)))) ≡ Is l → (w : First (q ∷ qs) ρ) × (natAbs (l .0) ≡ natAbs (w .word))
+    go true a ih e =
+        let (w, v) = ih e in
+        (record { before = q ∷ w .before; word = w .word; after = w .after; whole = ap (λ (t : List ℤ). q ∷ t) (w .whole); set = and-i a (w .set); unset = w .unset }, v)
+    go false a ih e =
         let w : literal (pos (natAbs q)) ≡ l = cc in
-        let w0 : pos (natAbs q) ≡ l .0 = ap (λ (x : Literal). x .0) w in
-        record { word = q; inside = here refl; variable = ap natAbs (sym w0); unset = s; least = low }
-      where
-        low : (x : ℤ) → In x (q ∷ p) → (assigned ρ x ≡ true) ⊎ (level P q ≤ level P x)
-        low x (here z) = inr (rw z (omega arith))
-        low x (there i) = inr (d x i .0)
-
-module _ (F : Formula) (ok : Proper F) (ρ : Assignment) where
-  -- an unassigned word of the prefix is unassigned by its quantifier
-  unset-word : (l w : ℤ) → In w (F .prefix) → natAbs l ≡ natAbs w → assigned ρ l ≡ false → (unassignedE (F .prefix) ρ l ≡ true) ⊎ (unassignedU (F .prefix) ρ l ≡ true)
-  unset-word l w i e u = elim (stands-bound (F .prefix) l (stands-i l i e)) [ inl h ↦ inl (unassignedE-i (F .prefix) ρ l h u) | inr h ↦ inr (unassignedU-i (F .prefix) ρ l h u) ]
-
-  pub unassigned-open : (l : Literal) → firstUnassigned ρ (F .prefix) ≡ Is l → isOpen (F .prefix) ρ (l .0) ≡ true
-  unassigned-open l e =
-      let r = unassigned-found (F .prefix) (F .prefix) (ordered ok) ρ l e in
-      let v = assigned-var ρ (l .0) (r .word) (r .variable) in
-      open-i (F .prefix) ρ (l .0) (unset-word (l .0) (r .word) (r .inside) (r .variable) (v ∙ r .unset)) (λ x i. rw (level-var (F .prefix) (l .0) (r .word) (r .variable)) (r .least x i))
+        (record { before = []; word = q; after = qs; whole = refl; set = refl; unset = a }, ap (λ (x : Literal). natAbs (x .0)) (sym w))
 
 -- ---- a preferred literal: 0 or open
 pub first-open : (p : List ℤ) (ρ : Assignment) (ls : List ℤ) → (natAbs (firstOpen p ρ ls) ≡ 0) ⊎ (isOpen p ρ (firstOpen p ρ ls) ≡ true)

@@ -1,33 +1,30 @@
 -- The due rule is a rule of the theory: applied to the buffers it is a `Step` of the record in them, it has a place to write to, and it leaves
 -- buffers as long as before whose record passes row 12. By the reason of each rule.
-use Prim.Native.Nat.{ℕ, zero, suc, _+_, _≤_, _<_}
-use mathlib.Core.Path.{_≡_, refl, sym, _∙_, ap}
+use Prim.Native.Nat.{ℕ, _+_, _≤_, _<_}
+use mathlib.Core.Path.{_≡_, refl, ap}
 use mathlib.Core.Logic.{_⊎_, inl, inr}
-use mathlib.Core.Bool.{Bool, true, false}
+use mathlib.Core.Bool.{true}
 use mathlib.Core.List.{List, [], _∷_, _++_}
 use native.Mathlib.Omega.{arith}
 use lib.Dec.{eqb}
 use lib.IntN.{ℤ, pos, negℤ, natAbs}
 use lib.ListN.{length, getD, set, length-set, length-append}
-use borrow.Author.Tests.{eq-eqb, eqb-true}
+use borrow.Author.Tests.{eq-eqb}
 use Rattle.words.specs.Bools.{look, clash}
-use Rattle.words.specs.declared.Literal.{Literal}
-use Rattle.formula.specs.Formula.{Formula, existential, universal}
+use Rattle.formula.specs.Formula.{Formula, universal}
 use Rattle.formula.specs.Prefix.{stands-bound}
-use Rattle.formula.specs.Proper.{Proper}
 use Rattle.theory.specs.Record.{Entry, entry, Record, Assignment, trueIn}
 use Rattle.theory.specs.Tests.{monotone as isMonotone, isOpen}
 use Rattle.theory.specs.Rules.{State as Standing, going, valid, unsat, Quiet, Step}
 use Rattle.theory.specs.Tested.{open-e}
 use Rattle.theory.specs.Monotone.{monotone-wide}
-use Rattle.theory.specs.Good.{Good, good-step}
-use Rattle.theory.specs.Free.{free, good-taken}
-use Rattle.rules.specs.Due.{literal, pick, last, due}
-use Rattle.rules.specs.Apply.{Search, search, recordOf, wiped, append, turn, ended, kindOf, chosen, apply}
-use Rattle.rules.specs.Check.{badRecord}
-use Rattle.rules.specs.Ready.{Bound, Kept, Fitting}
+use Rattle.theory.specs.Good.{good-step}
+use Rattle.theory.specs.Free.{good-taken}
+use Rattle.rules.specs.Due.{due}
+use Rattle.rules.specs.Apply.{Search, search, recordOf, append, turn, kindOf, chosen, apply}
+use Rattle.rules.specs.Ready.{Kept, Fitting}
 use Rattle.rules.specs.Buffers.{Room}
-use Rattle.rules.specs.Records.{entryAt, after, record-length, record-at, record-append, record-turn, wiped-length, Last, last-none, last-at, good}
+use Rattle.rules.specs.Records.{after, record-length, record-at, record-append, record-turn, wiped-length, Last, last-none, last-at, good}
 use Rattle.rules.specs.Searches.{UnitOf}
 use Rattle.rules.specs.Reasons.{Reason, backtrack-exists, fail, unit, monotone, decide, backtrack-forall, succeed, reason}
 use Rattle.rules.specs.Passed.{kept-good, good-kept}
@@ -35,7 +32,6 @@ use Rattle.rules.specs.declared.State.{State}
 use Rattle.rules.specs.declared.State.the-variants.{Open, Valid, Unsat}
 use Rattle.rules.specs.declared.Rule.{Rule}
 use Rattle.rules.specs.declared.Rule.the-variants.{BacktrackExists, Fail, Unit, Monotone, Decide, BacktrackForall, Succeed}
-use Rattle.rules.specs.declared.Found.the-variants.{At, Nothing}
 
 -- how a search stands, in the words of the theory
 abbrev pub standing : State → Record → Standing
@@ -77,7 +73,7 @@ module _ (F : Formula) (r : Record) (q : Quiet F r) (x : ℤ) where
   ]
 
 -- ---- on the buffers of a guarded call
-module _ (F : Formula) (ok : Proper F) (ls : List ℤ) (ks : List ℕ) (n : ℕ) (st : State) (k : Kept (F .prefix) ls ks n) where
+module _ (F : Formula) (ls : List ℤ) (ks : List ℕ) (n : ℕ) (st : State) (k : Kept (F .prefix) ls ks n) where
   few : n ≤ length (F .prefix)
   few = good (F .prefix) ls ks n (k .good) .few
 
@@ -145,7 +141,7 @@ module _ (F : Formula) (ok : Proper F) (ls : List ℤ) (ks : List ℕ) (n : ℕ)
         prefix = k .prefix;
         lits-room = rw length-set (k .lits-room);
         kinds-room = rw length-set (k .kinds-room);
-        good = good-kept F (set ls n x) (set ks n kind) (n + 1) ok (k .prefix) (omega arith) (rw (record-append ls ks n x kind (omega arith) (omega arith)) g);
+        good = good-kept F (set ls n x) (set ks n kind) (n + 1) (k .prefix) (omega arith) (rw (record-append ls ks n x kind (omega arith) (omega arith)) g);
       }
 
   turn-keeps : (i : ℕ) → i < n → Step F (recordOf ls ks n) (stateOf (turn i (search ls ks n st)))
@@ -156,7 +152,7 @@ module _ (F : Formula) (ok : Proper F) (ls : List ℤ) (ks : List ℕ) (n : ℕ)
         prefix = k .prefix;
         lits-room = rw (length-set, wiped-length) (k .lits-room);
         kinds-room = rw (length-set, wiped-length) (k .kinds-room);
-        good = good-kept F _ _ (i + 1) ok (k .prefix) (omega arith) (good-step F (kept-good F ls ks n k) s);
+        good = good-kept F _ _ (i + 1) (k .prefix) (omega arith) (good-step F (kept-good F ls ks n k) s);
       }
 
   keeps : {rule : Rule} → Reason F (recordOf ls ks n) rule → (l : ℤ) → Permitted (F .prefix) (trueIn (recordOf ls ks n)) l
@@ -183,14 +179,14 @@ apply-lengths p (Decide x) l t = (simp length-set, simp length-set)
 apply-lengths p (BacktrackForall i) l t = (simp (length-set, wiped-length), simp (length-set, wiped-length))
 apply-lengths p Succeed l t = (refl, refl)
 
--- ---- the due rule of a search on an accepted formula, with a permitted proposal
-module _ (F : Formula) (ok : Proper F) (t : Search) (k : KeptIn (F .prefix) t) where
+-- ---- the due rule of a search whose buffers the guard has passed, with a permitted proposal
+module _ (F : Formula) (t : Search) (k : KeptIn (F .prefix) t) where
   pub due-fits : Fitting (F .prefix) (t .count) (due F (recordIn t))
-  due-fits = fits F ok (t .lits) (t .kinds) (t .count) (t .state) k (reason F ok (recordIn t))
+  due-fits = fits F (t .lits) (t .kinds) (t .count) (t .state) k (reason F (k .prefix) (recordIn t))
 
   module _ (l : ℤ) (a : Permitted (F .prefix) (trueIn (recordIn t)) l) where
     pub due-step : Step F (recordIn t) (stateOf (apply (F .prefix) (due F (recordIn t)) l t))
-    due-step = steps F ok (t .lits) (t .kinds) (t .count) (t .state) k (reason F ok (recordIn t)) l a
+    due-step = steps F (t .lits) (t .kinds) (t .count) (t .state) k (reason F (k .prefix) (recordIn t)) l a
 
     pub due-keeps : KeptIn (F .prefix) (apply (F .prefix) (due F (recordIn t)) l t)
-    due-keeps = keeps F ok (t .lits) (t .kinds) (t .count) (t .state) k (reason F ok (recordIn t)) l a
+    due-keeps = keeps F (t .lits) (t .kinds) (t .count) (t .state) k (reason F (k .prefix) (recordIn t)) l a

@@ -9,7 +9,6 @@ use native.Mathlib.Omega.{arith}
 use lib.IntN.{ℤ, pos, negℤ}
 use lib.ListN.{length, getD, set, replicate, length-replicate, List·getD-eq-default}
 use lib.Seq.{sets, getD-set-same, getD-set-other, set-out}
-use Rattle.words.specs.Bools.{clash}
 use Rattle.rules.specs.Apply.{Search, wiped, append, turn, apply}
 use Rattle.rules.specs.declared.State.the-variants.{Open}
 use Rattle.rules.specs.declared.Rule.{Rule}

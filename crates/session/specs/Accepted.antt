@@ -1,31 +1,31 @@
 -- What the rows that a call has passed show: the block's formula is proper and its prefix bound, the record is one that the rules keep.
-use Prim.Native.Nat.{ℕ, zero, suc, _+_, _-_, min, _≤_, _<_}
-use mathlib.Core.Path.{_≡_, refl, sym, _∙_, ap}
+use Prim.Native.Nat.{ℕ, _+_, _-_, _≤_}
+use mathlib.Core.Path.{_≡_, refl}
 use mathlib.Core.Logic.{_⊎_, inl, inr}
-use mathlib.Core.Bool.{Bool, true, false, not, _&&_, _||_, and-false}
-use mathlib.Core.List.{List, [], _∷_}
+use mathlib.Core.Bool.{Bool, true, false, not, _&&_, and-false}
+use mathlib.Core.List.{List}
 use native.Mathlib.Omega.{arith}
 use lib.Dec.{eqb, ltb}
 use lib.IntN.{ℤ, pos, natAbs}
-use lib.ListN.{length, take, drop, length-take, length-drop}
+use lib.ListN.{length, length-take, length-drop}
 use borrow.Author.Tests.{eqb-true, eqb-false, ltb-false, not-false, le-ltb, eq-eqb, ne-eqb}
 use Rattle.words.specs.Bools.{clash, look, or-fl, or-fr, not-f, to-false}
 use Rattle.words.specs.declared.Literal.{Literal}
 use Rattle.words.specs.Lists.{any, any-none}
 use Rattle.words.specs.Words.{negative, mem, mem-e}
-use Rattle.formula.specs.Limits.{Limits, limits}
-use Rattle.formula.specs.Formula.{Formula, word, variablesOf, clauseCountOf, literalCountOf, prefixOf, endsOf, literalsOf, clausesFrom, formulaOf}
-use Rattle.formula.specs.Block.{badCount, badCounts, noVariable, twice, rows, refusal}
+use Rattle.formula.specs.Limits.{limits}
+use Rattle.formula.specs.Formula.{word, variablesOf, clauseCountOf, literalCountOf, prefixOf, endsOf, literalsOf, formulaOf}
+use Rattle.formula.specs.Block.{noVariable, rows, refusal}
 use Rattle.formula.specs.Proper.{Proper}
 use Rattle.theory.specs.Record.{trueIn}
 use Rattle.theory.specs.Tests.{isOpen}
 use Rattle.rules.specs.declared.State.{State}
 use Rattle.rules.specs.declared.State.the-variants.{Open, Valid, Unsat}
 use Rattle.rules.specs.Due.{due}
-use Rattle.rules.specs.Apply.{Search, recordOf}
+use Rattle.rules.specs.Apply.{recordOf}
 use Rattle.rules.specs.Check.{badRecord}
-use Rattle.rules.specs.Ready.{Bound}
-use Rattle.rules.specs.Steps.{KeptIn, Permitted, recordIn}
+use Rattle.rules.specs.Ready.{formula, Bound, Ready}
+use Rattle.rules.specs.Steps.{KeptIn, Permitted}
 use Rattle.session.specs.declared.Revision.{Revision}
 use Rattle.session.specs.declared.Session.{Session}
 use Rattle.session.specs.Refusals.{lastRevision, short, over, stale, decides, proposed, stepRows, stepRefusal, runRows, runRefusal}
@@ -51,6 +51,15 @@ module _ (b : List ℤ) (h : refusal limits b ≡ 0) where
   pub accepted-bound : Bound (prefixOf b)
   accepted-bound = record { room = rw prefix-length few; named = rw prefix-length named; once = row 5 }
 
+  -- what the rules' code asks of the parts
+  literals-length : length (literalsOf b) ≡ literalCountOf b
+  literals-length =
+      let e = eqb-true (length b) (6 + variablesOf b + clauseCountOf b + literalCountOf b) (not-false _ (row 3)) in
+      simp (length-take, length-drop) (omega arith)
+
+  pub accepted-ready : Ready (prefixOf b) (endsOf b) (literalsOf b)
+  accepted-ready = record { prefix = accepted-bound; ends = rw literals-length (row 7); named = rw prefix-length (row 8) }
+
   pub accepted-proper : Proper (formulaOf b)
   unfolding formulaOf
   accepted-proper = record {
@@ -58,6 +67,11 @@ module _ (b : List ℤ) (h : refusal limits b ≡ 0) where
     once = row 5;
     plain = row 9;
   }
+
+-- the formula is that of the parts
+pub formula-is : (b : List ℤ) → formulaOf b ≡ formula (prefixOf b) (endsOf b) (literalsOf b)
+unfolding formulaOf
+formula-is b = refl
 
 -- ---- rows 1 to 14, which a step and a run share
 pub record Guarded (s : Session) (b ls : List ℤ) (ks : List ℕ) (seen : Revision) : Type 0 where

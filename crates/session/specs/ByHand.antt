@@ -4,33 +4,30 @@ use Prim.Native.Nat.{ℕ, zero, suc, _+_, _≤_, _<_}
 use mathlib.Core.Path.{_≡_, refl, sym, _∙_, ap}
 use mathlib.Core.Logic.{_⊎_, inl, inr}
 use mathlib.Core.Bool.{Bool, true, false}
-use mathlib.Core.List.{List, [], _∷_}
+use mathlib.Core.List.{List}
 use native.Mathlib.Omega.{arith}
 use lib.IntN.{ℤ, pos, natAbs}
-use Rattle.words.specs.Bools.{look}
-use Rattle.words.specs.declared.Literal.{Literal}
 use Rattle.formula.specs.Limits.{limits}
 use Rattle.formula.specs.Formula.{Formula, formulaOf, prefixOf}
 use Rattle.formula.specs.Block.{refusal}
 use Rattle.theory.specs.Record.{Record, Assignment, trueIn}
-use Rattle.rules.specs.declared.State.{State}
-use Rattle.rules.specs.declared.State.the-variants.{Open, Valid, Unsat}
-use Rattle.rules.specs.declared.Rule.{Rule}
-use Rattle.rules.specs.declared.Rule.the-variants.{BacktrackExists, Fail, Unit, Monotone, Decide, BacktrackForall, Succeed}
+use Rattle.rules.specs.declared.State.the-variants.{Open}
 use Rattle.rules.specs.Due.{literal, pick, due}
 use Rattle.rules.specs.Preferred.{firstOpen}
-use Rattle.rules.specs.Apply.{Search, search, recordOf, apply}
+use Rattle.rules.specs.Apply.{Search, recordOf}
 use Rattle.rules.specs.Searches.{first-open}
-use Rattle.rules.specs.Steps.{KeptIn, Permitted, recordIn, due-keeps}
+use Rattle.rules.specs.Steps.{KeptIn, Permitted, recordIn}
 use Rattle.session.specs.declared.Revision.{Revision}
 use Rattle.session.specs.declared.Session.{Session}
 use Rattle.session.specs.declared.Ran.{Ran}
 use Rattle.session.specs.declared.Ran.the-variants.{Until, Stopped}
-use Rattle.session.specs.Refusals.{lastRevision, decides, stepRefusal, runRefusal}
-use Rattle.session.specs.Accepted.{accepted-proper, Guarded, run-guarded, step-passes}
-use Rattle.session.specs.Outcome.{Outcome, moved, searchOf, stepped, stepOutcome}
-use Rattle.session.specs.Run.{RunOutcome, Trip, trip, whileOpen, advance, runFrom, ran, unlessRun, runOf}
-use Rattle.session.specs.Play.{Desk, desk, Call, step, run, afterStep, afterRun, call}
+use Rattle.session.specs.Refusals.{lastRevision, decides, runRefusal}
+use Rattle.session.specs.Accepted.{Guarded, run-guarded, step-passes}
+use Rattle.session.specs.Outcome.{moved, searchOf}
+use Rattle.session.specs.Run.{trip, advance, ran, runOf}
+use Rattle.session.specs.Advance.{apply-proposal, advance-keeps}
+use Rattle.session.specs.Trips.{goOn, Went, went}
+use Rattle.session.specs.Play.{Desk, desk, step, run, call}
 use Rattle.session.specs.Refused.{run-refused}
 use Rattle.session.specs.Follows.{accepted-is}
 
@@ -48,17 +45,7 @@ unfoldable pub byHand : List ℤ → List ℤ → ℕ → Desk → Desk
 byHand b preferred zero d = d
 byHand b preferred (suc n) d = byHand b preferred n (handed b preferred d)
 
--- ---- a proposal counts at Decide only
-apply-proposal : (p : List ℤ) (rule : Rule) (x : ℤ) (t : Search) → apply p rule (pick (decides rule) x (pos 0)) t ≡ apply p rule x t
-unfolding apply
-apply-proposal p (BacktrackExists i c) x t = refl
-apply-proposal p (Fail c) x t = refl
-apply-proposal p (Unit y c) x t = refl
-apply-proposal p (Monotone y) x t = refl
-apply-proposal p (Decide y) x t = refl
-apply-proposal p (BacktrackForall i) x t = refl
-apply-proposal p Succeed x t = refl
-
+-- ---- the proposal is one that a step accepts
 proposal-due : (rule : Bool) (x : ℤ) → (natAbs (pick rule x (pos 0)) ≡ 0) ⊎ (rule ≡ true)
 proposal-due true x = inr refl
 proposal-due false x = inl refl
@@ -66,58 +53,6 @@ proposal-due false x = inl refl
 proposal-permitted : (p : List ℤ) (ρ : Assignment) (rule : Bool) (x : ℤ) → Permitted p ρ x → Permitted p ρ (pick rule x (pos 0))
 proposal-permitted p ρ true x a = a
 proposal-permitted p ρ false x a = inl refl
-
--- ---- a run's search, rule by rule
-while-open : (st : State) (a b : Trip) → st ≡ Open → whileOpen st a b ≡ a
-while-open st a b e = rw e
-
-while-ended : (st : State) (a b : Trip) → (st ≡ Open → ⊥) → whileOpen st a b ≡ b
-while-ended Open a b f = absurd (f refl)
-while-ended Valid a b f = refl
-while-ended Unsat a b f = refl
-
-module _ (F : Formula) (preferred : List ℤ) where
-  goOn : ℕ → Search → Search
-  goOn zero t = t
-  goOn (suc c) t = goOn c (advance F preferred t)
-
-  -- n rules at most, of which c are taken: the state is open before each, and after the last one only if n are taken
-  record Went (n : ℕ) (t : Search) (k : ℕ) : Type 0 where
-    taken : ℕ
-    reached : runFrom F preferred n t k ≡ trip (goOn taken t) (k + taken)
-    within : taken ≤ n
-    live : (j : ℕ) → j < taken → goOn j t .state ≡ Open
-    used : goOn taken t .state ≡ Open → taken ≡ n
-
-  went : (n : ℕ) (t : Search) (k : ℕ) → Went n t k
-  unfolding runFrom goOn
-  went zero t k = let e : k + 0 ≡ k = omega arith in record { taken = 0; reached = rw e; within = omega arith; live = λ j l. absurd (omega arith); used = λ e. refl }
-  went (suc n) t k = go (t .state) refl (went n (advance F preferred t) (k + 1))
-    where
-      open-before : t .state ≡ Open → (w : Went n (advance F preferred t) (k + 1)) (j : ℕ) → j < suc (w .taken) → goOn j t .state ≡ Open
-      open-before e w zero l = e
-      open-before e w (suc j) l = w .live j (omega arith)
-
-      more : t .state ≡ Open → Went n (advance F preferred t) (k + 1) → Went (suc n) t k
-      more e w =
-          let z : k + 1 + w .taken ≡ k + suc (w .taken) = omega arith in
-          record {
-            taken = suc (w .taken);
-            reached = while-open (t .state) _ _ e ∙ w .reached ∙ ap (trip (goOn (w .taken) (advance F preferred t))) z;
-            within = (let h = w .within in omega arith);
-            live = open-before e w;
-            used = λ h. ap suc (w .used h);
-          }
-
-      stop : (t .state ≡ Open → ⊥) → Went (suc n) t k
-      stop f =
-          let z : k ≡ k + 0 = omega arith in
-          record { taken = 0; reached = while-ended (t .state) _ _ f ∙ ap (trip t) z; within = omega arith; live = λ j l. absurd (omega arith); used = λ h. absurd (f h) }
-
-      go : (st : State) → t .state ≡ st → Went n (advance F preferred t) (k + 1) → Went (suc n) t k
-      go Open e w = more e w
-      go Valid e w = stop (λ h. let z : _≡_ {A = ℕ} 0 1 = cc in omega arith)
-      go Unsat e w = stop (λ h. let z : _≡_ {A = ℕ} 0 1 = cc in omega arith)
 
 -- ---- steps by hand, rule by rule
 -- a desk whose search has gone on by n accepted steps
@@ -153,7 +88,7 @@ module _ (b : List ℤ) (block : refusal limits b ≡ 0) (preferred : List ℤ) 
       let t = searchAt d in
       let u = advance F preferred t in
       let v = goOn F preferred c u in
-      let k′ : KeptIn (prefixOf b) u = due-keeps F (accepted-proper b block) t k (firstOpen (F .prefix) (trueIn (recordIn t)) preferred) (first-open (F .prefix) (trueIn (recordIn t)) preferred) in
+      let k′ : KeptIn (prefixOf b) u = advance-keeps F preferred t k in
       let x : d .latest .revision .0 + 1 + c ≡ d .latest .revision .0 + suc c = omega arith in
       let y : d .steps + 1 + c ≡ d .steps + suc c = omega arith in
       ap (byHand b preferred c) (hand-step d k (live 0 (omega arith)) (omega arith))

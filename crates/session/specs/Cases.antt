@@ -2,26 +2,23 @@
 -- written by hand; the claim at the end is that the definitions say the same, by computing.
 use Prim.Native.Nat.{ℕ, zero, suc, _+_, _-_}
 use mathlib.Core.Path.{_≡_, refl}
-use mathlib.Core.Bool.{Bool, true, false}
 use mathlib.Core.List.{List, [], _∷_, map}
 use lib.IntN.{ℤ, pos, negℤ}
 use lib.ListN.{getD, replicate}
 use Rattle.words.specs.Lists.{all, any}
 use Rattle.words.specs.Words.{eqZ, mem}
-use Rattle.words.specs.declared.Literal.{Literal}
 use Rattle.formula.specs.Limits.{limits}
-use Rattle.formula.specs.Formula.{Formula, formulaOf, variablesOf, clausesFrom, existential, universal, change, levelOf, level}
+use Rattle.formula.specs.Formula.{formulaOf, variablesOf, clausesFrom, existential, universal, change, levelOf, level}
 use Rattle.formula.specs.Block.{refusal, twice, badEnds, bothSigns}
-use Rattle.theory.specs.Record.{Record, literals, assigned}
+use Rattle.theory.specs.Record.{literals, assigned}
 use Rattle.theory.specs.Tests.{unassignedE, unassignedU, inConflict, unitOn, occurs, oneSign, monotone as isMonotone, isOpen}
 use Rattle.rules.specs.declared.State.{State}
 use Rattle.rules.specs.declared.State.the-variants.{Open, Valid, Unsat}
 use Rattle.rules.specs.declared.Rule.{Rule}
 use Rattle.rules.specs.declared.Rule.the-variants.{BacktrackExists, Fail, Unit, Monotone, Decide, BacktrackForall, Succeed}
 use Rattle.rules.specs.Due.{due, lowest, last, candidate, lowestUnit, firstMonotone, firstUnassigned}
-use Rattle.rules.specs.Apply.{Search, recordOf, wiped, apply}
+use Rattle.rules.specs.Apply.{recordOf, wiped, apply}
 use Rattle.rules.specs.Check.{badEntries, badRecord}
-use Rattle.session.specs.declared.Revision.{Revision}
 use Rattle.session.specs.declared.Session.{Session}
 use Rattle.session.specs.declared.Answer.{Answer}
 use Rattle.session.specs.declared.Answer.the-variants.{To, Refused}

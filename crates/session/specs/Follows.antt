@@ -1,30 +1,27 @@
 -- "Every accepted step is the one due rule": the search that it leaves is the due rule's, a step of the theory; the revision is one more; the
 -- places from the new to the old length are 0, and no place past both is written; Fail and Succeed leave the record. And what the guard
 -- has shown holds again after it. From the laws of the rules.
-use Prim.Native.Nat.{ℕ, zero, suc, _+_, _≤_, _<_}
-use mathlib.Core.Path.{_≡_, refl, sym, _∙_, ap}
-use mathlib.Core.List.{List, []}
+use Prim.Native.Nat.{ℕ, _+_, _≤_, _<_}
+use mathlib.Core.Path.{_≡_, refl}
+use mathlib.Core.List.{List}
 use native.Mathlib.Omega.{arith}
 use lib.IntN.{ℤ, pos}
 use lib.ListN.{length, getD}
 use Rattle.words.specs.declared.Literal.{Literal}
-use Rattle.formula.specs.Limits.{limits}
-use Rattle.formula.specs.Formula.{Formula, formulaOf, prefixOf}
-use Rattle.formula.specs.Block.{refusal}
+use Rattle.formula.specs.Formula.{formulaOf, prefixOf}
 use Rattle.theory.specs.Rules.{Step}
-use Rattle.rules.specs.declared.State.{State}
-use Rattle.rules.specs.declared.State.the-variants.{Open, Valid, Unsat}
+use Rattle.rules.specs.declared.State.the-variants.{Open}
 use Rattle.rules.specs.Due.{due}
-use Rattle.rules.specs.Apply.{Search, search, recordOf, apply}
-use Rattle.rules.specs.Steps.{standing, stateOf, recordIn, KeptIn, apply-lengths, due-step, due-keeps}
+use Rattle.rules.specs.Apply.{Search, recordOf, apply}
+use Rattle.rules.specs.Steps.{stateOf, KeptIn, apply-lengths, due-step, due-keeps}
 use Rattle.rules.specs.Written.{apply-untouched, apply-zeros, apply-ended}
 use Rattle.session.specs.declared.Revision.{Revision}
 use Rattle.session.specs.declared.Session.{Session}
-use Rattle.session.specs.declared.Answer.{Answer}
-use Rattle.session.specs.declared.Answer.the-variants.{To, Refused}
+use Rattle.session.specs.declared.Answer.the-variants.{To}
 use Rattle.session.specs.Refusals.{stepRefusal}
-use Rattle.session.specs.Accepted.{accepted-proper, step-guarded}
-use Rattle.session.specs.Outcome.{Outcome, outcome, unless, moved, searchOf, stepped, stepOutcome}
+use Rattle.session.specs.Accepted.{step-guarded}
+use Rattle.session.specs.Refused.{unless-to}
+use Rattle.session.specs.Outcome.{moved, searchOf, stepped, stepOutcome}
 
 -- from a session s and its buffers to the next, by an accepted step with the proposal l
 pub record Follows (b : List ℤ) (l : ℤ) (s s′ : Session) (ls ls′ : List ℤ) (ks ks′ : List ℕ) : Type 0 where
@@ -58,26 +55,21 @@ module _ (s : Session) (b ls : List ℤ) (ks : List ℕ) (seen : Revision) (l : 
       let g = step-guarded s b ls ks seen l e in
       let t = searchOf s ls ks in
       let rule = due (formulaOf b) (recordOf ls ks (s .length)) in
-      let ok = accepted-proper b (g .guard .block) in
       record {
         rule = refl;
-        step = due-step (formulaOf b) ok t (g .guard .kept) (l .0) (g .permitted);
+        step = due-step (formulaOf b) t (g .guard .kept) (l .0) (g .permitted);
         revision = refl;
         zeros = apply-zeros (prefixOf b) (l .0) t rule;
         untouched = apply-untouched (prefixOf b) (l .0) t rule;
         lengths = apply-lengths (prefixOf b) rule (l .0) t;
         ended = apply-ended (prefixOf b) (l .0) t rule;
-        kept = due-keeps (formulaOf b) ok t (g .guard .kept) (l .0) (g .permitted);
+        kept = due-keeps (formulaOf b) t (g .guard .kept) (l .0) (g .permitted);
       }
 
   -- an answer with a session comes from such a step
   pub answered-accepted : (s′ : Session) → stepOutcome s b ls ks seen l .answer ≡ To s′ → stepRefusal s b ls ks seen l ≡ 0
   unfolding stepOutcome
-  answered-accepted s′ = go (stepRefusal s b ls ks seen l)
-    where
-      go : (n : ℕ) → unless n ls ks (stepped s b l (searchOf s ls ks)) .answer ≡ To s′ → n ≡ 0
-      go zero e = refl
-      go (suc n) e = let z : _≡_ {A = ℕ} 0 1 = cc in absurd (omega arith)
+  answered-accepted = unless-to (stepRefusal s b ls ks seen l) ls ks (stepped s b l (searchOf s ls ks))
 
   pub accepted-step : (s′ : Session) → let o = stepOutcome s b ls ks seen l in o .answer ≡ To s′ → Follows b (l .0) s s′ ls (o .lits) ks (o .kinds)
   unfolding next

@@ -1,10 +1,10 @@
 -- Demand 2 for any history of calls: "any list of steps and runs with any arguments, refused ones included, each given that formula, that
 -- record and the latest session". On every desk that calls lead to from a fresh one the accepted steps are a path of the theory's rules from
 -- the empty record to the search that stands there; what the theory says of such paths is said of the desk.
-use Prim.Native.Nat.{ℕ, zero, suc, _+_, _^_, _≤_, _<_}
-use mathlib.Core.Path.{_≡_, refl, sym, _∙_, ap}
-use mathlib.Core.Logic.{_⊎_, inl, inr}
-use mathlib.Core.Bool.{Bool, true, false}
+use Prim.Native.Nat.{ℕ, zero, suc, _+_, _^_, _<_}
+use mathlib.Core.Path.{_≡_, refl, ap}
+use mathlib.Core.Logic.{inl}
+use mathlib.Core.Bool.{true, false}
 use mathlib.Core.List.{List, [], _∷_}
 use native.Mathlib.Omega.{arith}
 use lib.Dec.{ltb}
@@ -14,35 +14,32 @@ use borrow.Author.Tests.{ltb-false}
 use Rattle.words.specs.Bools.{or-fl, or-fr}
 use Rattle.words.specs.declared.Literal.{Literal}
 use Rattle.formula.specs.Limits.{limits}
-use Rattle.formula.specs.Formula.{Formula, formulaOf, variablesOf, prefixOf}
+use Rattle.formula.specs.Formula.{formulaOf, variablesOf, prefixOf}
 use Rattle.formula.specs.Block.{refusal}
 use Rattle.formula.specs.Truth.{true?}
-use Rattle.theory.specs.Record.{Record}
-use Rattle.theory.specs.Rules.{State as Standing, going, valid, unsat, Step, Path, stop}
+use Rattle.theory.specs.Rules.{going, Path, stop}
 use Rattle.theory.specs.Paths.{path-snoc}
 use Rattle.theory.specs.Sound.{sound-formula}
 use Rattle.theory.specs.Good.{good-none}
 use Rattle.theory.specs.Finite.{finite-formula}
-use Rattle.rules.specs.declared.State.{State}
 use Rattle.rules.specs.declared.State.the-variants.{Open, Valid, Unsat}
 use Rattle.rules.specs.Due.{literal}
-use Rattle.rules.specs.Apply.{Search, search, recordOf, wiped}
+use Rattle.rules.specs.Apply.{recordOf, wiped}
 use Rattle.rules.specs.Records.{wiped-length}
 use Rattle.rules.specs.Passed.{good-kept}
-use Rattle.rules.specs.Steps.{standing, stateOf, KeptIn}
+use Rattle.rules.specs.Steps.{stateOf, KeptIn}
 use Rattle.session.specs.declared.Revision.{Revision}
 use Rattle.session.specs.declared.Session.{Session}
 use Rattle.session.specs.declared.Answer.{Answer}
 use Rattle.session.specs.declared.Answer.the-variants.{To, Refused}
-use Rattle.session.specs.Refusals.{lastRevision, short, openRows, openRefusal, stepRefusal}
+use Rattle.session.specs.Refusals.{lastRevision, openRows, openRefusal}
 use Rattle.session.specs.Rows.{after-zero}
-use Rattle.session.specs.Outcome.{Outcome, outcome, session, moved, searchOf, unless, openOutcome, stepOutcome}
-use Rattle.session.specs.Run.{runOf}
+use Rattle.session.specs.Outcome.{Outcome, session, openOutcome, stepOutcome}
 use Rattle.session.specs.Play.{Desk, desk, Call, step, run, afterStep, call, play}
 use Rattle.session.specs.Accepted.{prefix-length, accepted-bound, accepted-proper, Guarded, step-guarded, step-last, step-passes}
-use Rattle.session.specs.Refused.{step-refused, step-refused-leaves}
+use Rattle.session.specs.Refused.{unless-to, step-refused, step-refused-leaves}
 use Rattle.session.specs.Follows.{Follows, accepted-is, accepted-step, answered-accepted}
-use Rattle.session.specs.ByHand.{searchAt, handed, byHand, counted, run-is-steps}
+use Rattle.session.specs.ByHand.{searchAt, handed, byHand, run-is-steps}
 
 -- what is asked of a desk of a session opened at the revision `first` on the block b
 pub record Demand (b : List ℤ) (first : ℕ) (d : Desk) : Type 0 where
@@ -145,7 +142,7 @@ module _ (b xs : List ℤ) (ys : List ℕ) (rev : Revision) where
           prefix = accepted-bound b h;
           lits-room = rw (wiped-length, p) (ltb-false (length xs) V′ (or-fl _ _ (r 0)));
           kinds-room = rw (wiped-length, p) (ltb-false (length ys) V′ (or-fr (ltb (length xs) V′) _ (r 0)));
-          good = good-kept F (wiped (pos 0) xs 0 V′) (wiped 0 ys 0 V′) 0 (accepted-proper b h) (accepted-bound b h) (omega arith) (good-none F);
+          good = good-kept F (wiped (pos 0) xs 0 V′) (wiped 0 ys 0 V′) 0 (accepted-bound b h) (omega arith) (good-none F);
         };
         revision = omega arith;
       }
@@ -153,14 +150,11 @@ module _ (b xs : List ℤ) (ys : List ℕ) (rev : Revision) where
   -- an answer with a session comes from an accepted opening
   opened-is : (s : Session) → let o = openOutcome b xs ys rev in o .answer ≡ To s → (openRefusal b xs ys ≡ 0) × (desk s (o .lits) (o .kinds) 0 ≡ opened)
   unfolding openOutcome opened
-  opened-is s = go (openRefusal b xs ys)
-    where
-      then : Outcome
-      then = outcome (To (session 0 (rev .0) Open)) (wiped (pos 0) xs 0 (variablesOf b)) (wiped 0 ys 0 (variablesOf b))
-
-      go : (n : ℕ) → unless n xs ys then .answer ≡ To s → (n ≡ 0) × (desk s (unless n xs ys then .lits) (unless n xs ys then .kinds) 0 ≡ desk (session 0 (rev .0) Open) (then .lits) (then .kinds) 0)
-      go zero e = let z : s ≡ session 0 (rev .0) Open = cc in (refl, ap (λ (s : Session). desk s (then .lits) (then .kinds) 0) z)
-      go (suc n) e = let z : _≡_ {A = ℕ} 0 1 = cc in absurd (omega arith)
+  opened-is s a =
+      let e = unless-to (openRefusal b xs ys) xs ys _ s a in
+      let a′ = rw e at a in
+      let z : s ≡ session 0 (rev .0) Open = cc in
+      (e, rw (e, z))
 
   -- Demand 2: whatever is called after an accepted opening
   pub any-history : (s : Session) → let o = openOutcome b xs ys rev in o .answer ≡ To s → (calls : List Call) → Demand b (rev .0) (play b (desk s (o .lits) (o .kinds) 0) calls)

@@ -4,6 +4,8 @@ pub mod Rows
 pub mod Outcome
 pub mod Run
 pub mod Play
+pub mod Advance
+pub mod Trips
 pub mod Accepted
 pub mod Refused
 pub mod Follows

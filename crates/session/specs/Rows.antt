@@ -1,6 +1,6 @@
 -- Which number a refused call is given: the place of the first row that applies, counted over all rows of the call. One law for every list
 -- of rows, by induction on the list.
-use mathlib.Core.Path.{_≡_, refl, sym, _∙_, ap}
+use mathlib.Core.Path.{_≡_, refl, _∙_}
 use mathlib.Core.Logic.{_↔_, _⊎_, inl, inr}
 use mathlib.Core.Bool.{Bool, true, false}
 use mathlib.Core.List.{List, [], _∷_, _++_}
@@ -9,7 +9,7 @@ use native.Mathlib.Nat.{not-suc-le-zero, le-of-suc-le-suc}
 use native.Mathlib.Decide.{decLe}
 use native.Mathlib.Omega.{arith}
 use lib.IntN.{ℤ}
-use lib.ListN.{length, getD}
+use lib.ListN.{length, getD, List·getD-eq-default}
 use Rattle.words.specs.Bools.{clash}
 use Rattle.words.specs.declared.Literal.{Literal}
 use Rattle.formula.specs.Limits.{limits}
@@ -135,3 +135,24 @@ module _ {ts : List Bool} {n : ℕ} (d : Numbered ts n) where
         where
           small : Foremost ts k → k ≤ i
           small r = elim (decLe k i) [ yes l ↦ l | no f ↦ clash h (r .before i (omega arith)) ]
+
+  -- no number is past the table's end
+  pub most : n ≤ length ts
+  most = go n refl
+    where
+      go : (m : ℕ) → n ≡ m → n ≤ length ts
+      go zero e = omega arith
+      go (suc i) e = elim (decLe (length ts) i) [ yes h ↦ clash (d .some i .0 e .applies) (List·getD-eq-default ts false h) | no f ↦ omega arith ]
+
+pub check-most : (b : List ℤ) → refusal limits b ≤ 10
+check-most b = most (check-numbered b)
+
+pub open-most : (b ls : List ℤ) (ks : List ℕ) → openRefusal b ls ks ≤ 11
+open-most b ls ks = most (open-numbered b ls ks)
+
+module _ (s : Session) (b ls : List ℤ) (ks : List ℕ) (seen : Revision) where
+  pub step-most : (l : Literal) → stepRefusal s b ls ks seen l ≤ 17
+  step-most l = most (step-numbered s b ls ks seen l)
+
+  pub run-most : (budget : ℕ) → runRefusal s b ls ks seen budget ≤ 15
+  run-most budget = most (run-numbered s b ls ks seen budget)

@@ -6,7 +6,7 @@ use mathlib.Core.Bool.{Bool, true, false, _||_, or-comm, or-false}
 use mathlib.Core.List.{List, [], _∷_, _++_, append-nil, append-assoc}
 use lib.Dec.{eqb}
 use lib.IntN.{ℤ, negℤ, natAbs}
-use Rattle.words.specs.Bools.{or-e, or-fl, or-fr, or-r, eqb-same}
+use Rattle.words.specs.Bools.{or-e, or-r, eqb-same}
 use Rattle.words.specs.Words.{eqZ, eqZ-refl, eqZ-eq, mem, mem-append, negneg, natAbs-neg, var-cases, same-variable}
 use Rattle.formula.specs.Prefix.{stands, stands-mem}
 use Rattle.theory.specs.Record.{Entry, Record, literals, Assignment, among, trueIn, assigned}
@@ -43,14 +43,6 @@ put-comm a b ρ = fun-ext (λ x. swap (eqZ x a) (eqZ x b) (ρ x))
     swap false v w = refl
 
 -- ---- which variables are assigned
-pub assigned-i : (ρ : Assignment) (x : ℤ) → ρ x ≡ true → assigned ρ x ≡ true
-unfolding assigned
-assigned-i ρ x h = rw h
-
-pub assigned-f : (ρ : Assignment) (x : ℤ) → assigned ρ x ≡ false → (ρ x ≡ false) × (ρ (negℤ x) ≡ false)
-unfolding assigned
-assigned-f ρ x h = (or-fl (ρ x) (ρ (negℤ x)) h, or-fr (ρ x) (ρ (negℤ x)) h)
-
 pub assigned-neg : (ρ : Assignment) (x : ℤ) → assigned ρ (negℤ x) ≡ assigned ρ x
 unfolding assigned
 assigned-neg ρ x = rw (negneg x) (or-comm (ρ (negℤ x)) (ρ x))
@@ -83,6 +75,11 @@ assigned-other l ρ x h = rw (assigned-put l ρ x, h)
 pub assigned-sign : (l : ℤ) (ρ : Assignment) (x : ℤ) → assigned (put (negℤ l) ρ) x ≡ assigned (put l ρ) x
 assigned-sign l ρ x = rw (assigned-put (negℤ l) ρ x, assigned-put l ρ x, natAbs-neg l)
 
+-- an unassigned variable stays so when another is set, to either value
+pub unset-put : (q : ℤ) (ρ : Assignment) (x : ℤ) → eqb (natAbs q) (natAbs x) ≡ false → assigned ρ x ≡ false
+    → (assigned (put q ρ) x ≡ false) × (assigned (put (negℤ q) ρ) x ≡ false)
+unset-put q ρ x d a = let h = assigned-other q ρ x d ∙ a in (h, assigned-sign q ρ x ∙ h)
+
 -- ---- the assignment of a list and of a record
 pub assigned-among : (σ : List ℤ) (l : ℤ) → assigned (among σ) l ≡ stands σ l
 unfolding assigned
@@ -96,7 +93,10 @@ literals-append (e ∷ a) b = ap (λ (xs : List ℤ). e .literal ∷ xs) (litera
 -- a record that grows by an entry
 pub true-snoc : (r : Record) (e : Entry) → trueIn (r ++ e ∷ []) ≡ put (e .literal) (trueIn r)
 unfolding put literals mem
-true-snoc r e = fun-ext (λ x. rw (literals-append r (e ∷ []), mem-append x (literals r) (e .literal ∷ []), or-false (eqZ x (e .literal))) (or-comm (mem x (literals r)) (eqZ x (e .literal))))
+true-snoc r e = fun-ext at
+  where
+    at : (x : ℤ) → mem x (literals (r ++ e ∷ [])) ≡ (eqZ x (e .literal) || mem x (literals r))
+    at x = rw (literals-append r (e ∷ []), mem-append x (literals r) (e .literal ∷ []), or-false (eqZ x (e .literal))) (or-comm (mem x (literals r)) (eqZ x (e .literal)))
 
 pub true-append : (a s : Record) → trueIn (a ++ s) ≡ after (trueIn a) s
 unfolding after

@@ -2,54 +2,49 @@
 -- of the outermost open group may be asked first. Early choices: an existential variable set early makes nothing true that was not, a
 -- universal one nothing false. Each by induction on the prefix; decide by exchange.
 use mathlib.Core.Path.{_≡_, refl, sym, _∙_}
-use mathlib.Core.Logic.{_⊎_, inl, inr}
+use mathlib.Core.Logic.{inl, inr}
 use mathlib.Core.Bool.{true, false}
 use mathlib.Core.List.{List, [], _∷_}
-use Prim.Native.Nat.{_≤_}
 use native.Mathlib.Omega.{arith}
 use lib.Dec.{eqb}
 use lib.IntN.{ℤ, negℤ, natAbs}
 use Rattle.words.specs.Bools.{clash, look, eqb-ne, eqb-comm}
 use Rattle.words.specs.Lists.{In, here, there}
 use Rattle.words.specs.Words.{negative, natAbs-neg}
-use Rattle.formula.specs.Formula.{Formula, existential, universal, level}
+use Rattle.formula.specs.Formula.{Formula, existential, universal}
 use Rattle.formula.specs.Proper.{Proper}
 use Rattle.formula.specs.Prefix.{stands, stands-e, stands-cons, stands-none, other, universal-var, level-var, existential-stands, existential-universal, universal-stands, word-universal, Ordered, more, ordered}
 use Rattle.formula.specs.Truth.{asked}
 use Rattle.theory.specs.Record.{Assignment, assigned}
 use Rattle.theory.specs.Tests.{isOpen}
-use Rattle.theory.specs.Assignment.{put, put-comm, assigned-var, assigned-still, assigned-other, assigned-sign}
+use Rattle.theory.specs.Assignment.{put, unset-put, put-comm, assigned-var, assigned-still}
 use Rattle.theory.specs.Asked.{asked-exchange, Toward, asked-toward, toward-asked}
 use Rattle.theory.specs.Value.{value, valueOf, value-set, value-ask, value-at, value-own}
-use Rattle.theory.specs.Tested.{open-e}
-
--- two unassigned variables: what one more literal of the first leaves of the second
-pub unset-put : (q : ℤ) (ρ : Assignment) (x : ℤ) → eqb (natAbs q) (natAbs x) ≡ false → assigned ρ x ≡ false → (assigned (put q ρ) x ≡ false) × (assigned (put (negℤ q) ρ) x ≡ false)
-unset-put q ρ x d a = let h = assigned-other q ρ x d ∙ a in (h, assigned-sign q ρ x ∙ h)
+use Rattle.theory.specs.Tested.{Lowest, open-e}
 
 module _ (m : List (List ℤ)) where
   -- a variable further on that is assigned may be left out
   value-skip : (w q : ℤ) (p : List ℤ) (ρ : Assignment) → assigned ρ q ≡ true → value (w ∷ q ∷ p) m ρ ≡ value (w ∷ p) m ρ
-  value-skip w q p ρ a = go (look (assigned ρ w))
-    where
-      go : (assigned ρ w ≡ true) ⊎ (assigned ρ w ≡ false) → value (w ∷ q ∷ p) m ρ ≡ value (w ∷ p) m ρ
-      go (inl b) = value-set w (q ∷ p) m ρ b ∙ value-set q p m ρ a ∙ sym (value-set w p m ρ b)
-      go (inr b) = rw (
-        value-ask w (q ∷ p) m ρ b,
-        value-ask w p m ρ b,
-        value-set q p m (put w ρ) (assigned-still w ρ q a),
-        value-set q p m (put (negℤ w) ρ) (assigned-still (negℤ w) ρ q a),
-      )
+  value-skip w q p ρ a = elim (look (assigned ρ w)) [
+    | inl b ↦ value-set w (q ∷ p) m ρ b ∙ value-set q p m ρ a ∙ sym (value-set w p m ρ b)
+    | inr b ↦ rw (
+      value-ask w (q ∷ p) m ρ b,
+      value-ask w p m ρ b,
+      value-set q p m (put w ρ) (assigned-still w ρ q a),
+      value-set q p m (put (negℤ w) ρ) (assigned-still (negℤ w) ρ q a),
+    )
+  ]
 
   -- group exchange
   pub exchange-law : (q w : ℤ) (p : List ℤ) (ρ : Assignment) → eqb (natAbs q) (natAbs w) ≡ false → negative q ≡ negative w
       → value (q ∷ w ∷ p) m ρ ≡ value (w ∷ q ∷ p) m ρ
-  exchange-law q w p ρ d s = go (look (assigned ρ q)) (look (assigned ρ w))
+  exchange-law q w p ρ d s = elim (look (assigned ρ q)) [
+    | inl a ↦ value-set q (w ∷ p) m ρ a ∙ sym (value-skip w q p ρ a)
+    | inr a ↦ elim (look (assigned ρ w)) [ inl b ↦ value-skip q w p ρ b ∙ sym (value-set w (q ∷ p) m ρ b) | inr b ↦ both a b ]
+  ]
     where
-      go : (assigned ρ q ≡ true) ⊎ (assigned ρ q ≡ false) → (assigned ρ w ≡ true) ⊎ (assigned ρ w ≡ false) → value (q ∷ w ∷ p) m ρ ≡ value (w ∷ q ∷ p) m ρ
-      go (inl a) b = value-set q (w ∷ p) m ρ a ∙ sym (value-skip w q p ρ a)
-      go (inr a) (inl b) = value-skip q w p ρ b ∙ sym (value-set w (q ∷ p) m ρ b)
-      go (inr a) (inr b) =
+      both : assigned ρ q ≡ false → assigned ρ w ≡ false → value (q ∷ w ∷ p) m ρ ≡ value (w ∷ q ∷ p) m ρ
+      both a b =
           let uw = unset-put q ρ w d b in
           let uq = unset-put w ρ q (eqb-comm (natAbs w) (natAbs q) ∙ d) a in
           rw (
@@ -68,40 +63,41 @@ module _ (m : List (List ℤ)) where
 
   module _ (P : List ℤ) where
     -- a word of the outermost open group may stand first; where it stands it is then passed over
-    pull : (w : ℤ) (p : List ℤ) → Ordered P p → In w p → (ρ : Assignment) → assigned ρ w ≡ false → ((x : ℤ) → In x p → (assigned ρ x ≡ true) ⊎ (level P w ≤ level P x))
-        → value p m ρ ≡ value (w ∷ p) m ρ
-    pull w (q ∷ p) (more f u e s o) (here z) ρ a h = rw (z, value-ask q p m ρ (rw z at a), value-ask q (q ∷ p) m ρ (rw z at a), value-own q p m ρ q refl, value-own q p m ρ (negℤ q) (natAbs-neg q))
-    pull w (q ∷ p) (more f u e s o) (there j) ρ a h = go (look (assigned ρ q)) (pull w p o j)
+    pull : (w : ℤ) (p : List ℤ) → Ordered P p → In w p → (ρ : Assignment) → assigned ρ w ≡ false → Lowest P ρ w p → value p m ρ ≡ value (w ∷ p) m ρ
+    pull w (q ∷ p) (more f u e s o) (here z) ρ a h =
+        rw (z, value-ask q p m ρ (rw z at a), value-ask q (q ∷ p) m ρ (rw z at a), value-own q p m ρ q refl, value-own q p m ρ (negℤ q) (natAbs-neg q))
+    pull w (q ∷ p) (more f u e s o) (there j) ρ a h = elim (look (assigned ρ q)) [
+      | inl b ↦ value-set q p m ρ b ∙ pull w p o j ρ a (λ x i. h x (there i)) ∙ sym (value-skip w q p ρ b)
+      | inr b ↦
+          let e1 = pull w p o j (put q ρ) (unset-put q ρ w apart a .0) (still q) in
+          let e2 = pull w p o j (put (negℤ q) ρ) (unset-put q ρ w apart a .1) (still (negℤ q)) in
+          let e3 : value (q ∷ p) m ρ ≡ value (q ∷ w ∷ p) m ρ = rw (value-ask q p m ρ b, value-ask q (w ∷ p) m ρ b, e1, e2) in
+          e3 ∙ exchange-law q w p ρ apart (group b)
+    ]
       where
-        go : (assigned ρ q ≡ true) ⊎ (assigned ρ q ≡ false)
-            → ((ρ : Assignment) → assigned ρ w ≡ false → ((x : ℤ) → In x p → (assigned ρ x ≡ true) ⊎ (level P w ≤ level P x)) → value p m ρ ≡ value (w ∷ p) m ρ)
-            → value (q ∷ p) m ρ ≡ value (w ∷ q ∷ p) m ρ
-        go (inl b) ih = value-set q p m ρ b ∙ ih ρ a (λ x i. h x (there i)) ∙ sym (value-skip w q p ρ b)
-        go (inr b) ih =
-            let d : eqb (natAbs q) (natAbs w) ≡ false = eqb-ne (natAbs q) (natAbs w) (other q f j) in
-            let same : negative q ≡ negative w = elim (h q (here refl)) [ inl z ↦ clash z b | inr z ↦ let k = s w j .0 in s w j .1 (omega arith) ] in
-            let still : (y x : ℤ) → In x p → (assigned (put y ρ) x ≡ true) ⊎ (level P w ≤ level P x) = λ y x i. elim (h x (there i)) [ inl z ↦ inl (assigned-still y ρ x z) | inr z ↦ inr z ] in
-            let u = unset-put q ρ w d a in
-            let e1 = ih (put q ρ) (u .0) (still q) in
-            let e2 = ih (put (negℤ q) ρ) (u .1) (still (negℤ q)) in
-            let e3 : value (q ∷ p) m ρ ≡ value (q ∷ w ∷ p) m ρ = rw (value-ask q p m ρ b, value-ask q (w ∷ p) m ρ b, e1, e2) in
-            e3 ∙ exchange-law q w p ρ d same
+        apart : eqb (natAbs q) (natAbs w) ≡ false
+        apart = eqb-ne (natAbs q) (natAbs w) (other q f j)
 
-    -- early choices, on the way from a literal's value to the whole
+        -- q is unassigned too, so it is of w's level, and of w's group
+        group : assigned ρ q ≡ false → negative q ≡ negative w
+        group b = elim (h q (here refl)) [ inl z ↦ clash z b | inr z ↦ let k = s w j .0 in s w j .1 (omega arith) ]
+
+        still : (y : ℤ) → Lowest P (put y ρ) w p
+        still y x i = elim (h x (there i)) [ inl z ↦ inl (assigned-still y ρ x z) | inr z ↦ inr z ]
+
+    -- early choices: the value with a literal is on the way to the value without
     early : (l : ℤ) (p : List ℤ) → Ordered P p → stands p l ≡ true → (ρ : Assignment) → assigned ρ l ≡ false → Toward (universal P l) (value p m (put l ρ)) (value p m ρ)
     early l [] o i ρ a = clash i (stands-none l)
-    early l (q ∷ p) (more f u e s o) i ρ a = go (stands-cons q p l i) (look (assigned ρ q)) (early l p o)
-      where
-        go : (natAbs l ≡ natAbs q) ⊎ ((eqb (natAbs l) (natAbs q) ≡ false) × (stands p l ≡ true)) → (assigned ρ q ≡ true) ⊎ (assigned ρ q ≡ false)
-            → (stands p l ≡ true → (ρ : Assignment) → assigned ρ l ≡ false → Toward (universal P l) (value p m (put l ρ)) (value p m ρ))
-            → Toward (universal P l) (value (q ∷ p) m (put l ρ)) (value (q ∷ p) m ρ)
-        go (inl z) b ih = rw (value-own q p m ρ l z, value-at q p m ρ l z (sym (assigned-var ρ l q z) ∙ a), ← u, universal-var P l q z) (asked-toward (universal P q) _ _)
-        go (inr z) (inl b) ih = rw (value-set q p m ρ b, value-set q p m (put l ρ) (assigned-still l ρ q b)) (ih (z .1) ρ a)
-        go (inr z) (inr b) ih =
-            let uq = unset-put l ρ q (z .0) b in
+    early l (q ∷ p) (more f u e s o) i ρ a = elim (stands-cons q p l i) [
+      | inl z ↦ rw (value-own q p m ρ l z, value-at q p m ρ l z (sym (assigned-var ρ l q z) ∙ a), ← u, universal-var P l q z) (asked-toward (universal P q) _ _)
+      | inr z ↦ elim (look (assigned ρ q)) [
+        | inl b ↦ rw (value-set q p m ρ b, value-set q p m (put l ρ) (assigned-still l ρ q b)) (early l p o (z .1) ρ a)
+        | inr b ↦
             let ul = unset-put q ρ l (eqb-comm (natAbs q) (natAbs l) ∙ z .0) a in
-            rw (value-ask q p m ρ b, value-ask q p m (put l ρ) (uq .0), put-comm q l ρ, put-comm (negℤ q) l ρ)
-            (toward-asked (universal P l) (negative q) _ _ _ _ (ih (z .1) (put q ρ) (ul .0)) (ih (z .1) (put (negℤ q) ρ) (ul .1)))
+            rw (value-ask q p m ρ b, value-ask q p m (put l ρ) (unset-put l ρ q (z .0) b .0), put-comm q l ρ, put-comm (negℤ q) l ρ)
+            (toward-asked (universal P l) (negative q) _ _ _ _ (early l p o (z .1) (put q ρ) (ul .0)) (early l p o (z .1) (put (negℤ q) ρ) (ul .1)))
+      ]
+    ]
 
 module _ (F : Formula) (ok : Proper F) (ρ : Assignment) (l : ℤ) where
   -- decide
@@ -111,7 +107,7 @@ module _ (F : Formula) (ok : Proper F) (ρ : Assignment) (l : ℤ) where
       let o = open-e P ρ l h in
       let (w, i, e) = stands-e P l (o .bound) in
       let a : assigned ρ w ≡ false = sym (assigned-var ρ l w e) ∙ o .unset in
-      let low : (x : ℤ) → In x P → (assigned ρ x ≡ true) ⊎ (level P w ≤ level P x) = λ x j. rw (level-var P l w e) at (o .lowest x j) in
+      let low : Lowest P ρ w P = λ x j. rw (level-var P l w e) at (o .lowest x j) in
       let u : negative w ≡ universal P l = sym (word-universal ok w i) ∙ sym (universal-var P l w e) in
       pull (F .clauses) P w P (ordered ok) i ρ a low ∙ rw u at (value-at w P (F .clauses) ρ l e a)
 

@@ -1,7 +1,7 @@
 -- The laws of a record that is decided by its clauses. Conflict: a clause in conflict makes the formula false, since on the way down its
 -- universal literals can be set against it. Leaf: with everything assigned and no clause in conflict the formula is true.
 use mathlib.Core.Path.{_≡_, _∙_, ap}
-use mathlib.Core.Logic.{_⊎_, inl, inr}
+use mathlib.Core.Logic.{inl, inr}
 use mathlib.Core.Bool.{true, false, not}
 use mathlib.Core.List.{List, [], _∷_}
 use lib.IntN.{ℤ, negℤ}
@@ -21,27 +21,29 @@ use Rattle.theory.specs.Tested.{unassignedE-e, unassignedE-i, Dead, dead
 
 -- a dead clause, down the prefix. Here `plain` is used: at a universal variable the clause does not have both literals, so one of them sets
 -- nothing in it
-pub dead-false : (P : List ℤ) (m : List (List ℤ)) (C : List ℤ) → In C m → bothSigns C ≡ false → (p : List ℤ) → Ordered P p → (ρ : Assignment) → Dead P ρ C → value p m ρ ≡ false
+pub dead-false : (P : List ℤ) (m : List (List ℤ)) (C : List ℤ) → In C m → bothSigns C ≡ false
+    → (p : List ℤ) → Ordered P p → (ρ : Assignment) → Dead P ρ C → value p m ρ ≡ false
 unfolding value
 dead-false P m C inC plain [] o ρ d = all-f (any ρ) m inC (d .untrue)
-dead-false P m C inC plain (q ∷ p) (more f u e s o) ρ d = go (look (assigned ρ q)) (look (negative q)) (dead-false P m C inC plain p o)
+dead-false P m C inC plain (q ∷ p) (more f u e s o) ρ d = elim (look (assigned ρ q)) [
+  | inl a ↦ value-set q p m ρ a ∙ dead-false P m C inC plain p o ρ d
+  | inr a ↦ value-ask q p m ρ a ∙ elim (look (negative q)) [
+    | inl n ↦ rw n (elim (look (mem q C)) [
+      | inl t ↦ asked-false _ _ (inr (dead-false P m C inC plain p o (put (negℤ q) ρ) (dead-put P C (negℤ q) ρ (no-opposite n t) d)))
+      | inr t ↦ asked-false _ _ (inl (dead-false P m C inC plain p o (put q ρ) (dead-put P C q ρ (λ i. clash (mem-i i) t) d)))
+    ])
+    | inr n ↦ asked-both-false (negative q) _ _
+        (dead-false P m C inC plain p o (put q ρ) (dead-put P C q ρ (out q (e ∙ ap not n) a) d))
+        (dead-false P m C inC plain p o (put (negℤ q) ρ) (dead-put P C (negℤ q) ρ (out (negℤ q) (existential-neg P q ∙ e ∙ ap not n) (assigned-neg ρ q ∙ a)) d))
+  ]
+]
   where
+    no-opposite : negative q ≡ true → mem q C ≡ true → In (negℤ q) C → ⊥
+    no-opposite n t i = negative-named q n (own-opposite q (both-signs C plain q (mem-e q C t) i))
+
     -- an unassigned existential literal is not in the clause
     out : (x : ℤ) → existential P x ≡ true → assigned ρ x ≡ false → In x C → ⊥
     out x ex a i = clash (any-i (unassignedE P ρ) i (unassignedE-i P ρ x ex a)) (d .helpless)
-
-    universal-q : negative q ≡ true → (mem q C ≡ true) ⊎ (mem q C ≡ false) → ((ρ : Assignment) → Dead P ρ C → value p m ρ ≡ false) → (value p m (put q ρ) ≡ false) ⊎ (value p m (put (negℤ q) ρ) ≡ false)
-    universal-q n (inl t) ih = inr (ih (put (negℤ q) ρ) (dead-put P C (negℤ q) ρ (λ i. negative-named q n (own-opposite q (both-signs C plain q (mem-e q C t) i))) d))
-    universal-q n (inr t) ih = inl (ih (put q ρ) (dead-put P C q ρ (λ i. clash (mem-i i) t) d))
-
-    go : (assigned ρ q ≡ true) ⊎ (assigned ρ q ≡ false) → (negative q ≡ true) ⊎ (negative q ≡ false) → ((ρ : Assignment) → Dead P ρ C → value p m ρ ≡ false) → value (q ∷ p) m ρ ≡ false
-    go (inl a) n ih = value-set q p m ρ a ∙ ih ρ d
-    go (inr a) (inl n) ih = value-ask q p m ρ a ∙ rw n (asked-false _ _ (universal-q n (look (mem q C)) ih))
-    go (inr a) (inr n) ih =
-        let ex : existential P q ≡ true = e ∙ ap not n in
-        value-ask q p m ρ a ∙ asked-both-false (negative q) _ _
-        (ih (put q ρ) (dead-put P C q ρ (out q ex a) d))
-        (ih (put (negℤ q) ρ) (dead-put P C (negℤ q) ρ (out (negℤ q) (existential-neg P q ∙ ex) (assigned-neg ρ q ∙ a)) d))
 
 module _ (F : Formula) (ρ : Assignment) where
   -- conflict

@@ -17,7 +17,8 @@ use Rattle.theory.specs.Rules.{State, going, valid, unsat, Step, fail, u
 data Wider (F : Formula) (U : Assignment → List ℤ → ℤ → Bool) : ℕ → State → State → Type 0 where
   stopped : {s : State} → Wider F U 0 s s
   rule : {n : ℕ} {r : Record} {s t : State} → Step F r s → Wider F U n s t → Wider F U (suc n) (going r) t
-  also : {n : ℕ} {r : Record} {t : State} (C : List ℤ) → In C (F .clauses) → (l : ℤ) → U (trueIn r) C l ≡ true → Wider F U n (going (r ++ entry 0 l ∷ [])) t → Wider F U (suc n) (going r) t
+  also : {n : ℕ} {r : Record} {t : State} (C : List ℤ) → In C (F .clauses) → (l : ℤ) → U (trueIn r) C l ≡ true
+      → Wider F U n (going (r ++ entry 0 l ∷ [])) t → Wider F U (suc n) (going r) t
 
 abbrev p : ℕ → ℤ
 p v = pos v

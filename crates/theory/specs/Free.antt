@@ -1,14 +1,13 @@
 -- How many variables of a prefix are unassigned: one more literal of such a variable leaves fewer, so literals of distinct variables of the
 -- prefix are at most as many as its words, and while one variable is unassigned there is room for its literal.
 use mathlib.Core.Path.{_≡_, refl, sym, _∙_, ap}
-use mathlib.Core.Logic.{_⊎_, inl, inr}
+use mathlib.Core.Logic.{inl, inr}
 use mathlib.Core.Bool.{true, false}
 use mathlib.Core.List.{List, [], _∷_}
 use Prim.Native.Nat.{ℕ, suc, _+_, _≤_, _<_}
 use native.Mathlib.Omega.{arith}
-use lib.Dec.{eqb}
 use lib.ListN.{length}
-use lib.IntN.{ℤ, negℤ, natAbs}
+use lib.IntN.{ℤ, negℤ}
 use Rattle.words.specs.Bools.{clash, look, and-l, and-r, and-i}
 use Rattle.words.specs.Lists.{all}
 use Rattle.words.specs.Words.{mem}
@@ -18,9 +17,9 @@ use Rattle.formula.specs.Prefix.{stands, stands-cons, stands-none, twice-head, 
 use Rattle.theory.specs.Record.{Record, literals, Assignment, among, trueIn, assigned}
 use Rattle.theory.specs.Tests.{allAssigned}
 use Rattle.theory.specs.Assignment.{put, assigned-var, assigned-own, assigned-still, assigned-sign, assigned-among}
-use Rattle.theory.specs.Value.{rest, rest-same, rest-unset}
-use Rattle.theory.specs.Moves.{suits, suits-stands}
-use Rattle.theory.specs.Good.{Good}
+use Rattle.theory.specs.Start.{suits, allSuit, Good, rest}
+use Rattle.theory.specs.Value.{rest-same, rest-unset}
+use Rattle.theory.specs.Moves.{suits-stands}
 
 abbrev pub free : List ℤ → Assignment → ℕ
 free p ρ = length (rest p ρ)
@@ -29,23 +28,26 @@ free p ρ = length (rest p ρ)
 pub free-put : (p : List ℤ) (l : ℤ) (ρ : Assignment) → free p (put l ρ) ≤ free p ρ
 unfolding rest
 free-put [] l ρ = omega arith
-free-put (q ∷ p) l ρ = go (look (assigned ρ q)) (free-put p l ρ)
-  where
-    go : (assigned ρ q ≡ true) ⊎ (assigned ρ q ≡ false) → free p (put l ρ) ≤ free p ρ → free (q ∷ p) (put l ρ) ≤ free (q ∷ p) ρ
-    go (inl a) ih = rw (a, assigned-still l ρ q a) ih
-    go (inr a) ih = rw a (elim (look (assigned (put l ρ) q)) [ inl b ↦ rw b (omega arith) | inr b ↦ rw b (omega arith) ])
+free-put (q ∷ p) l ρ =
+    let k = free-put p l ρ in
+    elim (look (assigned ρ q)) [
+      | inl a ↦ rw (a, assigned-still l ρ q a) k
+      | inr a ↦ elim (look (assigned (put l ρ) q)) [ inl b ↦ rw (a, b) (omega arith) | inr b ↦ rw (a, b) (omega arith) ]
+    ]
 
 -- and fewer, if its variable was one of them
 pub free-less : (p : List ℤ) (l : ℤ) (ρ : Assignment) → assigned ρ l ≡ false → stands p l ≡ true → free p (put l ρ) < free p ρ
 unfolding rest
 free-less [] l ρ u i = clash i (stands-none l)
-free-less (q ∷ p) l ρ u i = go (stands-cons q p l i) (look (assigned ρ q)) (free-less p l ρ u) (free-put p l ρ)
-  where
-    go : (natAbs l ≡ natAbs q) ⊎ ((eqb (natAbs l) (natAbs q) ≡ false) × (stands p l ≡ true)) → (assigned ρ q ≡ true) ⊎ (assigned ρ q ≡ false) → (stands p l ≡ true → free p (put l ρ) < free p ρ) → free p (put l ρ) ≤ free p ρ
-        → free (q ∷ p) (put l ρ) < free (q ∷ p) ρ
-    go (inl e) b ih h = rw (sym (assigned-var ρ l q e) ∙ u, sym (assigned-var (put l ρ) l q e) ∙ assigned-own l ρ) (omega arith)
-    go (inr z) (inl b) ih h = rw (b, assigned-still l ρ q b) (ih (z .1))
-    go (inr z) (inr b) ih h = let k = ih (z .1) in rw b (elim (look (assigned (put l ρ) q)) [ inl c ↦ rw c (omega arith) | inr c ↦ rw c (omega arith) ])
+free-less (q ∷ p) l ρ u i = elim (stands-cons q p l i) [
+  | inl e ↦ let k = free-put p l ρ in rw (sym (assigned-var ρ l q e) ∙ u, sym (assigned-var (put l ρ) l q e) ∙ assigned-own l ρ) (omega arith)
+  | inr z ↦
+      let k = free-less p l ρ u (z .1) in
+      elim (look (assigned ρ q)) [
+        | inl a ↦ rw (a, assigned-still l ρ q a) k
+        | inr a ↦ elim (look (assigned (put l ρ) q)) [ inl b ↦ rw (a, b) (omega arith) | inr b ↦ rw (a, b) (omega arith) ]
+      ]
+]
 
 -- whichever sign it has
 pub free-sign : (p : List ℤ) (l : ℤ) (ρ : Assignment) → free p (put (negℤ l) ρ) ≡ free p (put l ρ)
@@ -64,11 +66,7 @@ free-taken p (l ∷ σ) d h =
 free-some : (p : List ℤ) (ρ : Assignment) → allAssigned p ρ ≡ false → 0 < free p ρ
 unfolding allAssigned all rest
 free-some [] ρ h = clash refl h
-free-some (q ∷ p) ρ h = go (look (assigned ρ q)) (free-some p ρ)
-  where
-    go : (assigned ρ q ≡ true) ⊎ (assigned ρ q ≡ false) → (all (assigned ρ) p ≡ false → 0 < free p ρ) → 0 < free (q ∷ p) ρ
-    go (inl a) ih = rw a (ih (rw a at h))
-    go (inr a) ih = rw a (omega arith)
+free-some (q ∷ p) ρ h = elim (look (assigned ρ q)) [ inl a ↦ rw a (free-some p ρ (rw a at h)) | inr a ↦ rw a (omega arith) ]
 
 pub room : (p σ : List ℤ) → twice σ ≡ false → all (stands p) σ ≡ true → allAssigned p (among σ) ≡ false → length σ < length p
 room p σ d h a = let k = free-taken p σ d h in let j = free-some p (among σ) a in omega arith
@@ -79,12 +77,12 @@ unfolding literals
 literals-length [] = refl
 literals-length (e ∷ r) = ap suc (literals-length r)
 
-literals-stand : (p : List ℤ) (r : Record) → all (λ e. suits p (e .kind) (e .literal)) r ≡ true → all (stands p) (literals r) ≡ true
-unfolding literals all
+literals-stand : (p : List ℤ) (r : Record) → allSuit p r ≡ true → all (stands p) (literals r) ≡ true
+unfolding literals allSuit all
 literals-stand p [] h = refl
 literals-stand p (e ∷ r) h =
-    and-i (suits-stands p (e .kind) (e .literal) (and-l (suits p (e .kind) (e .literal)) _ h))
-    (literals-stand p r (and-r (suits p (e .kind) (e .literal)) (all (λ e. suits p (e .kind) (e .literal)) r) h))
+    and-i (suits-stands p (e .kind) (e .literal) (and-l (suits p (e .kind) (e .literal)) (allSuit p r) h))
+    (literals-stand p r (and-r (suits p (e .kind) (e .literal)) (allSuit p r) h))
 
 module _ (F : Formula) (r : Record) (g : Good F r) where
   pub good-taken : free (F .prefix) (trueIn r) + length r ≤ length (F .prefix)

@@ -100,11 +100,12 @@ module _ (F : Formula) (k : ℕ) (v : Bool) (t : Turns k v) where
   unfolding after without all
   up ρ [] none h w = w
   up ρ (e ∷ s) (more c ks) h w =
-      let z = up (put (e .literal) ρ) s ks (and-r (not (eqb (e .kind) k)) (all (λ x. not (eqb (x .kind) k)) s) h) w in
-      c ∙ rw z (t .passes (e .kind) _ (not-t (eqb (e .kind) k) (and-l (not (eqb (e .kind) k)) (all (λ x. not (eqb (x .kind) k)) s) h)))
+      let z = up (put (e .literal) ρ) s ks (and-r (not (eqb (e .kind) k)) (without k s) h) w in
+      c ∙ rw z (t .passes (e .kind) _ (not-t (eqb (e .kind) k) (and-l (not (eqb (e .kind) k)) (without k s) h)))
 
   -- at the last one the opposite, forced, keeps what was before it
-  turn : (ρ : Assignment) (a b : Record) (l : ℤ) → Kept F ρ (a ++ entry k l ∷ b) → without k b ≡ true → valueOf F (after ρ (a ++ entry k l ∷ b)) ≡ v → Kept F ρ (a ++ entry 0 (negℤ l) ∷ [])
+  turn : (ρ : Assignment) (a b : Record) (l : ℤ) → Kept F ρ (a ++ entry k l ∷ b) → without k b ≡ true → valueOf F (after ρ (a ++ entry k l ∷ b)) ≡ v
+      → Kept F ρ (a ++ entry 0 (negℤ l) ∷ [])
   unfolding before
   turn ρ a b l ks h w =
       let c = around F ρ a (entry k l) b ks in
@@ -131,7 +132,8 @@ module _ (F : Formula) (r0 : Record) where
 
   module _ (start : forced r0 ≡ true) (k : ℕ) (v : Bool) (t : Turns k v) where
     -- the start has no entry of kind k, so the cut is past it
-    pub invariant-cut : {r : Record} (a b : Record) (l : ℤ) → Invariant F r0 r → r ≡ a ++ entry k l ∷ b → without k b ≡ true → valueOf F (trueIn r) ≡ v → Invariant F r0 (a ++ entry 0 (negℤ l) ∷ [])
+    pub invariant-cut : {r : Record} (a b : Record) (l : ℤ) → Invariant F r0 r → r ≡ a ++ entry k l ∷ b → without k b ≡ true → valueOf F (trueIn r) ≡ v
+        → Invariant F r0 (a ++ entry 0 (negℤ l) ∷ [])
     unfolding forced
     invariant-cut a b l i e h w =
         let (c, ea, es) = past (λ x. eqb (x .kind) 0) r0 (i .later) a b (entry k l) start (t .decision) (sym (i .whole) ∙ e) in

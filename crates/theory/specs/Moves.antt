@@ -2,7 +2,7 @@
 -- at a decision and puts the opposite there, forced; or it ends the search. From the rules' tests.
 use mathlib.Core.Path.{_≡_, refl}
 use mathlib.Core.Logic.{inl, inr}
-use mathlib.Core.Bool.{Bool, true, false, _||_}
+use mathlib.Core.Bool.{Bool, true, false}
 use mathlib.Core.List.{List, [], _∷_, _++_}
 use Prim.Native.Nat.{ℕ, zero, suc}
 use lib.Dec.{eqb}
@@ -12,14 +12,8 @@ use Rattle.formula.specs.Formula.{Formula, existential, universal}
 use Rattle.formula.specs.Prefix.{stands, existential-neg, universal-neg, existential-stands, universal-stands}
 use Rattle.theory.specs.Record.{entry, Record, trueIn, assigned}
 use Rattle.theory.specs.Rules.{State, going, verdict, Step, backtrack-exists, fail, unit, monotone, decide-exists, decide-forall, backtrack-forall, succeed}
+use Rattle.theory.specs.Start.{suits}
 use Rattle.theory.specs.Tested.{unassignedE-e, unassignedU-e, unit-e, open-e, wide-e}
-
--- a kind suits a literal: forced, a variable of the prefix; a decision, one of its quantifier; "kind above 2" none
-unfoldable pub suits : List ℤ → ℕ → ℤ → Bool
-suits p zero l = existential p l || universal p l
-suits p (suc zero) l = existential p l
-suits p (suc (suc zero)) l = universal p l
-suits p (suc (suc (suc k))) l = false
 
 -- what a rule makes of the record r
 pub data Move (F : Formula) (r : Record) : State → Type 0 where

@@ -10,7 +10,8 @@ use Rattle.formula.specs.Proper.{Proper}
 use Rattle.formula.specs.Truth.{true?}
 use Rattle.theory.specs.Record.{Record, forced}
 use Rattle.theory.specs.Rules.{going, valid, unsat, verdict, Path}
-use Rattle.theory.specs.Value.{trueUnder, value-under, under-none}
+use Rattle.theory.specs.Start.{trueUnder}
+use Rattle.theory.specs.Value.{value-under, under-none}
 use Rattle.theory.specs.Invariant.{invariant-start, holds-path}
 
 module _ (F : Formula) (ok : Proper F) where

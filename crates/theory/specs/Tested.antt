@@ -16,13 +16,16 @@ use Rattle.theory.specs.Tests.{unassignedE, unassignedU, inConflict, uni
 use Rattle.theory.specs.Assignment.{put, put-old, put-e, assigned-still}
 
 -- ---- an unassigned literal of a quantifier
+parts : (b a : Bool) → (b && not a) ≡ true → (b ≡ true) × (a ≡ false)
+parts b a h = (and-l b (not a) h, not-t a (and-r b (not a) h))
+
 pub unassignedE-e : (p : List ℤ) (ρ : Assignment) (x : ℤ) → unassignedE p ρ x ≡ true → (existential p x ≡ true) × (assigned ρ x ≡ false)
 unfolding unassignedE
-unassignedE-e p ρ x h = (and-l (existential p x) (not (assigned ρ x)) h, not-t (assigned ρ x) (and-r (existential p x) (not (assigned ρ x)) h))
+unassignedE-e p ρ x h = parts (existential p x) (assigned ρ x) h
 
 pub unassignedU-e : (p : List ℤ) (ρ : Assignment) (x : ℤ) → unassignedU p ρ x ≡ true → (universal p x ≡ true) × (assigned ρ x ≡ false)
 unfolding unassignedU
-unassignedU-e p ρ x h = (and-l (universal p x) (not (assigned ρ x)) h, not-t (assigned ρ x) (and-r (universal p x) (not (assigned ρ x)) h))
+unassignedU-e p ρ x h = parts (universal p x) (assigned ρ x) h
 
 pub unassignedE-i : (p : List ℤ) (ρ : Assignment) (x : ℤ) → existential p x ≡ true → assigned ρ x ≡ false → unassignedE p ρ x ≡ true
 unfolding unassignedE
@@ -122,40 +125,41 @@ unit-e p ρ C l h =
     given false t h e = clash e refl
 
 -- ---- an open literal: unassigned, of the prefix, and no unassigned variable has a lower level
+-- no unassigned variable of the part p has a lower level than l's
+abbrev pub Lowest : List ℤ → Assignment → ℤ → List ℤ → Type 0
+Lowest P ρ l p = (x : ℤ) → In x p → (assigned ρ x ≡ true) ⊎ (level P l ≤ level P x)
+
 pub record OpenAt (p : List ℤ) (ρ : Assignment) (l : ℤ) : Type 0 where
   pub bound : stands p l ≡ true
   pub unset : assigned ρ l ≡ false
-  pub lowest : (x : ℤ) → In x p → (assigned ρ x ≡ true) ⊎ (level p l ≤ level p x)
+  pub lowest : Lowest p ρ l p
 
-pub unassigned-e : (p : List ℤ) (ρ : Assignment) (l : ℤ) → (unassignedE p ρ l ≡ true) ⊎ (unassignedU p ρ l ≡ true) → (stands p l ≡ true) × (assigned ρ l ≡ false)
+unassigned-e : (p : List ℤ) (ρ : Assignment) (l : ℤ) → (unassignedE p ρ l ≡ true) ⊎ (unassignedU p ρ l ≡ true) → (stands p l ≡ true) × (assigned ρ l ≡ false)
 unassigned-e p ρ l (inl h) = let u = unassignedE-e p ρ l h in (existential-stands p l (u .0), u .1)
 unassigned-e p ρ l (inr h) = let u = unassignedU-e p ρ l h in (universal-stands p l (u .0), u .1)
+
+-- the test of it
+abbrev notBelow : List ℤ → Assignment → ℤ → ℤ → Bool
+notBelow p ρ l q = assigned ρ q || leb (level p l) (level p q)
 
 pub open-e : (p : List ℤ) (ρ : Assignment) (l : ℤ) → isOpen p ρ l ≡ true → OpenAt p ρ l
 unfolding isOpen
 open-e p ρ l h =
-    let u = unassigned-e p ρ l (or-e (unassignedE p ρ l) (unassignedU p ρ l) (and-l (unassignedE p ρ l || unassignedU p ρ l) (all low p) h)) in
-    record { bound = u .0; unset = u .1; lowest = λ x i. least x (or-e (assigned ρ x) (leb (level p l) (level p x)) (all-e low p (and-r (unassignedE p ρ l || unassignedU p ρ l) (all low p) h) i)) }
+    let u = unassigned-e p ρ l (or-e (unassignedE p ρ l) (unassignedU p ρ l) (and-l (unassignedE p ρ l || unassignedU p ρ l) (all (notBelow p ρ l) p) h)) in
+    record { bound = u .0; unset = u .1; lowest = λ x i. least x (all-e (notBelow p ρ l) p (and-r (unassignedE p ρ l || unassignedU p ρ l) (all (notBelow p ρ l) p) h) i) }
   where
-    low : ℤ → Bool
-    low q = assigned ρ q || leb (level p l) (level p q)
+    least : (x : ℤ) → notBelow p ρ l x ≡ true → (assigned ρ x ≡ true) ⊎ (level p l ≤ level p x)
+    least x t = elim (or-e (assigned ρ x) (leb (level p l) (level p x)) t) [ inl e ↦ inl e | inr e ↦ inr (leb→le (level p l) (level p x) (eq→T e)) ]
 
-    least : (x : ℤ) → (assigned ρ x ≡ true) ⊎ (leb (level p l) (level p x) ≡ true) → (assigned ρ x ≡ true) ⊎ (level p l ≤ level p x)
-    least x (inl e) = inl e
-    least x (inr e) = inr (leb→le (level p l) (level p x) (eq→T e))
-
-pub open-i : (p : List ℤ) (ρ : Assignment) (l : ℤ) → (unassignedE p ρ l ≡ true) ⊎ (unassignedU p ρ l ≡ true) → ((x : ℤ) → In x p → (assigned ρ x ≡ true) ⊎ (level p l ≤ level p x)) → isOpen p ρ l ≡ true
+pub open-i : (p : List ℤ) (ρ : Assignment) (l : ℤ) → (unassignedE p ρ l ≡ true) ⊎ (unassignedU p ρ l ≡ true) → Lowest p ρ l p → isOpen p ρ l ≡ true
 unfolding isOpen
-open-i p ρ l u h = and-i {a = unassignedE p ρ l || unassignedU p ρ l} {b = all low p} (unset u) (all-i low p (λ x i. least x (h x i)))
+open-i p ρ l u h = and-i {a = unassignedE p ρ l || unassignedU p ρ l} {b = all (notBelow p ρ l) p} (unset u) (all-i (notBelow p ρ l) p (λ x i. least x (h x i)))
   where
-    low : ℤ → Bool
-    low q = assigned ρ q || leb (level p l) (level p q)
-
     unset : (unassignedE p ρ l ≡ true) ⊎ (unassignedU p ρ l ≡ true) → (unassignedE p ρ l || unassignedU p ρ l) ≡ true
     unset (inl e) = or-l (unassignedU p ρ l) e
     unset (inr e) = or-r (unassignedE p ρ l) e
 
-    least : (x : ℤ) → (assigned ρ x ≡ true) ⊎ (level p l ≤ level p x) → low x ≡ true
+    least : (x : ℤ) → (assigned ρ x ≡ true) ⊎ (level p l ≤ level p x) → notBelow p ρ l x ≡ true
     least x (inl e) = or-l (leb (level p l) (level p x)) e
     least x (inr e) = or-r (assigned ρ x) (T→eq (le→leb (level p l) (level p x) e))
 

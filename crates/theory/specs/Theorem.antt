@@ -13,7 +13,8 @@ use Rattle.formula.specs.Proper.{Proper}
 use Rattle.formula.specs.Truth.{true?}
 use Rattle.theory.specs.Record.{Record, forced}
 use Rattle.theory.specs.Rules.{State, going, valid, unsat, verdict, Path, stop, take}
-use Rattle.theory.specs.Value.{trueUnder, under-none}
+use Rattle.theory.specs.Start.{trueUnder}
+use Rattle.theory.specs.Value.{under-none}
 use Rattle.theory.specs.Sound.{sound, sound-formula}
 use Rattle.theory.specs.Finite.{finite-formula}
 use Rattle.theory.specs.Progress.{never-stuck, answered}

@@ -1,14 +1,14 @@
 -- The value of a formula under an assignment: truth that passes over the prefix variables that are assigned already. Records assign inner
 -- variables early, so the laws are about the value; `value-rest` says that it is the truth of what is left of the formula.
-use mathlib.Core.Path.{_≡_, refl, sym, _∙_}
-use mathlib.Core.Logic.{_⊎_, inl, inr}
-use mathlib.Core.Bool.{Bool, true, false, cond}
+use mathlib.Core.Path.{_≡_, refl, sym, _∙_, ap, fun-ext}
+use mathlib.Core.Logic.{inl, inr}
+use mathlib.Core.Bool.{Bool, true, false, cond, _||_}
 use mathlib.Core.List.{List, [], _∷_, _++_}
 use lib.Dec.{eqb}
 use lib.IntN.{ℤ, negℤ, natAbs}
 use Rattle.words.specs.Bools.{clash, look, or-fl, or-fr}
 use Rattle.words.specs.Lists.{In, here, there, all, any}
-use Rattle.words.specs.Words.{negative, mem, negneg, var-cases}
+use Rattle.words.specs.Words.{negative, eqZ, mem, negneg, var-cases}
 use Rattle.formula.specs.Formula.{Formula}
 use Rattle.formula.specs.Block.{twice}
 use Rattle.formula.specs.Prefix.{stands, stands-neg, twice-head, twice-tail}
@@ -16,6 +16,7 @@ use Rattle.formula.specs.Proper.{Proper}
 use Rattle.formula.specs.Truth.{asked, truth, true?}
 use Rattle.theory.specs.Record.{Record, literals, Assignment, among, trueIn, assigned}
 use Rattle.theory.specs.Tests.{allAssigned}
+use Rattle.theory.specs.Start.{rest, trueUnder}
 use Rattle.theory.specs.Assignment.{put, assigned-var, assigned-own, assigned-other}
 use Rattle.theory.specs.Asked.{asked-comm}
 
@@ -25,15 +26,6 @@ value (q ∷ p) m ρ = cond (assigned ρ q) (value p m ρ) (asked (negative q) (
 
 abbrev pub valueOf : Formula → Assignment → Bool
 valueOf F ρ = value (F .prefix) (F .clauses) ρ
-
--- what is left of a prefix: the words whose variable is not assigned
-unfoldable pub rest : List ℤ → Assignment → List ℤ
-rest [] ρ = []
-rest (q ∷ p) ρ = cond (assigned ρ q) (rest p ρ) (q ∷ rest p ρ)
-
--- "the truth of the rest of the formula under that record"
-abbrev pub trueUnder : Formula → Record → Bool
-trueUnder F r = truth (rest (F .prefix) (trueIn r)) (F .clauses) (literals r)
 
 module _ (q : ℤ) (p : List ℤ) (m : List (List ℤ)) (ρ : Assignment) where
   -- the first variable: passed over, or asked for
@@ -48,11 +40,10 @@ module _ (q : ℤ) (p : List ℤ) (m : List (List ℤ)) (ρ : Assignment) where
   -- the same said of either literal l of the first variable
   module _ (l : ℤ) (e : natAbs l ≡ natAbs q) where
     pub value-at : assigned ρ q ≡ false → value (q ∷ p) m ρ ≡ asked (negative q) (value p m (put l ρ)) (value p m (put (negℤ l) ρ))
-    value-at h = value-ask h ∙ go (var-cases l q e)
-      where
-        go : (l ≡ q) ⊎ (l ≡ negℤ q) → asked (negative q) (value p m (put q ρ)) (value p m (put (negℤ q) ρ)) ≡ asked (negative q) (value p m (put l ρ)) (value p m (put (negℤ l) ρ))
-        go (inl z) = rw z
-        go (inr z) = rw (z, negneg q) (asked-comm (negative q) (value p m (put q ρ)) (value p m (put (negℤ q) ρ)))
+    value-at h = elim (var-cases l q e) [
+      | inl z ↦ rw z (value-ask h)
+      | inr z ↦ rw (z, negneg q) (value-ask h ∙ asked-comm (negative q) _ _)
+    ]
 
 -- its own literal, put in, passes over the first variable
 pub value-own : (q : ℤ) (p : List ℤ) (m : List (List ℤ)) (ρ : Assignment) (l : ℤ) → natAbs l ≡ natAbs q → value (q ∷ p) m (put l ρ) ≡ value p m (put l ρ)
@@ -62,11 +53,17 @@ value-own q p m ρ l e = value-set q p m (put l ρ) (sym (assigned-var (put l ρ
 pub value-full : (p : List ℤ) (m : List (List ℤ)) (ρ : Assignment) → allAssigned p ρ ≡ true → value p m ρ ≡ all (any ρ) m
 unfolding value allAssigned all
 value-full [] m ρ h = refl
-value-full (q ∷ p) m ρ h = go (look (assigned ρ q)) (value-full p m ρ)
-  where
-    go : (assigned ρ q ≡ true) ⊎ (assigned ρ q ≡ false) → (all (assigned ρ) p ≡ true → value p m ρ ≡ all (any ρ) m) → value (q ∷ p) m ρ ≡ all (any ρ) m
-    go (inl a) ih = rw a (ih (rw a at h))
-    go (inr a) ih = clash (rw a at h) refl
+value-full (q ∷ p) m ρ h = elim (look (assigned ρ q)) [ inl a ↦ rw a (value-full p m ρ (rw a at h)) | inr a ↦ clash (rw a at h) refl ]
+
+-- truth looks at its list through membership alone
+pub truth-same : (p : List ℤ) (m : List (List ℤ)) (σ τ : List ℤ) → ((x : ℤ) → mem x σ ≡ mem x τ) → truth p m σ ≡ truth p m τ
+unfolding truth mem
+truth-same [] m σ τ h = ap (λ (ρ : Assignment). all (any ρ) m) (fun-ext h)
+truth-same (q ∷ p) m σ τ h =
+    rw (
+      truth-same p m (q ∷ σ) (q ∷ τ) (λ x. ap (λ (b : Bool). eqZ x q || b) (h x)),
+      truth-same p m (negℤ q ∷ σ) (negℤ q ∷ τ) (λ x. ap (λ (b : Bool). eqZ x (negℤ q) || b) (h x)),
+    )
 
 -- ---- what is left
 -- a literal of another variable leaves what was left
@@ -79,18 +76,16 @@ rest-put (q ∷ p) l ρ h =
 pub value-rest : (p : List ℤ) (m : List (List ℤ)) (σ : List ℤ) → twice p ≡ false → value p m (among σ) ≡ truth (rest p (among σ)) m σ
 unfolding value rest truth put mem
 value-rest [] m σ h = refl
-value-rest (q ∷ p) m σ h = go (look (assigned (among σ) q)) (λ τ. value-rest p m τ (twice-tail q p h))
+value-rest (q ∷ p) m σ h = elim (look (assigned (among σ) q)) [
+  | inl a ↦ rw a (value-rest p m σ (twice-tail q p h))
+  | inr a ↦ rw (a, value-rest p m (q ∷ σ) (twice-tail q p h), value-rest p m (negℤ q ∷ σ) (twice-tail q p h), new, opp)
+]
   where
     new : rest p (among (q ∷ σ)) ≡ rest p (among σ)
     new = rest-put p q (among σ) (twice-head q p h)
 
     opp : rest p (among (negℤ q ∷ σ)) ≡ rest p (among σ)
     opp = rest-put p (negℤ q) (among σ) (stands-neg p q ∙ twice-head q p h)
-
-    go : (assigned (among σ) q ≡ true) ⊎ (assigned (among σ) q ≡ false) → ((τ : List ℤ) → value p m (among τ) ≡ truth (rest p (among τ)) m τ)
-        → value (q ∷ p) m (among σ) ≡ truth (rest (q ∷ p) (among σ)) m σ
-    go (inl a) ih = rw a (ih σ)
-    go (inr a) ih = rw (a, ih (q ∷ σ), ih (negℤ q ∷ σ), new, opp)
 
 -- what is left depends on which variables are assigned
 pub rest-same : (p : List ℤ) (ρ τ : Assignment) → ((x : ℤ) → assigned ρ x ≡ assigned τ x) → rest p ρ ≡ rest p τ
@@ -111,16 +106,16 @@ rest-append (q ∷ a) b ρ = rw (rest-append a b ρ) (go (assigned ρ q))
 pub rest-set : (p : List ℤ) (ρ : Assignment) → allAssigned p ρ ≡ true → rest p ρ ≡ []
 unfolding rest allAssigned all
 rest-set [] ρ h = refl
-rest-set (q ∷ p) ρ h = go (look (assigned ρ q)) (rest-set p ρ)
-  where
-    go : (assigned ρ q ≡ true) ⊎ (assigned ρ q ≡ false) → (all (assigned ρ) p ≡ true → rest p ρ ≡ []) → rest (q ∷ p) ρ ≡ []
-    go (inl a) ih = rw a (ih (rw a at h))
-    go (inr a) ih = clash (rw a at h) refl
+rest-set (q ∷ p) ρ h = elim (look (assigned ρ q)) [ inl a ↦ rw a (rest-set p ρ (rw a at h)) | inr a ↦ clash (rw a at h) refl ]
 
 pub rest-unset : (p : List ℤ) (ρ : Assignment) → ((x : ℤ) → In x p → assigned ρ x ≡ false) → rest p ρ ≡ p
 unfolding rest
 rest-unset [] ρ h = refl
 rest-unset (q ∷ p) ρ h = rw (h q (here refl), rest-unset p ρ (λ x i. h x (there i)))
+
+-- so under values for a prefix's first words the rest is the other words
+pub rest-split : (a b : List ℤ) (ρ : Assignment) → allAssigned a ρ ≡ true → ((x : ℤ) → In x b → assigned ρ x ≡ false) → rest (a ++ b) ρ ≡ b
+rest-split a b ρ h k = rw (rest-append a b ρ, rest-set a ρ h) (rest-unset b ρ k)
 
 -- ---- a formula under a record
 -- the value under a record is the truth of the rest

@@ -73,6 +73,10 @@ module _ {A : Type 0} where
   any-append f [] ys = refl
   any-append f (x ∷ xs) ys = rw (any-append f xs ys) (sym (or-assoc (f x) (any f xs) (any f ys)))
 
+  pub in-middle : (xs : List A) (x : A) (ys : List A) → In x (xs ++ x ∷ ys)
+  in-middle [] x ys = here refl
+  in-middle (y ∷ xs) x ys = there (in-middle xs x ys)
+
   -- an element that fails stands past those that all pass
   pub past : (f : A → Bool) (xs s a b : List A) (e : A) → all f xs ≡ true → f e ≡ false → xs ++ s ≡ a ++ e ∷ b → (c : List A) × (a ≡ xs ++ c) × (s ≡ c ++ e ∷ b)
   unfolding all
