@@ -10,7 +10,6 @@ use lib.IntN.{ℤ, pos}
 use lib.ListN.{length, getD, drop, replicate, length-drop}
 use lib.Seq.{sets, length-sets, drop-append-add, drop-drop, ext-getD, getD-drop}
 use Rattle.formula.specs.Formula.{Formula, firstGroup}
-use Rattle.formula.specs.Proper.{Proper}
 use Rattle.theory.specs.Record.{trueIn}
 use Rattle.rules.specs.declared.State.{State}
 use Rattle.rules.specs.declared.State.the-variants.{Open, Valid, Unsat}
@@ -22,10 +21,10 @@ use Rattle.rules.specs.Records.{wiped-length, good}
 use Rattle.rules.specs.Steps.{recordIn, KeptIn, apply-lengths}
 use Rattle.rules.specs.Written.{wiped-inside, wiped-outside, apply-untouched}
 use Rattle.session.specs.Run.{Trip, trip, whileOpen, advance, runFrom}
+use Rattle.session.specs.Advance.{advance-keeps}
 use Rattle.listing.specs.Opening.{groupOf, valuesOf, startOf, searchOf}
 use Rattle.listing.specs.Values.{values-length, group-few, group-length}
 use Rattle.listing.specs.Start.{wiped-whole, sets-whole, starts}
-use Rattle.listing.specs.Searched.{advance-keeps}
 
 -- from place n on the list is the same, and as long
 pub record SameFrom {A : Type 0} (n : ℕ) (l l′ : List A) : Type 0 where
@@ -73,7 +72,7 @@ pub wiped-aside : (n : ℕ) (ls : List ℤ) (ks : List ℕ) → Aside n ls ks (w
 wiped-aside n ls ks = record { lits = wiped-same (pos 0) n ls; kinds = wiped-same 0 n ks }
 
 -- ---- one rule, and a search, write no place from V on
-module _ (F : Formula) (ok : Proper F) (preferred : List ℤ) where
+module _ (F : Formula) (preferred : List ℤ) where
   few : (t : Search) → KeptIn (F .prefix) t → t .count ≤ length (F .prefix)
   few t k = good (F .prefix) (t .lits) (t .kinds) (t .count) (k .good) .few
 
@@ -84,7 +83,7 @@ module _ (F : Formula) (ok : Proper F) (preferred : List ℤ) where
       let rule = due F (recordIn t) in
       let u = apply (F .prefix) rule x t in
       let a = few t k in
-      let b = few (advance F preferred t) (advance-keeps F ok preferred t k) in
+      let b = few (advance F preferred t) (advance-keeps F preferred t k) in
       let (p, q) = apply-lengths (F .prefix) rule x t in
       record {
         lits = same-places (length (F .prefix)) (pos 0) (t .lits) (u .lits) p (λ j h. apply-untouched (F .prefix) x t rule j (omega arith) (omega arith) .0);
@@ -94,7 +93,7 @@ module _ (F : Formula) (ok : Proper F) (preferred : List ℤ) where
   run-aside : (n : ℕ) (t : Search) (c : ℕ) → KeptIn (F .prefix) t → let u = runFrom F preferred n t c .reached in Aside (length (F .prefix)) (t .lits) (t .kinds) (u .lits) (u .kinds)
   unfolding runFrom
   run-aside zero t c k = aside-refl
-  run-aside (suc n) t c k = go (t .state) (aside-trans (advance-aside t k) (run-aside n (advance F preferred t) (c + 1) (advance-keeps F ok preferred t k)))
+  run-aside (suc n) t c k = go (t .state) (aside-trans (advance-aside t k) (run-aside n (advance F preferred t) (c + 1) (advance-keeps F preferred t k)))
     where
       go : (st : State) → (let u = runFrom F preferred n (advance F preferred t) (c + 1) .reached in Aside (length (F .prefix)) (t .lits) (t .kinds) (u .lits) (u .kinds))
           → let u = whileOpen st (runFrom F preferred n (advance F preferred t) (c + 1)) (trip t c) .reached in Aside (length (F .prefix)) (t .lits) (t .kinds) (u .lits) (u .kinds)
@@ -128,6 +127,6 @@ module _ (F : Formula) (ls : List ℤ) (ks : List ℕ) (lits-room : length (F .p
     search-again preferred budget n = ap (λ (t : Search). runFrom F preferred budget t 0 .reached) (start-again n)
 
   -- what a search leaves differs in the first V places only
-  module _ (ok : Proper F) (bound : Bound (F .prefix)) (preferred : List ℤ) (budget : ℕ) where
+  module _ (bound : Bound (F .prefix)) (preferred : List ℤ) (budget : ℕ) where
     pub search-aside : (n : ℕ) → let u = searchOf F preferred budget ls ks n in Aside (length (F .prefix)) ls ks (u .lits) (u .kinds)
-    search-aside n = aside-trans (start-aside n) (run-aside F ok preferred budget (startOf F ls ks n) 0 (starts F ok bound ls ks n lits-room kinds-room .kept))
+    search-aside n = aside-trans (start-aside n) (run-aside F preferred budget (startOf F ls ks n) 0 (starts F bound ls ks n lits-room kinds-room .kept))

@@ -14,12 +14,10 @@ use lib.Seq.{sets, sets-eq, length-sets}
 use Rattle.words.specs.Bools.{and-i, or-l, or-r}
 use Rattle.words.specs.Lists.{In, here, there, all}
 use Rattle.formula.specs.Formula.{Formula, firstGroup, existential, universal}
-use Rattle.formula.specs.Proper.{Proper}
 use Rattle.formula.specs.Block.{twice}
 use Rattle.formula.specs.Prefix.{stands, stands-i, stands-append, stands-bound}
 use Rattle.theory.specs.Record.{Entry, entry, Record, literals, forced}
-use Rattle.theory.specs.Moves.{suits}
-use Rattle.theory.specs.Good.{Good}
+use Rattle.theory.specs.Start.{suits, allSuit, Good}
 use Rattle.rules.specs.Apply.{Search, recordOf, wiped}
 use Rattle.rules.specs.Check.{badRecord}
 use Rattle.rules.specs.Ready.{Bound}
@@ -54,8 +52,8 @@ unfolding given forced all
 given-forced [] = refl
 given-forced (v ∷ vs) = given-forced vs
 
-given-suited : (p vs : List ℤ) → ((x : ℤ) → In x vs → stands p x ≡ true) → all (λ e. suits p (e .kind) (e .literal)) (given vs) ≡ true
-unfolding given all suits
+given-suited : (p vs : List ℤ) → ((x : ℤ) → In x vs → stands p x ≡ true) → allSuit p (given vs) ≡ true
+unfolding given all suits allSuit
 given-suited p [] h = refl
 given-suited p (v ∷ vs) h =
     and-i {a = existential p v || universal p v}
@@ -131,9 +129,9 @@ group-stands F n x i =
     let e : stands (take k p ++ drop k p) x ≡ true = rw (stands-append (take k p) (drop k p) x) (or-l (stands (drop k p) x) h) in
     rw (take-append-drop k p) at e
 
-module _ (F : Formula) (ok : Proper F) (bound : Bound (F .prefix)) (ls : List ℤ) (ks : List ℕ) (n : ℕ) (lits-room : length (F .prefix) ≤ length ls) (kinds-room : length (F .prefix) ≤ length ks) where
+module _ (F : Formula) (bound : Bound (F .prefix)) (ls : List ℤ) (ks : List ℕ) (n : ℕ) (lits-room : length (F .prefix) ≤ length ls) (kinds-room : length (F .prefix) ≤ length ks) where
   opened-once : twice (literals (opened F n)) ≡ false
-  opened-once = rw (given-literals (valuesOf n (groupOf F))) (values-twice n (groupOf F) (twice-take (firstGroup (F .prefix)) (F .prefix) (ok .once)))
+  opened-once = rw (given-literals (valuesOf n (groupOf F))) (values-twice n (groupOf F) (twice-take (firstGroup (F .prefix)) (F .prefix) (bound .once)))
 
   opened-good : Good F (opened F n)
   opened-good = record { distinct = opened-once; suited = given-suited (F .prefix) (valuesOf n (groupOf F)) (group-stands F n) }
@@ -141,7 +139,7 @@ module _ (F : Formula) (ok : Proper F) (bound : Bound (F .prefix)) (ls : List �
   start-passes : badRecord (F .prefix) (startOf F ls ks n .lits) (startOf F ls ks n .kinds) (startOf F ls ks n .count) ≡ false
   unfolding startOf
   start-passes =
-      good-kept F (startOf F ls ks n .lits) (startOf F ls ks n .kinds) (firstGroup (F .prefix)) ok bound (group-few (F .prefix))
+      good-kept F (startOf F ls ks n .lits) (startOf F ls ks n .kinds) (firstGroup (F .prefix)) bound (group-few (F .prefix))
       (rw (start-held F ls ks n lits-room kinds-room) opened-good)
 
   pub starts : Starts F ls ks n

@@ -20,7 +20,8 @@ use Rattle.formula.specs.Truth.{truth}
 use Rattle.theory.specs.Record.{literals, among, assigned}
 use Rattle.theory.specs.Tests.{allAssigned}
 use Rattle.theory.specs.Assignment.{assigned-among}
-use Rattle.theory.specs.Value.{rest, trueUnder, rest-append, rest-set, rest-unset}
+use Rattle.theory.specs.Start.{rest, trueUnder}
+use Rattle.theory.specs.Value.{rest-append, rest-set, rest-unset}
 use Rattle.rules.specs.Due.{pick}
 use Rattle.listing.specs.Opening.{groupOf, valuesOf}
 use Rattle.listing.specs.Values.{values-stand, before-rest}
