@@ -2,20 +2,23 @@
 -- The rows of the block, of opening and of a page make one table, in which rows 12 to 17 never apply.
 use Prim.Native.Nat.{ℕ, zero, suc, _+_, _-_, _^_, _≤_, _<_}
 use mathlib.Core.Path.{_≡_, refl, sym, _∙_, ap}
+use mathlib.Core.Logic.{_⊎_, inl, inr}
 use mathlib.Core.Bool.{Bool, true, false, _&&_, _||_}
 use mathlib.Core.List.{List, [], _∷_, _++_}
+use native.Mathlib.Decide.{decLe}
 use native.Mathlib.Omega.{arith}
 use lib.Dec.{ltb}
 use lib.IntN.{ℤ}
-use lib.ListN.{length, getD, replicate}
+use lib.ListN.{length, getD}
+use lib.Seq.{getD-append-add}
 use borrow.Author.Tests.{ltb-false, le-ltb}
-use Rattle.words.specs.Bools.{or-fl, or-fr}
+use Rattle.words.specs.Bools.{clash, or-fl, or-fr}
 use Rattle.words.specs.Words.{negative}
 use Rattle.formula.specs.Limits.{limits}
 use Rattle.formula.specs.Formula.{Formula, formulaOf, word, variablesOf, prefixOf, firstGroup}
 use Rattle.formula.specs.Block.{first, rows, refusal}
 use Rattle.session.specs.Refusals.{short, openRows, openRefusal}
-use Rattle.session.specs.Rows.{NoRow, Numbered, numbered, join, first-join, after-first, after-zero}
+use Rattle.session.specs.Rows.{NoRow, Numbered, numbered, most, join, first-join, after-first, after-zero}
 use Rattle.session.specs.Accepted.{prefix-length}
 use Rattle.listing.specs.Page.{firstUniversal, openings, after, pageRefusal}
 
@@ -55,6 +58,29 @@ module _ (b ls : List ℤ) (ks : List ℕ) (start : ℕ) (out : List ℕ) where
   -- "a page 1 to 11 and 18 to 21", each exactly when the table says
   pub page-numbered : Numbered (tableOf b ls ks start out) (pageRefusal b ls ks start out)
   page-numbered = rw table-first (numbered (tableOf b ls ks start out))
+
+  -- so 12 to 17 are never given, and none above 21
+  skips : (j : ℕ) → j < 6 → getD (tableOf b ls ks start out) (11 + j) false ≡ false
+  skips j h = getD-append-add (rows limits b ++ openRows b ls ks) (skipped ++ pageRows (formulaOf b) start out) j false ∙ go j h
+    where
+      go : (j : ℕ) → j < 6 → getD (skipped ++ pageRows (formulaOf b) start out) j false ≡ false
+      go zero h = refl
+      go (suc zero) h = refl
+      go (suc (suc zero)) h = refl
+      go (suc (suc (suc zero))) h = refl
+      go (suc (suc (suc (suc zero)))) h = refl
+      go (suc (suc (suc (suc (suc zero))))) h = refl
+      go (suc (suc (suc (suc (suc (suc j)))))) h = absurd (omega arith)
+
+  pub page-numbers : (pageRefusal b ls ks start out ≤ 11) ⊎ ((18 ≤ pageRefusal b ls ks start out) × (pageRefusal b ls ks start out ≤ 21))
+  page-numbers = go (pageRefusal b ls ks start out) refl (decLe (pageRefusal b ls ks start out) 11) (decLe 18 (pageRefusal b ls ks start out))
+    where
+      go : (n : ℕ) → pageRefusal b ls ks start out ≡ n → Dec (n ≤ 11) → Dec (18 ≤ n) → (n ≤ 11) ⊎ ((18 ≤ n) × (n ≤ 21))
+      go n e (yes h) k = inl h
+      go n e (no h) (yes k) = let m = most page-numbered in inr (k, omega arith)
+      go n e (no h) (no k) =
+          let z : pageRefusal b ls ks start out ≡ suc (11 + (n - 12)) = omega arith in
+          clash (page-numbered .some (11 + (n - 12)) .0 z .applies) (skips (n - 12) (omega arith))
 
   -- ---- what an accepted page has shown
   pub record PageGuarded : Type 0 where
