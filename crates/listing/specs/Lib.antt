@@ -14,3 +14,4 @@ pub mod Refused
 pub mod Only
 pub mod Accepted
 pub mod Pages
+pub mod Loop
