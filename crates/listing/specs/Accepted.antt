@@ -1,26 +1,24 @@
 -- One accepted page: what it writes, exactly when it pauses, that a budget of 2^(V+1-k) - 1 is always enough, and what it leaves in the work
 -- record. From the sheet of its openings and the search of each.
-use Prim.Native.Nat.{ℕ, zero, suc, _+_, _*_, _-_, _^_, _≤_, _<_}
-use mathlib.Core.Path.{_≡_, refl, sym, _∙_, ap}
-use mathlib.Core.Logic.{_↔_, _⊎_, inl, inr}
+use Prim.Native.Nat.{ℕ, suc, _+_, _*_, _-_, _^_, _≤_, _<_}
+use mathlib.Core.Path.{_≡_}
+use mathlib.Core.Logic.{_↔_, inl, inr}
 use mathlib.Core.Bool.{Bool, true, false}
-use mathlib.Core.List.{List, [], _∷_, _++_, append-nil}
+use mathlib.Core.List.{List, _++_, append-nil}
 use native.Mathlib.Omega.{arith}
 use lib.IntN.{ℤ, pos}
 use lib.ListN.{length, getD, take, drop}
 use Rattle.words.specs.Bools.{clash, look}
 use Rattle.formula.specs.Formula.{Formula, formulaOf, variablesOf, prefixOf, firstGroup}
 use Rattle.formula.specs.Proper.{Proper}
-use Rattle.rules.specs.declared.State.{State}
-use Rattle.rules.specs.declared.State.the-variants.{Open, Valid, Unsat}
-use Rattle.rules.specs.Apply.{Search, wiped}
+use Rattle.rules.specs.declared.State.the-variants.{Open}
+use Rattle.rules.specs.Apply.{wiped}
 use Rattle.rules.specs.Ready.{Bound}
 use Rattle.rules.specs.Written.{wiped-inside}
 use Rattle.session.specs.Accepted.{prefix-length, accepted-bound, accepted-proper}
-use Rattle.listing.specs.declared.Paged.{Paged}
-use Rattle.listing.specs.declared.Paged.the-variants.{Page, Refused}
+use Rattle.listing.specs.declared.Paged.the-variants.{Page}
 use Rattle.listing.specs.Opening.{searchOf}
-use Rattle.listing.specs.Page.{Sheet, sheet, openings, pageRefusal, pageFrom, PageOutcome, turned, pageOf}
+use Rattle.listing.specs.Page.{Sheet, sheet, openings, pageOf}
 use Rattle.listing.specs.Wins.{listing}
 use Rattle.listing.specs.Searched.{ends}
 use Rattle.listing.specs.Aside.{Aside, wiped-aside}

@@ -1,26 +1,26 @@
 -- The work record past the first V places is never written, and the first V are wiped before each search and at the end: so each search of a
 -- page starts as if it were the first, whatever the searches before it left. From the rules' own law that no place past the record is
 -- written, since a record has at most V entries.
-use Prim.Native.Nat.{ℕ, zero, suc, _+_, _-_, _≤_, _<_}
+use Prim.Native.Nat.{ℕ, zero, suc, _+_, _-_, _≤_}
 use mathlib.Core.Path.{_≡_, refl, sym, _∙_, ap}
-use mathlib.Core.Logic.{_⊎_, inl, inr}
-use mathlib.Core.List.{List, [], _∷_, _++_}
+use mathlib.Core.Logic.{inr}
+use mathlib.Core.List.{List, _++_}
 use native.Mathlib.Omega.{arith}
 use lib.IntN.{ℤ, pos}
-use lib.ListN.{length, getD, drop, replicate, length-drop}
+use lib.ListN.{length, getD, drop, length-drop}
 use lib.Seq.{sets, length-sets, drop-append-add, drop-drop, ext-getD, getD-drop}
-use Rattle.formula.specs.Formula.{Formula, firstGroup}
+use Rattle.formula.specs.Formula.{Formula}
 use Rattle.theory.specs.Record.{trueIn}
 use Rattle.rules.specs.declared.State.{State}
 use Rattle.rules.specs.declared.State.the-variants.{Open, Valid, Unsat}
 use Rattle.rules.specs.Due.{due}
 use Rattle.rules.specs.Preferred.{firstOpen}
-use Rattle.rules.specs.Apply.{Search, search, wiped, apply}
+use Rattle.rules.specs.Apply.{Search, wiped, apply}
 use Rattle.rules.specs.Ready.{Bound}
 use Rattle.rules.specs.Records.{wiped-length, good}
 use Rattle.rules.specs.Steps.{recordIn, KeptIn, apply-lengths}
-use Rattle.rules.specs.Written.{wiped-inside, wiped-outside, apply-untouched}
-use Rattle.session.specs.Run.{Trip, trip, whileOpen, advance, runFrom}
+use Rattle.rules.specs.Written.{wiped-outside, apply-untouched}
+use Rattle.session.specs.Run.{trip, whileOpen, advance, runFrom}
 use Rattle.session.specs.Advance.{advance-keeps}
 use Rattle.listing.specs.Opening.{groupOf, valuesOf, startOf, searchOf}
 use Rattle.listing.specs.Values.{values-length, group-few, group-length}

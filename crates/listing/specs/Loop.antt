@@ -1,6 +1,6 @@
 -- What a page's loop keeps from turn to turn, and what each of its exits leaves. The searches write the work record, so what it holds is not
 -- what the page was given; but a search starts from wiped places, so each turn is the definition's.
-use Prim.Native.Nat.{ℕ, suc, _+_, _*_, _-_, _≤_, _<_}
+use Prim.Native.Nat.{ℕ, _+_, _*_, _-_, _≤_, _<_}
 use mathlib.Core.Path.{_≡_, refl, sym, _∙_, ap}
 use mathlib.Core.Bool.{Bool, true, false}
 use mathlib.Core.List.{List}
@@ -14,8 +14,8 @@ use Rattle.rules.specs.Apply.{Search, wiped}
 use Rattle.rules.specs.Ready.{Bound}
 use Rattle.listing.specs.declared.Paged.the-variants.{Page}
 use Rattle.listing.specs.Opening.{searchOf}
-use Rattle.listing.specs.Page.{Sheet, sheet, written, pageFrom, PageOutcome, pageOutcome, turned}
-use Rattle.listing.specs.Aside.{Aside, aside-refl, aside-trans, wiped-again, search-again, search-aside}
+use Rattle.listing.specs.Page.{sheet, written, pageFrom, pageOutcome, turned}
+use Rattle.listing.specs.Aside.{Aside, aside-refl, wiped-again, search-again, search-aside}
 use Rattle.listing.specs.Turns.{turn-end, turn-full, turn-won, turn-lost, turn-paused}
 use Rattle.listing.specs.Sheets.{written-length}
 

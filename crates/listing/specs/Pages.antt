@@ -1,9 +1,9 @@
 -- Demand 3: "any list of pages from opening 0 on, each begun where the last stopped, with any room, budgets and preferences, even different ones
 -- on each page". Each page takes the listing below its start to the listing below its next; so after any pages what was written is the
 -- listing below next.
-use Prim.Native.Nat.{ℕ, zero, suc, _+_, _*_, _-_, _^_, _≤_, _<_}
+use Prim.Native.Nat.{ℕ, _+_, _*_, _-_, _^_, _≤_, _<_}
 use mathlib.Core.Path.{_≡_, refl, sym, _∙_, ap}
-use mathlib.Core.Bool.{Bool, true, false}
+use mathlib.Core.Bool.{false}
 use mathlib.Core.List.{List, [], _∷_, _++_}
 use native.Mathlib.Decide.{decLt}
 use native.Mathlib.Omega.{arith}
@@ -12,14 +12,14 @@ use lib.ListN.{length, take}
 use Rattle.words.specs.Bools.{clash}
 use Rattle.words.specs.Lists.{In, here, there}
 use Rattle.formula.specs.Limits.{limits}
-use Rattle.formula.specs.Formula.{Formula, formulaOf, variablesOf, prefixOf, firstGroup}
+use Rattle.formula.specs.Formula.{formulaOf, variablesOf, prefixOf, firstGroup}
 use Rattle.formula.specs.Block.{refusal}
 use Rattle.listing.specs.declared.Paged.{Paged}
 use Rattle.listing.specs.declared.Paged.the-variants.{Page, Refused}
 use Rattle.listing.specs.Page.{Sheet, sheet, firstUniversal, openings, PageOutcome, turned, pageOf}
 use Rattle.listing.specs.Wins.{winners, entries, listing}
 use Rattle.listing.specs.Sheets.{Stops, at-end, no-room, unended}
-use Rattle.listing.specs.Rows.{PageGuarded, page-passes}
+use Rattle.listing.specs.Rows.{page-passes}
 use Rattle.listing.specs.Refused.{sheetOf, page-accepted}
 use Rattle.listing.specs.Accepted.{Turned, accepted-page}
 

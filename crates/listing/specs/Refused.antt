@@ -1,15 +1,14 @@
 -- A refused page "returns its number alone and leaves all memory .. as they were"; an accepted one is the sheet of its openings, on a wiped work
 -- record. By the two cases of the number, 0 and not 0.
 use Prim.Native.Nat.{ℕ, zero, suc, _-_}
-use mathlib.Core.Path.{_≡_, refl, sym, _∙_, ap}
+use mathlib.Core.Path.{_≡_, refl}
 use mathlib.Core.Bool.{Bool}
 use mathlib.Core.List.{List}
 use native.Mathlib.Omega.{arith}
 use lib.IntN.{ℤ}
 use Rattle.formula.specs.Formula.{Formula, formulaOf}
-use Rattle.listing.specs.declared.Paged.{Paged}
 use Rattle.listing.specs.declared.Paged.the-variants.{Page, Refused}
-use Rattle.listing.specs.Page.{Sheet, sheet, openings, pageRefusal, pageFrom, PageOutcome, pageOutcome, turned, unlessPage, pageOf}
+use Rattle.listing.specs.Page.{Sheet, openings, pageRefusal, pageFrom, pageOutcome, turned, unlessPage, pageOf}
 
 -- the number given, n, is the table's, and the buffers are as they were
 pub record PageLeft (table n : ℕ) (ls ls′ : List ℤ) (ks ks′ out out′ : List ℕ) : Type 0 where

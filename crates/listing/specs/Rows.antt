@@ -3,7 +3,7 @@
 use Prim.Native.Nat.{ℕ, zero, suc, _+_, _-_, _^_, _≤_, _<_}
 use mathlib.Core.Path.{_≡_, refl, sym, _∙_, ap}
 use mathlib.Core.Logic.{_⊎_, inl, inr}
-use mathlib.Core.Bool.{Bool, true, false, _&&_, _||_}
+use mathlib.Core.Bool.{Bool, true, false}
 use mathlib.Core.List.{List, [], _∷_, _++_}
 use native.Mathlib.Decide.{decLe}
 use native.Mathlib.Omega.{arith}
@@ -13,12 +13,11 @@ use lib.ListN.{length, getD}
 use lib.Seq.{getD-append-add}
 use borrow.Author.Tests.{ltb-false, le-ltb}
 use Rattle.words.specs.Bools.{clash, or-fl, or-fr}
-use Rattle.words.specs.Words.{negative}
 use Rattle.formula.specs.Limits.{limits}
-use Rattle.formula.specs.Formula.{Formula, formulaOf, word, variablesOf, prefixOf, firstGroup}
+use Rattle.formula.specs.Formula.{Formula, formulaOf, variablesOf, prefixOf, firstGroup}
 use Rattle.formula.specs.Block.{first, rows, refusal}
-use Rattle.session.specs.Refusals.{short, openRows, openRefusal}
-use Rattle.session.specs.Rows.{NoRow, Numbered, numbered, most, join, first-join, after-first, after-zero}
+use Rattle.session.specs.Refusals.{openRows, openRefusal}
+use Rattle.session.specs.Rows.{Numbered, numbered, most, join, first-join, after-first, after-zero}
 use Rattle.session.specs.Accepted.{prefix-length}
 use Rattle.listing.specs.Page.{firstUniversal, openings, after, pageRefusal}
 

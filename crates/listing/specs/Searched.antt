@@ -21,7 +21,7 @@ use Rattle.rules.specs.declared.State.the-variants.{Open, Valid, Unsat}
 use Rattle.rules.specs.Apply.{Search}
 use Rattle.rules.specs.Ready.{Bound}
 use Rattle.rules.specs.Steps.{stateOf, recordIn}
-use Rattle.session.specs.Run.{Trip, runFrom}
+use Rattle.session.specs.Run.{runFrom}
 use Rattle.session.specs.Trips.{Travelled, travelled}
 use Rattle.listing.specs.Opening.{startOf, searchOf}
 use Rattle.listing.specs.Start.{opened, Starts, starts}

@@ -1,29 +1,27 @@
 -- What a page writes, and why it stops: the winners from its start to its next opening, in order, and no other word of the output. By
 -- induction on the openings that are left: each turn searches one opening, whose end says whether it wins.
-use Prim.Native.Nat.{ℕ, zero, suc, _+_, _*_, _-_, _^_, _≤_, _<_}
-use mathlib.Core.Path.{_≡_, refl, sym, _∙_, ap}
+use Prim.Native.Nat.{ℕ, zero, suc, _+_, _*_, _-_, _≤_, _<_}
+use mathlib.Core.Path.{_≡_, refl, sym, _∙_}
 use mathlib.Core.Logic.{_⊎_, inl, inr}
 use mathlib.Core.Bool.{Bool, true, false}
 use mathlib.Core.List.{List, [], _∷_, _++_, append-assoc}
 use native.Mathlib.Decide.{decLe}
 use native.Mathlib.Omega.{arith}
 use lib.Count.{ones}
-use lib.Dec.{leb}
 use lib.IntN.{ℤ}
 use lib.ListN.{length, getD, take, drop, set, length-set}
 use lib.Seq.{take-suc-set, drop-set-lt, getD-set-same, getD-set-other}
 use borrow.Author.Tests.{le-leb, lt-leb}
 use Rattle.words.specs.Bools.{clash}
-use Rattle.formula.specs.Formula.{Formula, firstGroup}
+use Rattle.formula.specs.Formula.{Formula}
 use Rattle.formula.specs.Proper.{Proper}
 use Rattle.rules.specs.declared.State.{State}
 use Rattle.rules.specs.declared.State.the-variants.{Open, Valid, Unsat}
-use Rattle.rules.specs.Apply.{Search}
 use Rattle.rules.specs.Ready.{Bound}
 use Rattle.listing.specs.Opening.{searchOf}
 use Rattle.listing.specs.Page.{Sheet, sheet, written, bySearch, pageFrom}
 use Rattle.listing.specs.Wins.{wins, listing, listing-won, listing-lost}
-use Rattle.listing.specs.Searched.{won, lost, ends}
+use Rattle.listing.specs.Searched.{won, lost}
 
 -- ---- one entry written
 module _ (n e : ℕ) (out : List ℕ) where

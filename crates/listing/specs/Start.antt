@@ -1,14 +1,13 @@
 -- "Its search starts from a record of these k values in prefix order, kind 0": the record that an opening's buffers hold, why it passes row 12
 -- and is one that the theory can start from. The first V places are wiped and the values are put at their start; the values are of
 -- distinct variables, since the prefix has no variable twice.
-use Prim.Native.Nat.{ℕ, zero, suc, _+_, _-_, _≤_, _<_}
+use Prim.Native.Nat.{ℕ, suc, _+_, _-_, _≤_}
 use mathlib.Core.Path.{_≡_, refl, sym, _∙_, ap}
 use mathlib.Core.Logic.{inl, inr}
-use mathlib.Core.Bool.{Bool, true, false, _||_}
+use mathlib.Core.Bool.{true, false, _||_}
 use mathlib.Core.List.{List, [], _∷_, _++_, append-assoc}
 use native.Mathlib.Omega.{arith}
-use lib.Dec.{eqb}
-use lib.IntN.{ℤ, pos, negℤ, natAbs}
+use lib.IntN.{ℤ, pos}
 use lib.ListN.{length, take, drop, replicate, length-replicate, replicate-append-replicate, take-append-drop}
 use lib.Seq.{sets, sets-eq, length-sets}
 use Rattle.words.specs.Bools.{and-i, or-l, or-r}
@@ -16,9 +15,9 @@ use Rattle.words.specs.Lists.{In, here, there, all}
 use Rattle.formula.specs.Formula.{Formula, firstGroup, existential, universal}
 use Rattle.formula.specs.Block.{twice}
 use Rattle.formula.specs.Prefix.{stands, stands-i, stands-append, stands-bound}
-use Rattle.theory.specs.Record.{Entry, entry, Record, literals, forced}
+use Rattle.theory.specs.Record.{entry, Record, literals, forced}
 use Rattle.theory.specs.Start.{suits, allSuit, Good}
-use Rattle.rules.specs.Apply.{Search, recordOf, wiped}
+use Rattle.rules.specs.Apply.{recordOf, wiped}
 use Rattle.rules.specs.Check.{badRecord}
 use Rattle.rules.specs.Ready.{Bound}
 use Rattle.rules.specs.Records.{wiped-length}

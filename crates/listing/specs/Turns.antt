@@ -1,19 +1,17 @@
 -- A page as a loop over its openings: with n the next opening and e entries written, the ways in which it goes on or stops. Each is one line of
 -- the definition.
-use Prim.Native.Nat.{ℕ, zero, suc, _+_, _*_, _-_, _≤_, _<_}
-use mathlib.Core.Path.{_≡_, refl, _∙_}
-use mathlib.Core.Bool.{Bool, true, false}
+use Prim.Native.Nat.{ℕ, suc, _+_, _*_, _-_, _≤_, _<_}
+use mathlib.Core.Path.{_≡_}
+use mathlib.Core.Bool.{true, false}
 use mathlib.Core.List.{List}
 use native.Mathlib.Omega.{arith}
-use lib.Dec.{leb}
 use lib.IntN.{ℤ}
 use lib.ListN.{length}
 use borrow.Author.Tests.{le-leb, lt-leb}
 use Rattle.formula.specs.Formula.{Formula}
 use Rattle.rules.specs.declared.State.the-variants.{Open, Valid, Unsat}
-use Rattle.rules.specs.Apply.{Search}
 use Rattle.listing.specs.Opening.{searchOf}
-use Rattle.listing.specs.Page.{Sheet, sheet, written, pageFrom}
+use Rattle.listing.specs.Page.{sheet, written, pageFrom}
 
 module _ (F : Formula) (preferred : List ℤ) (budget : ℕ) (ls : List ℤ) (ks : List ℕ) (total n e : ℕ) (out : List ℕ) where
   -- "or at the end (next = 2^k)"

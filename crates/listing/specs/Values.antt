@@ -3,19 +3,19 @@
 use Prim.Native.Nat.{ℕ, zero, suc, _+_, _-_, _^_, _/_, _%_, _≤_, _<_}
 use mathlib.Core.Path.{_≡_, refl, sym, _∙_, ap}
 use mathlib.Core.Logic.{inl, inr}
-use mathlib.Core.Bool.{Bool, true, false, cond, _||_, Bool·beq}
-use mathlib.Core.List.{List, [], _∷_, _++_}
+use mathlib.Core.Bool.{Bool, false, Bool·beq}
+use mathlib.Core.List.{List, [], _∷_}
 use native.Mathlib.Numerals.{add-one}
 use native.Mathlib.Omega.{arith}
 use lib.Dec.{eqb}
 use lib.IntN.{ℤ, pos, negℤ, natAbs}
 use lib.ListN.{length, getD, take, drop, set, length-drop, take-append-drop}
 use lib.Seq.{sets, length-take-le}
-use Rattle.words.specs.Bools.{look, or-fl, or-fr, eqb-ne}
-use Rattle.words.specs.Lists.{In, here, there, any, next}
+use Rattle.words.specs.Bools.{look, or-fl, eqb-ne}
+use Rattle.words.specs.Lists.{In, there, next}
 use Rattle.words.specs.Words.{negative, natAbs-neg}
 use Rattle.formula.specs.Formula.{Formula, run, firstGroup}
-use Rattle.formula.specs.Block.{names, twice}
+use Rattle.formula.specs.Block.{twice}
 use Rattle.formula.specs.Prefix.{stands, stands-none, stands-step, stands-append, other, twice-head, twice-tail, twice-cons}
 use Rattle.rules.specs.Due.{pick}
 use Rattle.listing.specs.Opening.{groupOf, valuesOf}

@@ -10,14 +10,14 @@ use native.Mathlib.Numerals.{add-one}
 use native.Mathlib.Omega.{arith}
 use lib.Count.{ones}
 use lib.IntN.{ℤ}
-use lib.ListN.{length, take, drop, take-append-drop}
-use Rattle.words.specs.Bools.{look, clash}
-use Rattle.words.specs.Lists.{In, here, there, all, all-i}
+use lib.ListN.{take, drop, take-append-drop}
+use Rattle.words.specs.Bools.{look}
+use Rattle.words.specs.Lists.{In, here, there, all-i}
 use Rattle.formula.specs.Formula.{Formula, firstGroup}
 use Rattle.formula.specs.Proper.{Proper}
-use Rattle.formula.specs.Prefix.{stands, stands-i}
+use Rattle.formula.specs.Prefix.{stands-i}
 use Rattle.formula.specs.Truth.{truth}
-use Rattle.theory.specs.Record.{literals, among, assigned}
+use Rattle.theory.specs.Record.{among, assigned}
 use Rattle.theory.specs.Tests.{allAssigned}
 use Rattle.theory.specs.Assignment.{assigned-among}
 use Rattle.theory.specs.Start.{rest, trueUnder}
