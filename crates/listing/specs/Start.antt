@@ -111,10 +111,9 @@ pub record Starts (F : Formula) (ls : List ℤ) (ks : List ℕ) (n : ℕ) : Type
   pub kinds : forced (opened F n) ≡ true
   pub count : length (opened F n) ≡ firstGroup (F .prefix)
   pub live : startOf F ls ks n .state ≡ Open
-  -- its variables are the first group's, each once
+  -- its variables are the first group's
   pub variables : (x : ℤ) → stands (literals (opened F n)) x ≡ stands (groupOf F) x
-  pub once : twice (literals (opened F n)) ≡ false
-  -- the theory can start from it, and rows 11 and 12 would pass
+  -- the theory can start from it: each variable once, of the prefix; and rows 11 and 12 would pass
   pub good : Good F (opened F n)
   pub kept : KeptIn (F .prefix) (startOf F ls ks n)
   pub passes : badRecord (F .prefix) (startOf F ls ks n .lits) (startOf F ls ks n .kinds) (startOf F ls ks n .count) ≡ false
@@ -150,7 +149,6 @@ module _ (F : Formula) (bound : Bound (F .prefix)) (ls : List ℤ) (ks : List �
     count = given-length (valuesOf n (groupOf F)) ∙ values-length n (groupOf F) ∙ group-length F;
     live = refl;
     variables = λ x. rw (given-literals (valuesOf n (groupOf F))) (values-stand n (groupOf F) x);
-    once = opened-once;
     good = opened-good;
     kept = record {
       prefix = bound;
