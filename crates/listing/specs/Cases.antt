@@ -9,6 +9,7 @@ use Rattle.words.specs.Lists.{all, any}
 use Rattle.words.specs.Words.{eqZ, mem}
 use Rattle.formula.specs.Limits.{limits}
 use Rattle.formula.specs.Formula.{formulaOf, clausesFrom, existential, universal, change, levelOf, level, run, firstGroup}
+use Rattle.formula.specs.Truth.{asked, truth}
 use Rattle.formula.specs.Block.{refusal, twice, badEnds, bothSigns}
 use Rattle.theory.specs.Record.{literals, assigned, without}
 use Rattle.theory.specs.Tests.{unassignedE, unassignedU, inConflict, unitOn, occurs, oneSign, monotone, isOpen}
@@ -19,6 +20,7 @@ use Rattle.session.specs.Refusals.{openRefusal}
 use Rattle.session.specs.Run.{advance, runFrom}
 use Rattle.listing.specs.declared.Paged.the-variants.{Page}
 use Rattle.listing.specs.Opening.{valuesOf, startOf}
+use Rattle.listing.specs.Wins.{wins, winners, entries, listing}
 use Rattle.listing.specs.Page.{pageRefusal, pageFrom, PageOutcome, pageOutcome, pageOf}
 
 blockG : List ℤ
@@ -46,3 +48,8 @@ cases :
     ∷ [])
 unfolding blockG zeros bytes pageG all any eqZ mem limits formulaOf clausesFrom existential universal change levelOf level run firstGroup refusal twice badEnds bothSigns literals assigned without unassignedE unassignedU inConflict unitOn occurs oneSign monotone isOpen lowest last candidate lowestUnit firstMonotone firstUnassigned due firstOpen recordOf wiped apply openRefusal advance runFrom valuesOf startOf pageRefusal pageFrom pageOf ones
 cases = refl
+
+-- and G's whole listing by the recursive truth alone, with no search
+listed : listing (formulaOf blockG) 4 ≡ 1 ∷ 1 ∷ 2 ∷ 1 ∷ 3 ∷ 2 ∷ []
+unfolding blockG all any eqZ mem formulaOf clausesFrom run firstGroup asked truth valuesOf wins winners entries ones
+listed = refl
