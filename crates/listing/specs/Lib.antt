@@ -1,7 +1,6 @@
 -- The listing of openings: what an opening is, and what a page answers and leaves, for every input.
 pub mod Opening
 pub mod Page
-pub mod Cases
 -- an opening: its values, its search, and when it wins
 pub mod Values
 pub mod Start
