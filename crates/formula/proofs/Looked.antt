@@ -1,7 +1,7 @@
 -- Row 10 clause by clause: from the i-th end on, some clause has both signs exactly if some clause of all has; no mark has the next stamp yet.
-use mathlib.Core.Path.{_≡_, refl, sym, ap, _∙_}
+use mathlib.Core.Path.{_≡_, refl}
 use mathlib.Core.Bool.{Bool, true, false}
-use mathlib.Core.List.{List, []}
+use mathlib.Core.List.{List}
 use Prim.Native.Nat.{ℕ, _+_, _-_, _≤_, _<_}
 use native.Mathlib.Omega.{arith}
 use lib.IntN.{ℤ, pos, natAbs}
@@ -9,7 +9,7 @@ use lib.ListN.{length, take, drop, getD, replicate, length-replicate}
 use Rattle.words.specs.Lists.{any}
 use Rattle.formula.specs.Formula.{clausesFrom}
 use Rattle.formula.specs.Block.{badEnds, bothSigns}
-use Rattle.formula.specs.Ends.{GoodEnd, good-end}
+use Rattle.formula.specs.Ends.{good-end}
 use Rattle.formula.specs.Clauses.{clauses-at, clauses-ended}
 use Rattle.formula.specs.Tables.{Fresh}
 use Rattle.formula.proofs.Seen.{blank}

@@ -1,7 +1,7 @@
 -- Row 10 in one clause, from its last literal to its first: the literals passed have the clause's stamp, and no two of them are opposites.
 use mathlib.Core.Path.{_≡_, refl, sym, ap, _∙_}
 use mathlib.Core.Bool.{Bool, true, false, not, _||_}
-use mathlib.Core.List.{List, [], _∷_}
+use mathlib.Core.List.{List}
 use Prim.Native.Nat.{ℕ, _+_, _≤_, _<_}
 use native.Mathlib.Decide.{ℕ-discrete}
 use native.Mathlib.Omega.{arith}
@@ -17,10 +17,10 @@ use Rattle.formula.specs.Once.{signs-drop, signs-at}
 use Rattle.formula.specs.Tables.{placeOf, Fresh}
 
 -- each literal has a place of its own within the table
-pub within : (n : ℕ) (g : Bool) (v : ℕ) → v ≤ n → placeOf g v < n + n + 2
+pub within : (n r : ℕ) (g : Bool) (v : ℕ) → r ≡ placeOf g v → v ≤ n → r < n + n + 2
 unfolding placeOf
-within n false v h = omega arith
-within n true v h = omega arith
+within n r false v e h = omega arith
+within n r true v e h = omega arith
 
 apart : (g g′ : Bool) (v v′ : ℕ) → placeOf g v ≡ placeOf g′ v′ → (g ≡ g′) × (v ≡ v′)
 unfolding placeOf

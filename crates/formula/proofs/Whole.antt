@@ -1,12 +1,12 @@
 -- In a block of the right length the rows of its parts are the block's rows 5 to 10.
-use mathlib.Core.Path.{_≡_, refl, sym, ap, _∙_}
-use mathlib.Core.Bool.{Bool, true, false, _&&_}
+use mathlib.Core.Path.{_≡_, sym, ap, _∙_}
+use mathlib.Core.Bool.{_&&_}
 use mathlib.Core.List.{List}
-use Prim.Native.Nat.{ℕ, _+_, _-_, _≤_, _<_}
+use Prim.Native.Nat.{ℕ, _+_, _-_, _<_}
 use native.Mathlib.Omega.{arith}
 use native.Mathlib.Decide.{ℕ-discrete}
 use lib.Dec.{ltb}
-use lib.IntN.{ℤ, pos, natAbs}
+use lib.IntN.{ℤ, pos}
 use lib.ListN.{length, take, drop, getD}
 use borrow.Author.Tests.{lt-ltb, eq-eqb, ne-eqb}
 use Rattle.words.specs.Words.{negative}
@@ -14,7 +14,7 @@ use Rattle.formula.specs.Limits.{Limits}
 use Rattle.formula.specs.Formula.{word, variablesOf, clauseCountOf, literalCountOf, prefixOf, endsOf, literalsOf}
 use Rattle.formula.specs.Block.{first, rows}
 use Rattle.formula.specs.Layout.{prefix-last, prefix-length, literals-length}
-use Rattle.formula.specs.Tables.{lastNegative, partRows}
+use Rattle.formula.specs.Tables.{partRows}
 
 -- the last of as many words as there are variables
 last : (b : List ℤ) → negative (getD (prefixOf b) (variablesOf b - 1) (pos 0)) ≡ ltb 0 (variablesOf b) && negative (word b (5 + variablesOf b))

@@ -1,19 +1,19 @@
 -- What an accepted block is, row by row and place by place: for whoever works on a block that was checked.
 use mathlib.Core.Path.{_≡_, refl, sym, _∙_, ap}
-use mathlib.Core.Bool.{Bool, true, false, not, _&&_}
+use mathlib.Core.Bool.{Bool, true, false, not}
 use mathlib.Core.Logic.{_⊎_}
 use mathlib.Core.List.{List, [], _∷_}
-use Prim.Native.Nat.{ℕ, zero, suc, _+_, _-_, _≤_, _<_}
+use Prim.Native.Nat.{ℕ, suc, _+_, _-_, _≤_, _<_}
 use native.Mathlib.Omega.{arith}
-use lib.Dec.{eqb, ltb}
+use lib.Dec.{eqb}
 use lib.IntN.{ℤ, pos, natAbs}
 use lib.ListN.{length, getD}
 use borrow.Author.Tests.{ltb-false, lt-ltb, eqb-true, not-false}
-use Rattle.words.specs.Bools.{clash, to-false}
+use Rattle.words.specs.Bools.{to-false}
 use Rattle.words.specs.Lists.{In, any, any-e, in-at, at-in}
 use Rattle.words.specs.Words.{negative, mem, mem-e}
 use Rattle.formula.specs.Limits.{Limits}
-use Rattle.formula.specs.Formula.{Formula, word, variablesOf, clauseCountOf, literalCountOf, prefixOf, endsOf, literalsOf, clausesFrom, formulaOf, existential, universal}
+use Rattle.formula.specs.Formula.{word, variablesOf, clauseCountOf, literalCountOf, prefixOf, endsOf, literalsOf, clausesFrom, formulaOf, existential, universal}
 use Rattle.formula.specs.Block.{noVariable, names, twice, badEnds, bothSigns, first, rows, refusal}
 use Rattle.formula.specs.Named.{Named, AllNamed, named, in-named, all-named}
 use Rattle.formula.specs.Ends.{GoodEnd, startOf, good-at}

@@ -1,16 +1,15 @@
 -- What the header's rows leave: the counts within their limits, the offsets, and three parts as long as they should be.
-use mathlib.Core.Path.{_≡_, refl, sym, _∙_, ap}
-use mathlib.Core.Bool.{Bool, true, false, not, _||_}
+use mathlib.Core.Path.{_≡_, refl, _∙_, ap}
+use mathlib.Core.Bool.{false, _||_}
 use mathlib.Core.List.{List}
 use Prim.Native.Nat.{ℕ, _+_, _-_, _≤_, _<_}
 use native.Mathlib.Omega.{arith}
-use lib.Dec.{ltb}
 use lib.IntN.{ℤ, pos, negsuc, natAbs}
 use lib.ListN.{length, getD, take, drop, length-drop}
 use lib.Seq.{length-take-le, getD-take, getD-drop}
 use borrow.Author.Tests.{ltb-false, not-false}
 use Rattle.words.specs.Bools.{clash, or-fl, or-fr}
-use Rattle.words.specs.Words.{negative, eqZ, eqZ-eq}
+use Rattle.words.specs.Words.{eqZ, eqZ-eq}
 use Rattle.formula.specs.Limits.{Limits}
 use Rattle.formula.specs.Formula.{word, variablesOf, clauseCountOf, literalCountOf, prefixOf, endsOf, literalsOf}
 use Rattle.formula.specs.Block.{badCount, badCounts, isNot, badOffsets}

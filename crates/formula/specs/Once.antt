@@ -1,8 +1,8 @@
 -- Rows 6 and 10 along a list, from its end to its start: what holds of a tail holds of the list.
-use mathlib.Core.Path.{_≡_, refl, sym, _∙_, ap}
-use mathlib.Core.Bool.{Bool, true, false, _||_}
+use mathlib.Core.Path.{_≡_}
+use mathlib.Core.Bool.{true, _||_}
 use mathlib.Core.List.{List, [], _∷_}
-use Prim.Native.Nat.{ℕ, zero, suc, _+_, _≤_, _<_}
+use Prim.Native.Nat.{ℕ, zero, suc, _+_, _<_}
 use lib.IntN.{ℤ, pos, negℤ, natAbs}
 use lib.ListN.{length, drop, getD}
 use Rattle.words.specs.Bools.{or-r}

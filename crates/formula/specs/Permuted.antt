@@ -1,16 +1,14 @@
 -- A prefix with as many words as variables, each naming one, none twice: each variable stands in it once, and has one quantifier.
 use mathlib.Core.Path.{_≡_, refl, sym, _∙_, ap}
-use mathlib.Core.Bool.{Bool, true, false, not, _||_}
+use mathlib.Core.Bool.{true, false, not}
 use mathlib.Core.Logic.{_⊎_, inl, inr}
 use mathlib.Core.List.{List, [], _∷_}
 use Prim.Native.Nat.{ℕ, zero, suc, _≤_, _<_}
 use native.Mathlib.Nat.{not-suc-le-zero, le-of-suc-le-suc}
-use native.Mathlib.Omega.{arith}
-use lib.Dec.{eqb, eqb→eq}
 use lib.IntN.{ℤ, pos, negsuc, negℤ, natAbs}
 use lib.ListN.{length, getD}
 use borrow.Author.Tests.{eq-eqb, eqb-true}
-use Rattle.words.specs.Bools.{clash, or-fl, or-fr, look, bool-eq, not-t, to-false}
+use Rattle.words.specs.Bools.{clash, or-fl, or-fr, look, to-false}
 use Rattle.words.specs.Lists.{In, here, there, any, any-i, any-e, in-at}
 use Rattle.words.specs.Words.{negative, mem, mem-i, mem-e, var-cases, natAbs-neg, sign-neg}
 use Rattle.words.specs.Counts.{count, count-none, count-all, count-more}

@@ -2,8 +2,8 @@
 use mathlib.Core.Path.{_≡_}
 use mathlib.Core.Bool.{Bool, true, false}
 use mathlib.Core.List.{List, [], _∷_}
-use Prim.Native.Nat.{ℕ, suc, _+_, _-_, _≤_, _<_}
-use lib.IntN.{ℤ, pos, negsuc, natAbs}
+use Prim.Native.Nat.{ℕ, _+_, _-_, _<_}
+use lib.IntN.{ℤ, pos}
 use lib.ListN.{length, getD}
 use Rattle.words.specs.Lists.{any}
 use Rattle.words.specs.Words.{negative}

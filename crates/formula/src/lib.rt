@@ -4,21 +4,22 @@ ghost use Rattle.formula.specs.Limits.{limits};
 ghost use Rattle.formula.specs.Block.{refusal};
 ghost use Rattle.formula.specs.Check.{checkedOf};
 
-mod header; // the counts, the offsets and the length
+mod header; // the counts and the offsets
 mod parts; // the prefix, the clause ends and the literals
 mod marks; // which variables or literals were seen
 
-// What the check answers: the number of the first row that a block breaks.
+// What the check answers: a refused block has the number of the first row that applies to it.
 pub enum Checked {
     Accepted,
     Refused(u32),
 }
 
-const MAX_VARIABLES: usize = 256;
+// The limits: every table's size goes by them. specs/Limits has the same three numbers, and says that they are these.
+pub const MAX_VARIABLES: usize = 256;
 
-const MAX_CLAUSES: usize = 1024;
+pub const MAX_CLAUSES: usize = 1024;
 
-const MAX_LITERALS: usize = 4096;
+pub const MAX_LITERALS: usize = 4096;
 
 // Rows 1 to 4 are about the header; with a header as it should be, the parts lie within the block.
 pub fn check(block: &[i32]) -> Checked

@@ -24,7 +24,7 @@ fn some_stranger(ws: &[i32], n: usize) -> bool
     false
 }
 
-// Whether the last word is negative; where there is none, the word before the first is past the end, and is none either.
+// Whether there is a last word, and it is negative.
 fn last_negative(prefix: &[i32]) -> bool
     ensures { λ r. ⌜ r ≡ lastNegative (now (prefix .entry)) ⌝ }
 {

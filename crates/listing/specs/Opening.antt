@@ -1,7 +1,6 @@
 -- "An opening is a number from 0 to 2^k - 1, k being the size of the first group (0 if V is 0). The group's first variable is the highest
 -- bit, 1 is true. Its search starts from a record of these k values in prefix order, kind 0, at revision 0."
 use Prim.Native.Nat.{ℕ, _^_, _/_, _%_}
-use mathlib.Core.Bool.{Bool, true, false}
 use mathlib.Core.List.{List, [], _∷_}
 use lib.Dec.{eqb}
 use lib.IntN.{ℤ, pos, negℤ, natAbs}
@@ -11,7 +10,7 @@ use Rattle.formula.specs.Formula.{Formula, firstGroup}
 use Rattle.rules.specs.declared.State.the-variants.{Open}
 use Rattle.rules.specs.Due.{pick}
 use Rattle.rules.specs.Apply.{Search, search, wiped}
-use Rattle.session.specs.Run.{Trip, runFrom}
+use Rattle.session.specs.Run.{runFrom}
 
 -- the first group
 abbrev pub groupOf : Formula → List ℤ

@@ -13,7 +13,7 @@ use Rattle.formula.specs.Block.{first}
 use Rattle.rules.specs.declared.State.{State}
 use Rattle.rules.specs.declared.State.the-variants.{Open, Valid, Unsat}
 use Rattle.rules.specs.Due.{pick}
-use Rattle.rules.specs.Apply.{Search, wiped}
+use Rattle.rules.specs.Apply.{wiped}
 use Rattle.session.specs.Refusals.{openRefusal}
 use Rattle.listing.specs.declared.Paged.{Paged}
 use Rattle.listing.specs.declared.Paged.the-variants.{Page, Refused}

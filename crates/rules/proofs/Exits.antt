@@ -1,18 +1,17 @@
 -- One rule applied, in the words of the code: what a rule that fits asks of the buffers, and the literal of a decision.
-use Prim.Native.Nat.{ℕ, _+_, _≤_, _<_}
-use mathlib.Core.Path.{_≡_, refl}
+use Prim.Native.Nat.{ℕ, _≤_, _<_}
+use mathlib.Core.Path.{_≡_}
 use mathlib.Core.List.{List}
 use native.Mathlib.Omega.{arith}
 use lib.Dec.{lit≤}
-use lib.IntN.{ℤ, pos, natAbs}
-use lib.ListN.{length, getD}
+use lib.IntN.{ℤ, natAbs}
 use borrow.Author.Tests.{eq-eqb, ne-eqb}
 use Rattle.words.specs.declared.Literal.{Literal}
 use Rattle.formula.specs.Limits.{limits}
 use Rattle.rules.specs.Apply.{Search, append, kindOf, chosen, apply}
 use Rattle.rules.specs.Ready.{Kept}
-use Rattle.rules.specs.Buffers.{Room, Cuttable}
-use Rattle.rules.specs.Records.{good, good-at}
+use Rattle.rules.specs.Buffers.{Cuttable}
+use Rattle.rules.specs.Records.{kept-room, kept-at}
 use Rattle.rules.specs.declared.Rule.the-variants.{Decide}
 
 -- the literal of a decision
@@ -27,19 +26,11 @@ small : limits .variables ≤ 2147483647
 unfolding limits
 small = lit≤ tt
 
-module _ {p ls : List ℤ} {ks : List ℕ} {n : ℕ} (k : Kept p ls ks n) where
-  -- the record lies in the buffers
-  pub room : Room n ls ks
-  room = let g = good p ls ks n (k .good) in record { lits = omega arith; kinds = omega arith }
-
-  pub room-more : n < length p → Room (n + 1) ls ks
-  room-more h = record { lits = omega arith; kinds = omega arith }
-
-  pub cuttable : {i : ℕ} → i < n → Cuttable i n ls ks
-  cuttable {i} h =
-      let e = good-at p ls ks n i h room (k .good) in
-      let s = small in
-      record { inside = h; room = room; small = omega arith }
+pub cuttable : {p ls : List ℤ} {ks : List ℕ} {n i : ℕ} → Kept p ls ks n → i < n → Cuttable i n ls ks
+cuttable k h =
+    let e = kept-at k h in
+    let s = small in
+    record { inside = h; room = kept-room k; small = omega arith }
 
 -- a decision on the chosen literal x, of the kind k
 pub decided :

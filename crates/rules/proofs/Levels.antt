@@ -2,7 +2,7 @@
 use mathlib.Core.Path.{_≡_, refl, sym, _∙_, ap}
 use mathlib.Core.Bool.{Bool, true, false, cond, Bool·beq, _||_}
 use mathlib.Core.List.{List, [], _∷_}
-use Prim.Native.Nat.{ℕ, _+_, _≤_, _<_}
+use Prim.Native.Nat.{ℕ, suc, _+_, _≤_, _<_}
 use native.Mathlib.Decide.{ℕ-discrete}
 use native.Mathlib.Omega.{arith}
 use lib.Dec.{eqb}
@@ -35,6 +35,15 @@ change-few q (r ∷ p) = few (Bool·beq (negative q) (negative r))
     few : (b : Bool) → cond b 0 1 ≤ 1
     few true = omega arith
     few false = omega arith
+
+pub level-few : (p : List ℤ) (v : ℕ) → levelOf p v ≤ length p
+unfolding levelOf
+level-few [] v = omega arith
+level-few (q ∷ p) v = few (eqb (natAbs q) v) (change q p + levelOf p v) (omega (arith, change-few q p, level-few p v))
+  where
+    few : (b : Bool) (n : ℕ) → n ≤ suc (length p) → cond b 0 n ≤ suc (length p)
+    few true n h = omega arith
+    few false n h = h
 
 -- ---- the levels of a prefix p, up to i
 pub record Levelled (p : List ℤ) (t : List ℕ) (level i : ℕ) : Type 0 where

@@ -1,6 +1,6 @@
 -- Row 12 in the words of the code: its loops, its table of signs, and its ways out.
-use mathlib.Core.Path.{_≡_, refl, sym, ap, _∙_}
-use mathlib.Core.Bool.{Bool, true, false, _&&_, _||_}
+use mathlib.Core.Path.{_≡_, refl, sym, _∙_}
+use mathlib.Core.Bool.{Bool, true, false, _||_}
 use mathlib.Core.List.{List, [], _∷_}
 use Prim.Native.Nat.{ℕ, zero, suc, _+_, _-_, _≤_, _<_}
 use native.Mathlib.Decide.{ℕ-discrete}
@@ -8,26 +8,27 @@ use native.Mathlib.Nat.{not-suc-le-zero}
 use native.Mathlib.Numerals.{sub-one}
 use native.Mathlib.Omega.{arith}
 use lib.Dec.{eqb, ltb}
-use lib.IntN.{ℤ, pos, negsuc, negℤ, natAbs}
+use lib.IntN.{ℤ, pos, negℤ, natAbs}
 use lib.ListN.{length, getD, take, drop, set, replicate, length-set, length-replicate}
 use lib.Seq.{drop-cons, drop-length, getD-set-same, getD-set-other, getD-take, length-take-le}
 use borrow.Author.Tests.{eq-eqb, ne-eqb, lt-ltb, le-ltb}
-use Rattle.words.specs.Bools.{clash, or-fl, or-fr, or-r, to-false}
-use Rattle.words.specs.Lists.{In, here, there, any, any-none, next, ended}
-use Rattle.words.specs.Words.{mem, mem-e, natAbs-neg}
-use Rattle.formula.specs.Limits.{limits}
+use Rattle.words.specs.Bools.{or-r}
+use Rattle.words.specs.Lists.{any, next, ended}
+use Rattle.words.specs.Words.{mem, mem-e}
 use Rattle.formula.specs.Formula.{existential, universal}
 use Rattle.formula.specs.Block.{noVariable, names, twice}
-use Rattle.theory.specs.Record.{entry, literals}
+use Rattle.theory.specs.Record.{entry}
 use Rattle.rules.specs.Due.{pick}
 use Rattle.rules.specs.Apply.{recordOf}
 use Rattle.rules.specs.Check.{badKind, badEntries, badRecord}
-use Rattle.rules.specs.Tables.{signsOf, Named, Signs}
+use Rattle.rules.specs.Ready.{Bound}
+use Rattle.rules.specs.Tables.{signsOf, Signs}
 use Rattle.rules.specs.Buffers.{Room, KindsLent, wrongKind}
-use Rattle.rules.specs.Records.{record-literals, record-next, record-ended, entryAt}
+use Rattle.rules.specs.Records.{room-less, record-literals, record-next, record-ended, entryAt}
 use Rattle.rules.proofs.Lists.{or-false}
-use Rattle.rules.proofs.Named.{Names, named-at, named-wider, fresh-word}
-use Rattle.rules.proofs.Filled.{places, placed, enough}
+use Rattle.rules.proofs.Named.{Names, named-at}
+use Rattle.rules.proofs.Filled.{places, enough}
+use Rattle.rules.proofs.Bound.{bound-once}
 
 -- ---- some element of a list passes, as a loop looks for it
 module _ {A : Type 0} (f : A → Bool) (xs : List A) (i : ℕ) (d : A) where
@@ -115,29 +116,15 @@ module _ (ws : List ℤ) (seen : List Bool) where
       by v (no k) = rw (getD-set-other seen s v true false k, ne-eqb v s k) (m .marked v)
 
 -- ---- kinds
--- where no variable stands twice, none has both signs
-seen-once : (w x : ℤ) (p : List ℤ) → any (names (natAbs w)) p ≡ false → In x p → natAbs w ≡ natAbs x → ⊥
-seen-once w x p h i e = clash (eq-eqb (natAbs w) (natAbs x) e) (any-none (names (natAbs w)) p h i)
-
-one-sign : (p : List ℤ) → twice p ≡ false → (x : ℤ) → In x p → In (negℤ x) p → x ≡ negℤ x
-unfolding twice
-one-sign (w ∷ p) h x (here a) (here b) = a ∙ sym b
-one-sign (w ∷ p) h x (here a) (there j) = absurd (seen-once w (negℤ x) p (or-fl (any (names (natAbs w)) p) (twice p) h) j (sym (ap natAbs a) ∙ sym (natAbs-neg x)))
-one-sign (w ∷ p) h x (there i) (here b) = absurd (seen-once w x p (or-fl (any (names (natAbs w)) p) (twice p) h) i (sym (ap natAbs b) ∙ natAbs-neg x))
-one-sign (w ∷ p) h x (there i) (there j) = one-sign p (or-fr (any (names (natAbs w)) p) (twice p) h) x i j
-
-not-both : (p : List ℤ) (v : ℕ) → twice p ≡ false → 0 < v → mem (pos v) p ≡ true → mem (negℤ (pos v)) p ≡ false
-not-both p v h l e = to-false _ (λ q. own v l (one-sign p h (pos v) (mem-e (pos v) p e) (mem-e (negℤ (pos v)) p q)))
-  where
-    own : (v : ℕ) → 0 < v → pos v ≡ negℤ (pos v) → ⊥
-    own zero l z = not-suc-le-zero l
-    own (suc v) l z = let y : _≡_ {A = ℕ} 0 1 = cc in omega arith
+-- no variable has both signs in a prefix
+not-both : (p : List ℤ) (v : ℕ) → Bound p → mem (pos v) p ≡ true → mem (negℤ (pos v)) p ≡ false
+not-both p v b e = bound-once p b (pos v) (mem-e (pos v) p e)
 
 -- so the table of signs tells a variable's quantifier
-module _ (p : List ℤ) (l : ℤ) (h : twice p ≡ false) (some : 0 < natAbs l) where
+module _ (p : List ℤ) (l : ℤ) (h : Bound p) where
   sign-universal : eqb (signsOf p (natAbs l)) 2 ≡ universal p l
   unfolding universal
-  sign-universal = go (mem (pos (natAbs l)) p) (mem (negℤ (pos (natAbs l))) p) (not-both p (natAbs l) h some)
+  sign-universal = go (mem (pos (natAbs l)) p) (mem (negℤ (pos (natAbs l))) p) (not-both p (natAbs l) h)
     where
       go : (a b : Bool) → (a ≡ true → b ≡ false) → eqb (pick a (pick b 3 1) (pick b 2 0)) 2 ≡ b
       go true b f = rw (f refl)
@@ -146,7 +133,7 @@ module _ (p : List ℤ) (l : ℤ) (h : twice p ≡ false) (some : 0 < natAbs l) 
 
   sign-existential : eqb (signsOf p (natAbs l)) 1 ≡ existential p l
   unfolding existential
-  sign-existential = go (mem (pos (natAbs l)) p) (mem (negℤ (pos (natAbs l))) p) (not-both p (natAbs l) h some)
+  sign-existential = go (mem (pos (natAbs l)) p) (mem (negℤ (pos (natAbs l))) p) (not-both p (natAbs l) h)
     where
       go : (a b : Bool) → (a ≡ true → b ≡ false) → eqb (pick a (pick b 3 1) (pick b 2 0)) 1 ≡ a
       go true b f = rw (f refl)
@@ -187,18 +174,18 @@ module _ (p ls : List ℤ) (ks : List ℕ) (n : ℕ) (q : KindsLent p ls ks n) w
 
     module _ (signs : List ℕ) (t : Signs p signs) (v : ℕ) (e : v ≡ natAbs (getD ls i (pos 0))) (b : Bool) (is : b ≡ wrongKind (getD ks i 0) (getD signs v 0)) where
       tested : badKind p (entryAt ls ks i) ≡ b
-      tested = sym (is ∙ rw (t v, e) (kind-test p (getD ls i (pos 0)) (q .prefix .once) (name .from) (getD ks i 0)))
+      tested = sym (is ∙ rw (t v, e) (kind-test p (getD ls i (pos 0)) (q .prefix) (getD ks i 0)))
 
       pub kinds-hit : Looked p ls ks n i → b ≡ true → true ≡ any (badKind p) (recordOf ls ks n)
       unfolding any
-      kinds-hit k u = rw (record-next ls ks n i h (q .room .lits) (q .room .kinds), tested, u) at (k .same)
+      kinds-hit k u = rw (record-next ls ks n i h (q .room), tested, u) at (k .same)
 
       pub kinds-more : Looked p ls ks n i → b ≡ false → Looked p ls ks n (i + 1)
       unfolding any
       kinds-more k u =
           record {
             at = omega arith;
-            same = rw (record-next ls ks n i h (q .room .lits) (q .room .kinds), tested, u) at (k .same);
+            same = rw (record-next ls ks n i h (q .room), tested, u) at (k .same);
           }
 
   pub kinds-end : (i : ℕ) → Looked p ls ks n i → n ≤ i → false ≡ any (badKind p) (recordOf ls ks n)
@@ -213,11 +200,11 @@ module _ (p ls : List ℤ) (ks : List ℕ) (n : ℕ) where
 
   module _ (few : n ≤ length p) (room : Room (length p) ls ks) where
     pub row-room : Room n ls ks
-    row-room = record { lits = omega arith; kinds = omega arith }
+    row-room = room-less few room
 
     row : badRecord p ls ks n ≡ (any (noVariable (length p)) (take n ls) || twice (take n ls) || any (badKind p) (recordOf ls ks n))
     unfolding badRecord badEntries
-    row = rw (le-ltb (length p) n few, record-literals ls ks n (row-room .kinds))
+    row = rw (le-ltb (length p) n few, record-literals ls ks n row-room)
 
     pub row-unnamed : any (noVariable (length p)) (take n ls) ≡ true → true ≡ badRecord p ls ks n
     row-unnamed a = rw (row, a)

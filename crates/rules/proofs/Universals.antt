@@ -6,7 +6,7 @@ use Prim.Native.Nat.{ℕ, zero, suc, _+_, _<_}
 use native.Mathlib.Nat.{le-refl}
 use native.Mathlib.Omega.{arith}
 use lib.Dec.{eqb·zero-suc}
-use lib.IntN.{ℤ, pos, negsuc, natAbs}
+use lib.IntN.{ℤ, pos, negsuc, negℤ, natAbs}
 use lib.ListN.{length, getD, take, set, replicate}
 use Rattle.words.specs.Bools.{clash}
 use Rattle.words.specs.Words.{negative, eqZ, mem}
@@ -15,7 +15,7 @@ use Rattle.formula.specs.Formula.{universal}
 use Rattle.rules.specs.Due.{pick}
 use Rattle.rules.specs.Tables.{Named}
 use Rattle.rules.proofs.Lists.{mem-here, mem-other, minus-other}
-use Rattle.rules.proofs.Named.{Names, named-at}
+use Rattle.rules.proofs.Named.{named-at}
 use Rattle.rules.proofs.Filled.{Filled, places, begin, turn, pass, placed}
 
 -- what the words say of a variable
@@ -31,12 +31,17 @@ unfolding universal
 universal-new xs (pos n) h = clash h refl
 universal-new xs (negsuc n) h = rw (mem-here xs (negsuc n))
 
-pub universal-same : (n : ℕ) (xs : List ℤ) (w : ℤ) → Names n w → negative w ≡ false → (v : ℕ) → universally (xs ++ w ∷ []) v ≡ universally xs v
-unfolding universal eqZ
-universal-same n xs (pos zero) h g v = absurd (omega arith)
-universal-same n xs (pos (suc k)) h g zero = rw (mem-other (pos 0) xs (pos (suc k)) (eqb·zero-suc k))
-universal-same n xs (pos (suc k)) h g (suc v) = rw (mem-other (negsuc v) xs (pos (suc k)) refl)
-universal-same n xs (negsuc k) h g v = clash refl g
+-- a word above zero is no universal word
+pub plus-word : (w : ℤ) → 0 < natAbs w → negative w ≡ false → (v : ℕ) → eqZ (negℤ (pos v)) w ≡ false
+unfolding eqZ
+plus-word (pos zero) h g v = absurd (omega arith)
+plus-word (pos (suc n)) h g zero = eqb·zero-suc n
+plus-word (pos (suc n)) h g (suc v) = refl
+plus-word (negsuc n) h g v = clash refl g
+
+pub universal-same : (xs : List ℤ) (w : ℤ) → 0 < natAbs w → negative w ≡ false → (v : ℕ) → universally (xs ++ w ∷ []) v ≡ universally xs v
+unfolding universal
+universal-same xs w h g v = rw (mem-other (negℤ (pos v)) xs w (plus-word w h g v))
 
 -- ---- the loop
 pub universals-begin : (p : List ℤ) → Filled universally p (length p) (replicate places 0) 0
@@ -51,4 +56,4 @@ module _ (p : List ℤ) (named : Named p) (i : ℕ) (h : i < length p) (t : List
       (λ v k. universal-other (take i p) (getD p i (pos 0)) v (λ e. k (e ∙ sym is)))
 
   pub universals-pass : Filled universally p (length p) t i → negative (getD p i (pos 0)) ≡ false → Filled universally p (length p) t (i + 1)
-  universals-pass f g = pass universally p (length p) t i f h (le-refl (length p)) (universal-same (limits .variables) (take i p) (getD p i (pos 0)) (named-at (limits .variables) p named i h) g)
+  universals-pass f g = pass universally p (length p) t i f h (le-refl (length p)) (universal-same (take i p) (getD p i (pos 0)) (named-at (limits .variables) p named i h .from) g)

@@ -12,3 +12,7 @@ pub mod Passed
 pub mod Reasons
 pub mod Steps
 pub mod Written
+pub mod Clauses
+pub mod ClausesMean
+pub mod ClausesReady
+pub mod Told

@@ -11,6 +11,7 @@ use Rattle.formula.specs.Limits.{limits}
 use Rattle.formula.specs.Formula.{Formula, clausesFrom}
 use Rattle.formula.specs.Block.{noVariable, twice, badEnds}
 use Rattle.rules.specs.Check.{badRecord}
+use Rattle.rules.specs.Tables.{Written}
 use Rattle.rules.specs.declared.Rule.{Rule}
 use Rattle.rules.specs.declared.Rule.the-variants.{BacktrackExists, Fail, Unit, Monotone, Decide, BacktrackForall, Succeed}
 
@@ -33,6 +34,11 @@ pub record Kept (p ls : List ℤ) (ks : List ℕ) (n : ℕ) : Type 0 where
   pub lits-room : length p ≤ length ls
   pub kinds-room : length p ≤ length ks
   pub good : badRecord p ls ks n ≡ false
+
+-- the part of it that says which literals are true, with no kinds
+pub record Held (p ls : List ℤ) (n : ℕ) : Type 0 where
+  pub prefix : Bound p
+  pub written : Written ls n
 
 -- a rule has a place to write to: a cut is inside the record, and an entry more is inside the buffers
 abbrev pub Fitting : List ℤ → ℕ → Rule → Type 0

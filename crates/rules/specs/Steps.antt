@@ -24,7 +24,7 @@ use Rattle.rules.specs.Due.{due}
 use Rattle.rules.specs.Apply.{Search, search, recordOf, append, turn, kindOf, chosen, apply}
 use Rattle.rules.specs.Ready.{Kept, Fitting}
 use Rattle.rules.specs.Buffers.{Room}
-use Rattle.rules.specs.Records.{after, record-length, record-at, record-append, record-turn, wiped-length, Last, last-none, last-at, good}
+use Rattle.rules.specs.Records.{restAt, kept-room, kept-more, record-length, record-at, record-append, record-turn, wiped-length, Last, last-none, last-at, good}
 use Rattle.rules.specs.Searches.{UnitOf}
 use Rattle.rules.specs.Reasons.{Reason, backtrack-exists, fail, unit, monotone, decide, backtrack-forall, succeed, reason}
 use Rattle.rules.specs.Passed.{kept-good, good-kept}
@@ -78,22 +78,22 @@ module _ (F : Formula) (ls : List ℤ) (ks : List ℕ) (n : ℕ) (st : State) (k
   few = good (F .prefix) ls ks n (k .good) .few
 
   room : Room n ls ks
-  room = let f = few in record { lits = omega arith; kinds = omega arith }
+  room = kept-room k
 
   -- an entry more has a place: with it the record has distinct variables of the prefix still
   grow-fits : (e : Entry) → Step F (recordOf ls ks n) (going (recordOf ls ks n ++ e ∷ [])) → n < length (F .prefix)
   grow-fits e s =
       let t = good-taken F (recordOf ls ks n ++ e ∷ []) (good-step F (kept-good F ls ks n k) s) in
       let a = length-append (recordOf ls ks n) (e ∷ []) in
-      let b = record-length ls ks n (room .lits) (room .kinds) in
+      let b = record-length ls ks n room in
       omega arith
 
   append-state : (kind : ℕ) (x : ℤ) → n < length (F .prefix) → stateOf (append kind x (search ls ks n st)) ≡ going (recordOf ls ks n ++ entry kind x ∷ [])
-  append-state kind x h = ap going (record-append ls ks n x kind (omega arith) (omega arith))
+  append-state kind x h = ap going (record-append ls ks n x kind (kept-more k h))
 
   -- a cut is at the entry that the search found
-  split : (kind i : ℕ) → Last kind ls ks n i → recordOf ls ks n ≡ recordOf ls ks i ++ entry kind (getD ls i (pos 0)) ∷ after ls ks i n
-  split kind i w = rw (w .kind) at (record-at ls ks n i (w .inside) (room .lits) (room .kinds))
+  split : (kind i : ℕ) → Last kind ls ks n i → recordOf ls ks n ≡ recordOf ls ks i ++ entry kind (getD ls i (pos 0)) ∷ restAt ls ks i n
+  split kind i w = rw (w .kind) at (record-at ls ks n i (w .inside) room)
 
   turn-state : (i : ℕ) → i < n → stateOf (turn i (search ls ks n st)) ≡ going (recordOf ls ks i ++ entry 0 (negℤ (getD ls i (pos 0))) ∷ [])
   turn-state i h = ap going (record-turn ls ks n i h room)
@@ -114,7 +114,7 @@ module _ (F : Formula) (ls : List ℤ) (ks : List ℕ) (n : ℕ) (st : State) (k
   unfolding apply
   steps (backtrack-exists i c h e) l a =
       let w = last-at 1 ls ks n i room e in
-      rw (turn-state i (w .inside)) (Step.backtrack-exists h (recordOf ls ks i) (after ls ks i n) (getD ls i (pos 0)) (split 1 i w) (w .none-after))
+      rw (turn-state i (w .inside)) (Step.backtrack-exists h (recordOf ls ks i) (restAt ls ks i n) (getD ls i (pos 0)) (split 1 i w) (w .none-after))
   steps (fail c h e) l a = Step.fail h (last-none 1 0 (recordOf ls ks n) e)
   steps (unit x c q u) l a =
       let s = unit-step F (recordOf ls ks n) q (x .0) u in
@@ -128,7 +128,7 @@ module _ (F : Formula) (ls : List ℤ) (ks : List ℕ) (n : ℕ) (st : State) (k
       rw (append-state (kindOf (F .prefix) y) y (grow-fits _ s)) s
   steps (backtrack-forall i q f e) l a =
       let w = last-at 2 ls ks n i room e in
-      rw (turn-state i (w .inside)) (Step.backtrack-forall q f (recordOf ls ks i) (after ls ks i n) (getD ls i (pos 0)) (split 2 i w) (w .none-after))
+      rw (turn-state i (w .inside)) (Step.backtrack-forall q f (recordOf ls ks i) (restAt ls ks i n) (getD ls i (pos 0)) (split 2 i w) (w .none-after))
   steps (succeed q f e) l a = Step.succeed q f (last-none 2 0 (recordOf ls ks n) e)
 
   -- ---- each rule keeps what the guard has shown
@@ -141,7 +141,7 @@ module _ (F : Formula) (ls : List ℤ) (ks : List ℕ) (n : ℕ) (st : State) (k
         prefix = k .prefix;
         lits-room = rw length-set (k .lits-room);
         kinds-room = rw length-set (k .kinds-room);
-        good = good-kept F (set ls n x) (set ks n kind) (n + 1) (k .prefix) (omega arith) (rw (record-append ls ks n x kind (omega arith) (omega arith)) g);
+        good = good-kept F (set ls n x) (set ks n kind) (n + 1) (k .prefix) (omega arith) (rw (record-append ls ks n x kind (kept-more k h)) g);
       }
 
   turn-keeps : (i : ℕ) → i < n → Step F (recordOf ls ks n) (stateOf (turn i (search ls ks n st)))

@@ -1,17 +1,18 @@
 -- Tables by variable: what each place of a table says.
 use Prim.Native.Nat.{ℕ, _≤_}
 use mathlib.Core.Path.{_≡_}
-use mathlib.Core.Bool.{true, false}
+use mathlib.Core.Bool.{_||_, true, false}
 use mathlib.Core.List.{List}
-use lib.Dec.{eqb}
+use lib.Dec.{eqb, leb}
 use lib.IntN.{ℤ, pos, negsuc, negℤ}
 use lib.ListN.{length, getD, take}
-use Rattle.words.specs.Lists.{any}
+use Rattle.words.specs.Lists.{any, all}
 use Rattle.words.specs.Words.{mem}
-use Rattle.formula.specs.Formula.{universal, levelOf}
+use Rattle.formula.specs.Formula.{universal, levelOf, level}
 use Rattle.formula.specs.Limits.{limits}
 use Rattle.formula.specs.Block.{noVariable, names, twice}
-use Rattle.theory.specs.Record.{Assignment}
+use Rattle.theory.specs.Record.{Assignment, assigned}
+use Rattle.theory.specs.Tests.{occurs}
 use Rattle.rules.specs.Due.{pick}
 
 -- 1 for a positive word, 2 for a negative one
@@ -54,3 +55,11 @@ pub record Written (ls : List ℤ) (n : ℕ) : Type 0 where
   pub room : n ≤ length ls
   pub named : Named (take n ls)
   pub once : twice (take n ls) ≡ false
+
+-- a literal occurs in the clauses m exactly if it is one of their literal words ls
+abbrev pub Spread : List ℤ → List (List ℤ) → Type 0
+Spread ls m = (l : ℤ) → occurs m l ≡ mem l ls
+
+-- n is the lowest level of an unassigned variable: it is at least k exactly if each variable of a level below k is assigned
+abbrev pub Lowest : List ℤ → Assignment → ℕ → Type 0
+Lowest p ρ n = (k : ℕ) → k ≤ limits .variables → leb k n ≡ all (λ q. assigned ρ q || leb k (level p q)) p

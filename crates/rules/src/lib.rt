@@ -1,15 +1,24 @@
 // The rules over checked input: which is due, and one rule applied.
-use words::Literal;
-
 mod tables; // tables by variable
 mod variables; // the variables of the prefix
+mod clauses; // the clauses in conflict and the unit clauses
 mod buffers; // the record's two buffers
 mod record; // row 12
+mod ordered; // the due rule
 mod applied; // one rule applied
 
 pub use applied::apply;
 pub use buffers::clear;
+pub use ordered::due;
 pub use record::bad_record;
+use words::Literal;
+ghost use mathlib.Core.Path.{_≡_};
+ghost use lib.ListN.{take};
+ghost use Rattle.theory.specs.Record.{among};
+ghost use Rattle.theory.specs.Tests.{isOpen};
+ghost use Rattle.rules.specs.Due as due;
+ghost use Rattle.rules.specs.Preferred.{firstOpen};
+ghost use Rattle.rules.specs.Ready.{Held};
 
 // The state of a search.
 pub enum State {
@@ -52,4 +61,24 @@ pub enum UnitFound {
 pub struct Reached {
     pub count: usize,
     pub state: State,
+}
+
+// Whether a literal is open over the first entries of a record.
+pub fn open(prefix: &[i32], lits: &[i32], count: usize, literal: Literal) -> bool
+    requires { ⌜ Held (now prefix) (now lits) count ⌝ }
+    ensures { λ r. ⌜ r ≡ isOpen (now (prefix .entry)) (among (take count (now (lits .entry)))) (literal .0) ⌝ }
+{
+    let values = tables::values_of(lits, count);
+    let levels = tables::levels_of(prefix);
+    variables::is_open(prefix, &values, &levels, literal)
+}
+
+// The first open literal of a list of any content, 0 if it has none.
+pub fn preferred(prefix: &[i32], lits: &[i32], count: usize, list: &[i32]) -> Literal
+    requires { ⌜ Held (now prefix) (now lits) count ⌝ }
+    ensures { λ r. ⌜ r ≡ due.literal (firstOpen (now (prefix .entry)) (among (take count (now (lits .entry)))) (now (list .entry))) ⌝ }
+{
+    let values = tables::values_of(lits, count);
+    let levels = tables::levels_of(prefix);
+    variables::first_open(prefix, &values, &levels, list)
 }

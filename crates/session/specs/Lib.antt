@@ -13,4 +13,3 @@ pub mod Follows
 pub mod ByHand
 pub mod History
 pub mod Only
-pub mod Cases

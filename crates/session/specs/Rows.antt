@@ -67,18 +67,18 @@ some-first n (true ∷ ts) (suc i) r = clash refl (r .before 0 (omega arith))
 some-first n (false ∷ ts) zero r = clash (r .applies) refl
 some-first n (false ∷ ts) (suc i) r = let e = some-first (suc n) ts i (record { applies = r .applies; before = λ j l. r .before (suc j) (omega arith) }) in e ∙ (omega arith)
 
-numbered : (ts : List Bool) → Numbered ts (first 1 ts)
+pub numbered : (ts : List Bool) → Numbered ts (first 1 ts)
 numbered ts = record {
   none = (first-none 0 ts, none-first 0 ts);
   some = λ i. (λ e. first-some 0 ts i (e ∙ (omega arith)), λ r. some-first 0 ts i r ∙ (omega arith));
 }
 
 -- ---- the block's rows and then the call's make one table
-join : ℕ → ℕ → ℕ
+unfoldable pub join : ℕ → ℕ → ℕ
 join zero m = m
 join (suc n) m = suc n
 
-first-join : (n : ℕ) (ts us : List Bool) → join (first (suc n) ts) (first (suc n + length ts) us) ≡ first (suc n) (ts ++ us)
+pub first-join : (n : ℕ) (ts us : List Bool) → join (first (suc n) ts) (first (suc n + length ts) us) ≡ first (suc n) (ts ++ us)
 unfolding join
 first-join n [] us = let e : suc n + 0 ≡ suc n = omega arith in rw e
 first-join n (true ∷ ts) us = refl
@@ -89,7 +89,7 @@ unfolding join
 after-join zero us = refl
 after-join (suc n) us = refl
 
-after-first : (b : List ℤ) (us : List Bool) → after (refusal limits b) us ≡ first 1 (rows limits b ++ us)
+pub after-first : (b : List ℤ) (us : List Bool) → after (refusal limits b) us ≡ first 1 (rows limits b ++ us)
 unfolding refusal
 after-first b us = after-join (first 1 (rows limits b)) us ∙ first-join 0 (rows limits b) us
 

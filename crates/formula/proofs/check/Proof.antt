@@ -1,19 +1,15 @@
 -- Each row that does not hold leaves the rows after it. After row 4 the parts lie within the block, and their rows are the rest.
-use mathlib.Core.Path.{_≡_, refl, sym, ap, _∙_}
-use mathlib.Core.Bool.{false, not}
+use mathlib.Core.Path.{_≡_, sym, ap, _∙_}
 use mathlib.Core.List.{List}
-use Prim.Native.Nat.{ℕ, _+_, _-_, _≤_, _<_}
+use Prim.Native.Nat.{_-_, _≤_}
 use native.Mathlib.Omega.{arith}
-use lib.Dec.{eqb}
 use lib.IntN.{ℤ}
-use lib.ListN.{length, take, drop}
-use borrow.Author.Tests.{lt-ltb, le-ltb, eq-eqb, ne-eqb}
+use lib.ListN.{length, drop}
+use borrow.Author.Tests.{lt-ltb, le-ltb}
 use Rattle.formula.specs.Limits.{limits, variables-are, clauses-are, literals-are}
-use Rattle.formula.specs.Formula.{variablesOf, clauseCountOf, literalCountOf, prefixOf, endsOf, literalsOf}
-use Rattle.formula.specs.Block.{badCounts, first, rows, refusal}
-use Rattle.formula.specs.Layout.{Counts, good-counts, prefix-length}
+use Rattle.formula.specs.Block.{first, rows, refusal}
+use Rattle.formula.specs.Layout.{Counts, good-counts}
 use Rattle.formula.specs.Check.{checkedOf}
-use Rattle.formula.specs.Tables.{partRows}
 use Rattle.formula.proofs.Whole.{Read, wrong-length, prefix-long, right-length}
 use borrow.Author.Needs.{needs}
 use Rattle.formula.proofs.check.Statement.{statement}

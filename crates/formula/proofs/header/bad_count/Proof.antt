@@ -1,13 +1,10 @@
+-- The first test that holds decides.
 use mathlib.Core.Path.{ap}
 use lib.Dec.{ltb}
 use Rattle.words.specs.Bools.{or-first, or-second}
 use borrow.Author.Needs.{needs}
 use Rattle.formula.proofs.header.bad_count.Statement.{statement}
 use Rattle.formula.proofs.header.bad_count.Tie as tie
-use Rattle.formula.proofs.header.bad_count.Reads as reads
-use Rattle.formula.proofs.header.bad_count.Lts as lts
-use Rattle.words.proofs.negative_at.Reads as negative-at-reads
-use Rattle.words.proofs.size_at.Reads as size-at-reads
 
 negative-at-requires : tie.Need-negative-at-requires
 negative-at-requires c κs = search needs

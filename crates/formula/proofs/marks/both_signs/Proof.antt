@@ -1,13 +1,11 @@
 -- The literals passed, from the last one on, have the clause's stamp; each has a place of its own within the table.
 use mathlib.Core.Path.{_≡_}
-use mathlib.Core.Bool.{not}
 use Prim.Native.Nat.{_+_, _-_, _≤_, _<_}
 use native.Mathlib.Omega.{arith}
 use lib.IntN.{pos}
-use lib.ListN.{length, getD}
+use lib.ListN.{getD}
 use Rattle.formula.specs.Limits.{limits, variables-are}
 use Rattle.formula.specs.Named.{Named}
-use Rattle.formula.specs.Tables.{placeOf}
 use Rattle.formula.proofs.Stamped.{Stamped, within, begin, hit, more, end}
 use Rattle.formula.proofs.marks.both_signs.Statement.{statement}
 use Rattle.formula.proofs.marks.both_signs.Tie as tie
@@ -47,13 +45,12 @@ module _ (c : tie.After-size-at Inv-loop μ-loop) where
 place-requires : tie.Need-place-requires Inv-loop μ-loop
 place-requires c κs = most (c .before)
 
+-- and its places are within the table
 other-within : (c : tie.After-place Inv-loop μ-loop) → c .place .result < limits .variables + limits .variables + 2
-other-within c = omega (arith, c .place .ensures, within (limits .variables) (not (c .before .negative-at .result)) (c .before .before .size-at .result) (most (c .before .before)))
+other-within c = within _ _ _ _ (c .place .ensures) (most (c .before .before))
 
 own-within : (c : tie.After-place2 Inv-loop μ-loop) → c .place2 .result < limits .variables + limits .variables + 2
-own-within c =
-    let signed = c .before .before .before .before in
-    omega (arith, c .place2 .ensures, within (limits .variables) (signed .negative-at .result) (signed .before .size-at .result) (most (signed .before)))
+own-within c = within _ _ _ _ (c .place2 .ensures) (most (c .before .before .before .before .before))
 
 mul-if1 : tie.Need-mul-if1 Inv-loop μ-loop
 mul-if1 c = omega (arith, variables-are, other-within c)

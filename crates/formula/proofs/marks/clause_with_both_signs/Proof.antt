@@ -1,6 +1,5 @@
 -- Each clause is looked at once, in a part of the literals that its end and the one before it mark off.
-use mathlib.Core.Path.{_≡_}
-use Prim.Native.Nat.{_+_, _-_, _≤_, _<_}
+use Prim.Native.Nat.{_-_, _≤_}
 use native.Mathlib.Omega.{arith}
 use lib.ListN.{length}
 use Rattle.formula.specs.Limits.{limits, variables-are}

@@ -1,6 +1,6 @@
 -- The marks are the variables of the words passed, from the last one on; each word's size is within the table.
 use mathlib.Core.Path.{_≡_}
-use Prim.Native.Nat.{_+_, _-_, _≤_, _<_}
+use Prim.Native.Nat.{_+_, _-_, _<_}
 use native.Mathlib.Omega.{arith}
 use lib.ListN.{length}
 use Rattle.formula.specs.Limits.{limits, variables-are}

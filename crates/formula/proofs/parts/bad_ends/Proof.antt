@@ -13,10 +13,6 @@ use Rattle.formula.proofs.Rows.{end-negative, end-falls, end-over, end-
 use borrow.Author.Needs.{needs}
 use Rattle.formula.proofs.parts.bad_ends.Statement.{statement}
 use Rattle.formula.proofs.parts.bad_ends.Tie as tie
-use Rattle.formula.proofs.parts.bad_ends.Reads as reads
-use Rattle.formula.proofs.parts.bad_ends.Lts as lts
-use Rattle.words.proofs.negative_at.Reads as negative-at-reads
-use Rattle.words.proofs.size_at.Reads as size-at-reads
 
 abbrev Inv-loop : tie.InvT-loop
 Inv-loop ends total from₀ i₀ from i = (i ≤ length ends) × (badEnds total from (drop i ends) ≡ badEnds total 0 ends)

@@ -1,7 +1,8 @@
 -- Each arm does what `apply` says of its constructor; a cut's literal is small, since row 12 has passed.
 use borrow.Author.Needs.{needs}
 use Rattle.rules.specs.Apply.{apply}
-use Rattle.rules.proofs.Exits.{room-more, cuttable}
+use Rattle.rules.specs.Records.{kept-more}
+use Rattle.rules.proofs.Exits.{cuttable}
 use Rattle.rules.proofs.applied.apply.Statement.{statement}
 use Rattle.rules.proofs.applied.apply.Tie as tie
 
@@ -22,7 +23,7 @@ enum-known-rule-2 c = search needs
 append-requires : tie.Need-append-requires
 append-requires c κs =
     let start = c .before .before .before .before .before .before in
-    room-more (start .pre .0) (rw (c .before .before .before .rule2 .given .1) at (start .pre .1))
+    kept-more (start .pre .0) (rw (c .before .before .before .rule2 .given .1) at (start .pre .1))
 
 enum-known-rule-3 : tie.Need-enum-known-rule-3
 enum-known-rule-3 c = search needs
@@ -30,7 +31,7 @@ enum-known-rule-3 c = search needs
 append-requires-2 : tie.Need-append-requires-2
 append-requires-2 c κs =
     let start = c .before .before .before .before .before .before in
-    room-more (start .pre .0) (rw (c .before .before .before .rule3 .given .1) at (start .pre .1))
+    kept-more (start .pre .0) (rw (c .before .before .before .rule3 .given .1) at (start .pre .1))
 
 enum-known-rule-4 : tie.Need-enum-known-rule-4
 enum-known-rule-4 c = search needs

@@ -1,6 +1,7 @@
 -- The literal is the chosen one, and its kind is that of its variable.
 use borrow.Author.Needs.{needs}
-use Rattle.rules.proofs.Exits.{room-more, decided}
+use Rattle.rules.specs.Records.{kept-more}
+use Rattle.rules.proofs.Exits.{decided}
 use Rattle.rules.proofs.applied.decide.Statement.{statement}
 use Rattle.rules.proofs.applied.decide.Tie as tie
 
@@ -8,10 +9,10 @@ chosen-requires : tie.Need-chosen-requires
 chosen-requires c κs = search needs
 
 kind-of-requires : tie.Need-kind-of-requires
-kind-of-requires c κs = search needs
+kind-of-requires c κs = c .before .before .pre .0 .prefix
 
 append-requires : tie.Need-append-requires
-append-requires c κs = search needs
+append-requires c κs = kept-more (c .before .before .before .before .before .pre .0) (c .before .before .before .before .before .pre .1)
 
 same-length : tie.Need-same-length
 same-length c = search needs

@@ -1,5 +1,6 @@
 -- The rest is set to 0 by `wipe`; the literal at the place is small, so its opposite is its negation.
 use mathlib.Core.Path.{ap, _∙_}
+use native.Mathlib.Omega.{arith}
 use lib.IntN.{pos}
 use lib.ListN.{getD}
 use mir.Syntax.{w32}
@@ -9,56 +10,40 @@ use Rattle.words.specs.Words.{opposite}
 use Rattle.rules.proofs.Places.{turned}
 use Rattle.rules.proofs.buffers.turn.Statement.{statement}
 use Rattle.rules.proofs.buffers.turn.Tie as tie
-use Rattle.rules.proofs.buffers.turn.Reads as reads
-use Rattle.rules.proofs.buffers.turn.Lts as lts
-use Rattle.rules.proofs.buffers.wipe.Reads as wipe-reads
-use Rattle.words.proofs.opposite.Reads as opposite-reads
 
--- src/buffers.rt:53:36
 mul-opposite : tie.Need-mul-opposite
-mul-opposite c = search needs
+mul-opposite c = omega arith
 
--- src/buffers.rt:53:36
 slice-copy-out-opposite : tie.Need-slice-copy-out-opposite
-slice-copy-out-opposite c = search needs
+slice-copy-out-opposite c = omega arith
 
--- src/buffers.rt:53:9
 opposite-requires : tie.Need-opposite-requires
 opposite-requires c κs = search needs
 
--- src/buffers.rt:54:23
 add-wipe : tie.Need-add-wipe
-add-wipe c = search needs
+add-wipe c = omega arith
 
--- src/buffers.rt:54:5
 wipe-requires : tie.Need-wipe-requires
-wipe-requires c κs = search needs
+wipe-requires c κs = omega arith
 
--- src/buffers.rt:55:5
 mul-opposite-2 : tie.Need-mul-opposite-2
-mul-opposite-2 c = search needs
+mul-opposite-2 c = omega arith
 
--- src/buffers.rt:55:5
 slice-set-from-opposite : tie.Need-slice-set-from-opposite
-slice-set-from-opposite c = search needs
+slice-set-from-opposite c = omega arith
 
--- src/buffers.rt:56:5
 slice-write-kinds : tie.Need-slice-write-kinds
-slice-write-kinds c = search needs
+slice-write-kinds c = omega arith
 
--- src/buffers.rt:58:16
 add-t6 : tie.Need-add-t6
-add-t6 c = search needs
+add-t6 c = omega arith
 
--- src/buffers.rt:49:1
 same-length : tie.Need-same-length
 same-length c = search needs
 
--- src/buffers.rt:49:1
 same-length-2 : tie.Need-same-length-2
 same-length-2 c = search needs
 
--- src/buffers.rt:49:1
 returns : tie.Need-returns
 returns c =
     let called = c .before .before .before .before .before .before in

@@ -17,7 +17,7 @@ loop-holds : tie.Need-loop-holds Inv-loop μ-loop
 loop-holds c = record { lits-long = refl; kinds-long = refl; lits = refl; kinds = refl }
 
 mul-lits : tie.Need-mul-lits Inv-loop μ-loop
-mul-lits c = search needs
+mul-lits c = omega arith
 
 slice-set-of-lits : tie.Need-slice-set-of-lits Inv-loop μ-loop
 slice-set-of-lits c = omega arith

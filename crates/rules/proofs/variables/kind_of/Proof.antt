@@ -1,34 +1,32 @@
--- The word -v stands from i on exactly if it stands at all: no word passed is it.
-use Prim.Native.Nat.{_-_, _≤_}
-use mathlib.Core.Path.{_≡_, refl, sym, ap, _∙_}
+-- The words from i on hold the variable's universal word exactly if all do.
+use mathlib.Core.Path.{_≡_, sym, _∙_, ap}
 use mathlib.Core.Logic.{⊎-elim}
-use native.Mathlib.Omega.{arith}
-use lib.IntN.{pos, negℤ, natAbs}
-use lib.ListN.{length, drop}
+use Prim.Native.Nat.{_-_}
+use lib.IntN.{natAbs}
+use lib.ListN.{length}
 use mir.Syntax.{w32}
 use mir.ValLaws.{toZ-ofZ}
-use borrow.Author.Needs.{needs, sfits-of}
-use Rattle.words.specs.Words.{mem}
-use Rattle.rules.proofs.KindOf.{minus-here, minus-past, plus-past, minus-end, kind-universal, kind-other}
+use borrow.Author.Needs.{needs}
+use native.Mathlib.Omega.{arith}
+use Rattle.rules.proofs.Kind.{Looking, looking-begin, looking-end, looking-found, looking-other, looking-plus}
 use Rattle.rules.proofs.variables.kind_of.Statement.{statement}
 use Rattle.rules.proofs.variables.kind_of.Tie as tie
 
 abbrev Inv-loop : tie.InvT-loop
-Inv-loop prefix v i₀ i = (i ≤ length prefix) × (mem (negℤ (pos v)) (drop i prefix) ≡ mem (negℤ (pos v)) prefix)
+Inv-loop prefix v i₀ i = Looking prefix v i
 
 abbrev μ-loop : tie.MeasureT-loop
 μ-loop prefix v i₀ i = length prefix - i
 
-sized : (c : tie.After-size Inv-loop μ-loop) → c .size .result ≡ natAbs (c .before .before .args .literal .0)
-sized c =
-    c .size .ensures
-    ∙ ap natAbs (toZ-ofZ w32 (c .before .before .args .literal .0) (sfits-of (c .before .struct-told .given .0 .1)))
+-- the variable is the literal's
+variable : (c : tie.After-size Inv-loop μ-loop) → c .size .result ≡ natAbs (c .before .before .args .literal .0)
+variable c = c .size .ensures ∙ ap natAbs (toZ-ofZ w32 (c .before .before .args .literal .0) (record { sfits = c .before .struct-told .given .0 .1 }))
 
 size-requires : tie.Need-size-requires Inv-loop μ-loop
 size-requires c κs = search needs
 
 loop-holds : tie.Need-loop-holds Inv-loop μ-loop
-loop-holds c = (omega arith, refl)
+loop-holds c = looking-begin _ _
 
 size-at-requires : tie.Need-size-at-requires Inv-loop μ-loop
 size-at-requires c κs = search needs
@@ -38,10 +36,10 @@ negative-at-requires c κs = search needs
 
 returns : tie.Need-returns Inv-loop μ-loop
 returns c =
-    let found = c .before .before in
-    let turn = found .before .before in
-    kind-universal _ _ _ (sized (turn .before .before))
-    (sym (turn .before .loop .inv .1) ∙ minus-here _ _ (turn .loop-test .taken) _ _ (found .before .size-at .ensures) (found .if1 .taken) (sym (c .before .negative-at .ensures) ∙ c .if2 .taken))
+    let same = c .before .before in
+    let turn = same .before .before in
+    looking-found _ _ _ (turn .before .loop .inv) _ (variable (turn .before .before)) (turn .loop-test .taken)
+    (sym (same .before .size-at .ensures) ∙ same .if1 .taken) (sym (c .before .negative-at .ensures) ∙ c .if2 .taken)
 
 add-i : tie.Need-add-i Inv-loop μ-loop
 add-i c = omega arith
@@ -51,33 +49,18 @@ loop-less c = omega arith
 
 loop-again : tie.Need-loop-again Inv-loop μ-loop
 loop-again c =
-    let turn = c .before .before in
+    let sized = c .before in
+    let turn = sized .before in
     let start = turn .before .before .before .before in
-    let past =
     ⊎-elim
-    (λ w. plus-past _ _ (turn .loop-test .taken) _ _ (c .before .size-at .ensures) (start .pre) (w .0 .taken) (sym (w .1 .ensures) ∙ w .2 .left))
-    (λ w. minus-past _ _ (turn .loop-test .taken) _ _ (c .before .size-at .ensures) (w .left))
-    (c .if1 .came) in
-    (omega arith, past ∙ turn .before .loop .inv .1)
+    (λ w. looking-plus _ _ _ (turn .before .loop .inv) (turn .loop-test .taken) (start .pre) (sym (w .1 .ensures) ∙ w .2 .left))
+    (λ w. looking-other _ _ _ (turn .before .loop .inv) (turn .loop-test .taken) (λ e. w .left (sized .size-at .ensures ∙ e)))
+    (c .if1 .came)
 
 returns-2 : tie.Need-returns-2 Inv-loop μ-loop
-returns-2 c =
-    let call = c .before .before in
-    kind-other _ _ _ (sized call)
-    (sym (c .before .loop .inv .1) ∙ minus-end (call .before .before .args .prefix .now) (c .before .loop .i) (call .size .result) (c .loop-test .left))
+returns-2 c = looking-end _ _ _ (c .before .loop .inv) _ (variable (c .before .before)) (c .loop-test .left)
 
 pub kind-of-spec : {M : Type 1} → statement M
 kind-of-spec =
     tie.close
-    (tie.spec
-    Inv-loop
-    μ-loop
-    size-requires
-    loop-holds
-    size-at-requires
-    negative-at-requires
-    returns
-    add-i
-    loop-less
-    loop-again
-    returns-2)
+    (tie.spec Inv-loop μ-loop size-requires loop-holds size-at-requires negative-at-requires returns add-i loop-less loop-again returns-2)

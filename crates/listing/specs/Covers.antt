@@ -1,0 +1,185 @@
+-- The openings are all the ways to give the first group values: where the group is existential, the formula is true exactly if some opening wins,
+-- and the whole listing is empty exactly if it is false. From the recursive truth: an existential variable asks for one of its two values,
+-- and a number below 2^k has the bits of any k values.
+use Prim.Native.Nat.{ℕ, suc, _+_, _*_, _-_, _^_, _/_, _%_, _≤_, _<_}
+use mathlib.Core.Path.{_≡_, refl, sym, _∙_, ap, fun-ext}
+use mathlib.Core.Logic.{_↔_, _⊎_, inl, inr}
+use mathlib.Core.Bool.{Bool, true, false, cond, _&&_, _||_, or-false, Bool·beq}
+use mathlib.Core.List.{List, [], _∷_, _++_}
+use native.Mathlib.Nat.{pow-suc, add-comm, add-mul-div-right, add-mul-mod-self-right, div-eq-of-lt}
+use native.Mathlib.Omega.{arith}
+use lib.Arith.{digits-div}
+use lib.Dec.{eqb, ltb}
+use lib.IntN.{ℤ, pos, negsuc, negℤ}
+use lib.ListN.{length, take, drop, take-append-drop}
+use lib.Pow.{pow-add, pow-pos}
+use borrow.Author.Tests.{lt-ltb}
+use Rattle.words.specs.Bools.{look, clash, to-false, or-e, or-l, or-r}
+use Rattle.words.specs.Lists.{In, here, there, all, any}
+use Rattle.words.specs.Words.{negative, eqZ, mem}
+use Rattle.formula.specs.Formula.{Formula, word, run, firstGroup}
+use Rattle.formula.specs.Truth.{asked, truth, true?}
+use Rattle.theory.specs.Record.{among}
+use Rattle.listing.specs.Opening.{groupOf, valuesOf}
+use Rattle.listing.specs.Page.{firstUniversal, openings}
+use Rattle.listing.specs.Values.{valueOf, group-length}
+use Rattle.listing.specs.Wins.{wins, winners, entries, listing, winners-exactly}
+
+-- ---- truth depends on which literals are true, and not on their order
+truth-among : (p : List ℤ) (m : List (List ℤ)) (σ τ : List ℤ) → among σ ≡ among τ → truth p m σ ≡ truth p m τ
+unfolding truth mem
+truth-among [] m σ τ e = ap (λ (ρ : ℤ → Bool). all (any ρ) m) e
+truth-among (q ∷ p) m σ τ e = rw (truth-among p m (q ∷ σ) (q ∷ τ) (grow q), truth-among p m (negℤ q ∷ σ) (negℤ q ∷ τ) (grow (negℤ q)))
+  where
+    grow : (l : ℤ) → among (l ∷ σ) ≡ among (l ∷ τ)
+    grow l = fun-ext (λ x. ap (λ (ρ : ℤ → Bool). eqZ x l || ρ x) e)
+
+-- literals made true one after the other
+onto : List ℤ → List ℤ → List ℤ
+onto [] σ = σ
+onto (v ∷ vs) σ = onto vs (v ∷ σ)
+
+onto-among : (vs σ : List ℤ) (x : ℤ) → mem x (onto vs σ) ≡ (mem x vs || mem x σ)
+unfolding onto mem
+onto-among [] σ x = refl
+onto-among (v ∷ vs) σ x = onto-among vs (v ∷ σ) x ∙ swap (mem x vs) (eqZ x v) (mem x σ)
+  where
+    swap : (a b c : Bool) → (a || (b || c)) ≡ ((b || a) || c)
+    swap true true c = refl
+    swap true false c = refl
+    swap false true c = refl
+    swap false false c = refl
+
+-- ---- values of a group: each word or its opposite
+data Fits : List ℤ → List ℤ → Type 0 where
+  none : Fits [] []
+  more : {v q : ℤ} {vs g : List ℤ} → (v ≡ q) ⊎ (v ≡ negℤ q) → Fits vs g → Fits (v ∷ vs) (q ∷ g)
+
+abbrev Existential : List ℤ → Type 0
+Existential g = (x : ℤ) → In x g → negative x ≡ false
+
+module _ (p : List ℤ) (m : List (List ℤ)) where
+  -- an existential group asks for some values
+  some-values : (g σ : List ℤ) → Existential g → truth (g ++ p) m σ ≡ true → (vs : List ℤ) × Fits vs g × (truth p m (onto vs σ) ≡ true)
+  unfolding truth asked onto
+  some-values [] σ e h = ([], none, h)
+  some-values (q ∷ g) σ e h =
+      go (or-e (truth (g ++ p) m (q ∷ σ)) (truth (g ++ p) m (negℤ q ∷ σ)) (rw (e q (here refl)) at h)) (λ l. some-values g (l ∷ σ) (λ x i. e x (there i)))
+    where
+      go : (truth (g ++ p) m (q ∷ σ) ≡ true) ⊎ (truth (g ++ p) m (negℤ q ∷ σ) ≡ true) → ((l : ℤ) → truth (g ++ p) m (l ∷ σ) ≡ true → (vs : List ℤ) × Fits vs g × (truth p m (onto vs (l ∷ σ)) ≡ true))
+          → (vs : List ℤ) × Fits vs (q ∷ g) × (truth p m (onto vs σ) ≡ true)
+      go (inl t) ih = let r = ih q t in (q ∷ r .0, more (inl refl) (r .1), r .2)
+      go (inr t) ih = let r = ih (negℤ q) t in (negℤ q ∷ r .0, more (inr refl) (r .1), r .2)
+
+  values-some : {vs g : List ℤ} (σ : List ℤ) → Existential g → Fits vs g → truth p m (onto vs σ) ≡ true → truth (g ++ p) m σ ≡ true
+  unfolding truth asked onto
+  values-some σ e none h = h
+  values-some σ e (more {v = v} {q = q} {vs = vs} {g = g} c f) h =
+      rw (e q (here refl)) (go c (values-some (v ∷ σ) (λ x i. e x (there i)) f h))
+    where
+      go : (v ≡ q) ⊎ (v ≡ negℤ q) → truth (g ++ p) m (v ∷ σ) ≡ true → (truth (g ++ p) m (q ∷ σ) || truth (g ++ p) m (negℤ q ∷ σ)) ≡ true
+      go (inl z) t = or-l (truth (g ++ p) m (negℤ q ∷ σ)) (rw z at t)
+      go (inr z) t = or-r (truth (g ++ p) m (q ∷ σ)) (rw z at t)
+
+-- ---- they are the values of a number
+values-fit : (n : ℕ) (g : List ℤ) → Existential g → Fits (valuesOf n g) g
+unfolding valuesOf
+values-fit n [] e = none
+values-fit n (pos a ∷ g) e = more {v = valueOf n (length g) (pos a)} {q = pos a} (elim (look (eqb (n / 2 ^ length g % 2) 1)) [ inl z ↦ rw z (inl refl) | inr z ↦ rw z (inr refl) ]) (values-fit n g (λ x i. e x (there i)))
+values-fit n (negsuc a ∷ g) e = clash refl (e (negsuc a) (here refl))
+
+-- a bit above leaves the bits below
+bit-high : (r t d : ℕ) → (2 ^ (suc d + t) + r) / 2 ^ t % 2 ≡ r / 2 ^ t % 2
+bit-high r t d =
+    rw (pow-add 2 (suc d) t, pow-suc 2 d, add-comm (2 ^ d * 2 * 2 ^ t) r, add-mul-div-right r (2 ^ d * 2) {z = 2 ^ t} (pow-pos t)) (add-mul-mod-self-right (r / 2 ^ t) (2 ^ d) 2)
+
+values-high : (i r : ℕ) (g : List ℤ) → length g ≤ i → valuesOf (2 ^ i + r) g ≡ valuesOf r g
+unfolding valuesOf
+values-high i r [] h = refl
+values-high i r (q ∷ g) h =
+    let e : suc (i - suc (length g)) + length g ≡ i = omega arith in
+    rw (rw e at (bit-high r (length g) (i - suc (length g))), values-high i r g (omega arith))
+
+number-fit : {vs g : List ℤ} → Existential g → Fits vs g → (n : ℕ) × (n < 2 ^ length g) × (valuesOf n g ≡ vs)
+unfolding valuesOf
+number-fit e none = (0, omega arith, refl)
+number-fit e (more {v = v} {q = q} {vs = vs} {g = g} c f) = go q (e q (here refl)) c (number-fit (λ x i. e x (there i)) f)
+  where
+    two : 2 ^ suc (length g) ≡ 2 ^ length g + 2 ^ length g
+    two = let z = pow-suc 2 (length g) in omega arith
+
+    go : (q : ℤ) → negative q ≡ false → (v ≡ q) ⊎ (v ≡ negℤ q) → (n : ℕ) × (n < 2 ^ length g) × (valuesOf n g ≡ vs) → (n : ℕ) × (n < 2 ^ suc (length g)) × (valuesOf n (q ∷ g) ≡ v ∷ vs)
+    go (pos a) z (inl y) (r, h, w) =
+        let t = two in
+        let x : 2 ^ length g + r ≡ 1 * 2 ^ length g + r = omega arith in
+        let b : (2 ^ length g + r) / 2 ^ length g ≡ 1 = rw x (digits-div 1 h) in
+        (2 ^ length g + r, omega arith, rw (values-high (length g) r g (omega arith), b, w, y))
+    go (pos a) z (inr y) (r, h, w) =
+        let t = two in
+        let b : r / 2 ^ length g ≡ 0 = div-eq-of-lt h in
+        (r, omega arith, rw (b, w, y))
+    go (negsuc a) z c r = clash refl z
+
+-- ---- the first group of an accepted listing is existential
+run-sign : (s : Bool) (p : List ℤ) (x : ℤ) → In x (take (run s p) p) → negative x ≡ s
+unfolding run
+run-sign s (q ∷ p) x i = go s (negative q) refl i (run-sign s p x)
+  where
+    go : (s b : Bool) → negative q ≡ b → In x (take (cond (Bool·beq s b) (suc (run s p)) 0) (q ∷ p)) → (In x (take (run s p) p) → negative x ≡ s) → negative x ≡ s
+    go true true e (here z) ih = rw z e
+    go true true e (there i) ih = ih i
+    go false false e (here z) ih = rw z e
+    go false false e (there i) ih = ih i
+
+group-exists : (F : Formula) → firstUniversal F ≡ false → Existential (groupOf F)
+unfolding firstGroup
+group-exists F h = go (F .prefix) h
+  where
+    go : (p : List ℤ) → (ltb 0 (length p) && negative (word p 0)) ≡ false → Existential (take (firstGroup p) p)
+    go (q ∷ p) h x i = let z : ltb 0 (suc (length p)) ≡ true = lt-ltb 0 (suc (length p)) (omega arith) in run-sign (negative q) (q ∷ p) x i ∙ (rw z at h)
+
+-- a listing is empty if it has no winner
+listed-one : {n : ℕ} {ns : List ℕ} → entries ns ≡ [] → In n ns → ⊥
+unfolding entries
+listed-one e (here z) = let y : _≡_ {A = ℕ} 0 1 = cc in omega arith
+listed-one e (there i) = let y : _≡_ {A = ℕ} 0 1 = cc in omega arith
+
+listed-none : (ns : List ℕ) → ((n : ℕ) → In n ns → ⊥) → entries ns ≡ []
+unfolding entries
+listed-none [] f = refl
+listed-none (n ∷ ns) f = absurd (f n (here refl))
+
+module _ (F : Formula) (exists : firstUniversal F ≡ false) where
+  whole : groupOf F ++ drop (firstGroup (F .prefix)) (F .prefix) ≡ F .prefix
+  whole = take-append-drop (firstGroup (F .prefix)) (F .prefix)
+
+  -- an opening's values, whichever way they are put together
+  wins-onto : (n : ℕ) → truth (drop (firstGroup (F .prefix)) (F .prefix)) (F .clauses) (onto (valuesOf n (groupOf F)) []) ≡ wins F n
+  unfolding wins mem
+  wins-onto n = truth-among _ (F .clauses) (onto (valuesOf n (groupOf F)) []) (valuesOf n (groupOf F)) (fun-ext (λ x. onto-among (valuesOf n (groupOf F)) [] x ∙ or-false (mem x (valuesOf n (groupOf F)))))
+
+  -- "An existential outermost variable asks for one of its two values": the formula is true exactly if some opening wins
+  pub some-opening : (true? F ≡ true) ↔ ((n : ℕ) × (n < openings F) × (wins F n ≡ true))
+  unfolding true?
+  some-opening = (there-is, λ r. is-true (r .0) (r .2))
+    where
+      there-is : truth (F .prefix) (F .clauses) [] ≡ true → (n : ℕ) × (n < openings F) × (wins F n ≡ true)
+      there-is h =
+          let (vs, f, t) = some-values (drop (firstGroup (F .prefix)) (F .prefix)) (F .clauses) (groupOf F) [] (group-exists F exists) (rw whole h) in
+          let (n, l, e) = number-fit (group-exists F exists) f in
+          (n, rw (group-length F) at l, sym (wins-onto n) ∙ rw e t)
+
+      is-true : (n : ℕ) → wins F n ≡ true → truth (F .prefix) (F .clauses) [] ≡ true
+      is-true n w =
+          let t = values-some (drop (firstGroup (F .prefix)) (F .prefix)) (F .clauses) [] (group-exists F exists) (values-fit n (groupOf F) (group-exists F exists)) (wins-onto n ∙ w) in
+          rw whole at t
+
+  -- so the whole listing is empty exactly if the formula is false
+  pub empty-listing : (listing F (openings F) ≡ []) ↔ (true? F ≡ false)
+  empty-listing = (λ e. to-false (true? F) (λ t. listed-one e (in-list (some-opening .0 t))), λ e. listed-none (winners F (openings F)) (λ n i. clash (won n i) e))
+    where
+      in-list : (r : (n : ℕ) × (n < openings F) × (wins F n ≡ true)) → In (r .0) (winners F (openings F))
+      in-list r = winners-exactly F (openings F) (r .0) .1 (r .1, r .2)
+
+      won : (n : ℕ) → In n (winners F (openings F)) → true? F ≡ true
+      won n i = let r = winners-exactly F (openings F) n .0 i in some-opening .1 (n, r .0, r .1)

@@ -1,0 +1,152 @@
+-- A variable of the prefix is monotone by its place in the table of signs: it has 1 where the prefix's own word is to be taken, 2 where
+-- that word's opposite is.
+use mathlib.Core.Path.{_≡_, refl, _∙_, ap}
+use mathlib.Core.Bool.{Bool, true, false, not, _&&_, _||_}
+use mathlib.Core.List.{List}
+use Prim.Native.Nat.{ℕ, zero, suc, _+_, _≤_, _<_}
+use native.Mathlib.Omega.{arith}
+use lib.Dec.{eqb}
+use lib.IntN.{ℤ, pos, negsuc, negℤ, natAbs}
+use lib.ListN.{length, getD, drop}
+use borrow.Author.Tests.{eq-eqb, ne-eqb}
+use Rattle.words.specs.Lists.{In, next, ended}
+use Rattle.words.specs.Words.{opposite, opposite-is, negneg, mem, mem-i}
+use Rattle.formula.specs.Limits.{limits}
+use Rattle.formula.specs.Formula.{existential, universal}
+use Rattle.theory.specs.Record.{Assignment, assigned}
+use Rattle.theory.specs.Tests.{unassignedE, unassignedU, oneSign, monotone}
+use Rattle.rules.specs.declared.Picked.{Picked}
+use Rattle.rules.specs.declared.Picked.the-variants.{Is, NoLiteral}
+use Rattle.rules.specs.Due.{literal, pick, firstMonotone}
+use Rattle.rules.specs.Ready.{Bound}
+use Rattle.rules.specs.Tables.{Values, Signs, signsOf, Spread}
+use Rattle.rules.proofs.Lists.{at-in, or-false}
+use Rattle.rules.proofs.Named.{named-in, named-at}
+use Rattle.rules.proofs.Filled.{bound-named}
+use Rattle.rules.proofs.Bound.{bound-once}
+use Rattle.rules.proofs.Unassigned.{unassigned, is-assigned, small}
+
+-- ---- signs
+one-plus : (a b : Bool) → (a && not b) ≡ eqb (pick a (pick b 3 1) (pick b 2 0)) 1
+one-plus true true = refl
+one-plus true false = refl
+one-plus false true = refl
+one-plus false false = refl
+
+one-minus : (a b : Bool) → (b && not a) ≡ eqb (pick a (pick b 3 1) (pick b 2 0)) 2
+one-minus true true = refl
+one-minus true false = refl
+one-minus false true = refl
+one-minus false false = refl
+
+module _ (ls : List ℤ) (m : List (List ℤ)) (spread : Spread ls m) (v : ℕ) where
+  pub sign-plus : oneSign m (pos v) ≡ eqb (signsOf ls v) 1
+  unfolding oneSign
+  sign-plus = rw (spread (pos v), spread (negℤ (pos v))) (one-plus (mem (pos v) ls) (mem (negℤ (pos v)) ls))
+
+  pub sign-minus : oneSign m (negℤ (pos v)) ≡ eqb (signsOf ls v) 2
+  unfolding oneSign
+  sign-minus = rw (negneg (pos v), spread (pos v), spread (negℤ (pos v))) (one-minus (mem (pos v) ls) (mem (negℤ (pos v)) ls))
+
+or-swap : (a b : Bool) → (a || b) ≡ (b || a)
+or-swap true true = refl
+or-swap true false = refl
+or-swap false true = refl
+or-swap false false = refl
+
+-- ---- a word of the prefix and its opposite
+module _ (p : List ℤ) (b : Bound p) (m : List (List ℤ)) (ρ : Assignment) where
+  pub monotone-own : (q : ℤ) → In q p → monotone p m ρ q ≡ (not (assigned ρ q) && oneSign m (pos (natAbs q)))
+  unfolding monotone unassignedE unassignedU existential universal
+  monotone-own (pos zero) i = absurd (let k = named-in (length p) p (b .named) i in omega arith)
+  monotone-own (pos (suc n)) i =
+      rw (mem-i i, bound-once p b (pos (suc n)) i)
+      (or-false (not (assigned ρ (pos (suc n))) && oneSign m (pos (suc n))))
+  monotone-own (negsuc n) i = rw (mem-i i, bound-once p b (negsuc n) i)
+
+  pub monotone-opposite : (q : ℤ) → In q p → monotone p m ρ (negℤ q) ≡ (not (assigned ρ q) && oneSign m (negℤ (pos (natAbs q))))
+  unfolding monotone unassignedE unassignedU existential universal assigned
+  monotone-opposite (pos zero) i = absurd (let k = named-in (length p) p (b .named) i in omega arith)
+  monotone-opposite (pos (suc n)) i =
+      rw (mem-i i, bound-once p b (pos (suc n)) i, or-swap (ρ (negsuc n)) (ρ (pos (suc n))))
+      (or-false (not (ρ (pos (suc n)) || ρ (negsuc n)) && oneSign m (negsuc n)))
+  monotone-opposite (negsuc n) i = rw (mem-i i, bound-once p b (negsuc n) i, or-swap (ρ (negsuc n)) (ρ (pos (suc n))))
+
+-- ---- the word at i, by the tables
+module _ (p : List ℤ) (b : Bound p) (t signs : List ℕ) (i : ℕ) (h : i < length p) (s : ℕ) (is : s ≡ natAbs (getD p i (pos 0))) where
+  -- what the loop promises: for every assignment and all clauses that the tables stand for
+  abbrev Always : (Assignment → List (List ℤ) → Type 0) → Type 0
+  Always f = (ρ : Assignment) (ls : List ℤ) (m : List (List ℤ)) → Values ρ t → Signs ls signs → Spread ls m → f ρ m
+
+  own : (n : Bool) → Always (λ ρ m. assigned ρ (getD p i (pos 0)) ≡ n → monotone p m ρ (getD p i (pos 0)) ≡ (not n && eqb (getD signs s 0) 1))
+  own n ρ ls m said signed spread e =
+      rw (monotone-own p b m ρ (getD p i (pos 0)) (at-in p i (pos 0) h), e, sign-plus ls m spread (natAbs (getD p i (pos 0))), signed s, is)
+
+  turned : (n : Bool) → Always (λ ρ m. assigned ρ (getD p i (pos 0)) ≡ n → monotone p m ρ (negℤ (getD p i (pos 0))) ≡ (not n && eqb (getD signs s 0) 2))
+  turned n ρ ls m said signed spread e =
+      rw (monotone-opposite p b m ρ (getD p i (pos 0)) (at-in p i (pos 0) h), e, sign-minus ls m spread (natAbs (getD p i (pos 0))), signed s, is)
+
+  plus-here : getD t s 0 ≡ 0 → getD signs s 0 ≡ 1 → Always (λ ρ m. Is (literal (getD p i (pos 0))) ≡ firstMonotone p m ρ (drop i p))
+  unfolding firstMonotone
+  plus-here z e ρ ls m said signed spread =
+      let free = unassigned ρ t said (getD p i (pos 0)) s is z in
+      rw (next p i (pos 0) h, own false ρ ls m said signed spread free, eq-eqb (getD signs s 0) 1 e)
+
+  minus-here : getD t s 0 ≡ 0 → (getD signs s 0 ≡ 1 → ⊥) → getD signs s 0 ≡ 2 → Always (λ ρ m. Is (literal (opposite (getD p i (pos 0)))) ≡ firstMonotone p m ρ (drop i p))
+  unfolding firstMonotone
+  minus-here z k e ρ ls m said signed spread =
+      let free = unassigned ρ t said (getD p i (pos 0)) s is z in
+      let fits = small (natAbs (getD p i (pos 0))) (named-at (limits .variables) p (bound-named b) i h .to) in
+      rw (next p i (pos 0) h, own false ρ ls m said signed spread free, ne-eqb (getD signs s 0) 1 k, turned false ρ ls m said signed spread free, eq-eqb (getD signs s 0) 2 e)
+      (ap (λ w. Is (literal w)) (opposite-is (getD p i (pos 0)) fits))
+
+  mixed-past : getD t s 0 ≡ 0 → (getD signs s 0 ≡ 1 → ⊥) → (getD signs s 0 ≡ 2 → ⊥) → Always (λ ρ m. firstMonotone p m ρ (drop (i + 1) p) ≡ firstMonotone p m ρ (drop i p))
+  unfolding firstMonotone
+  mixed-past z k k′ ρ ls m said signed spread =
+      let free = unassigned ρ t said (getD p i (pos 0)) s is z in
+      rw (next p i (pos 0) h, own false ρ ls m said signed spread free, ne-eqb (getD signs s 0) 1 k, turned false ρ ls m said signed spread free, ne-eqb (getD signs s 0) 2 k′)
+
+  assigned-past : (getD t s 0 ≡ 0 → ⊥) → Always (λ ρ m. firstMonotone p m ρ (drop (i + 1) p) ≡ firstMonotone p m ρ (drop i p))
+  unfolding firstMonotone
+  assigned-past k ρ ls m said signed spread =
+      let set = is-assigned ρ t said (getD p i (pos 0)) s is k in
+      rw (next p i (pos 0) h, own true ρ ls m said signed spread set, turned true ρ ls m said signed spread set)
+
+-- ---- the loop at i: the words from i on give the first monotone variable of all
+pub record Seeking (p : List ℤ) (t signs : List ℕ) (i : ℕ) : Type 0 where
+  pub at : i ≤ length p
+  pub same : (ρ : Assignment) (ls : List ℤ) (m : List (List ℤ)) → Values ρ t → Signs ls signs → Spread ls m → firstMonotone p m ρ (drop i p) ≡ firstMonotone p m ρ p
+
+abbrev pub Sought : List ℤ → List ℕ → List ℕ → Picked → Type 0
+Sought p t signs r = (ρ : Assignment) (ls : List ℤ) (m : List (List ℤ)) → Values ρ t → Signs ls signs → Spread ls m → r ≡ firstMonotone p m ρ p
+
+pub seeking-begin : (p : List ℤ) (t signs : List ℕ) → Seeking p t signs 0
+seeking-begin p t signs = record { at = omega arith; same = λ ρ ls m a b c. refl }
+
+module _ (p : List ℤ) (t signs : List ℕ) (i : ℕ) (k : Seeking p t signs i) where
+  pub seeking-end : length p ≤ i → Sought p t signs NoLiteral
+  unfolding firstMonotone
+  seeking-end h ρ ls m said signed spread = rw (ended p i h) at (k .same ρ ls m said signed spread)
+
+  module _ (b : Bound p) (h : i < length p) (s : ℕ) (is : s ≡ natAbs (getD p i (pos 0))) where
+    pub seeking-plus : getD t s 0 ≡ 0 → getD signs s 0 ≡ 1 → Sought p t signs (Is (literal (getD p i (pos 0))))
+    seeking-plus z e ρ ls m said signed spread =
+        plus-here p b t signs i h s is z e ρ ls m said signed spread ∙ k .same ρ ls m said signed spread
+
+    pub seeking-minus : getD t s 0 ≡ 0 → (getD signs s 0 ≡ 1 → ⊥) → getD signs s 0 ≡ 2 → Sought p t signs (Is (literal (opposite (getD p i (pos 0)))))
+    seeking-minus z o e ρ ls m said signed spread =
+        minus-here p b t signs i h s is z o e ρ ls m said signed spread ∙ k .same ρ ls m said signed spread
+
+    pub seeking-mixed : getD t s 0 ≡ 0 → (getD signs s 0 ≡ 1 → ⊥) → (getD signs s 0 ≡ 2 → ⊥) → Seeking p t signs (i + 1)
+    seeking-mixed z o o′ =
+        record {
+          at = omega arith;
+          same = λ ρ ls m said signed spread. mixed-past p b t signs i h s is z o o′ ρ ls m said signed spread ∙ k .same ρ ls m said signed spread;
+        }
+
+    pub seeking-assigned : (getD t s 0 ≡ 0 → ⊥) → Seeking p t signs (i + 1)
+    seeking-assigned o =
+        record {
+          at = omega arith;
+          same = λ ρ ls m said signed spread. assigned-past p b t signs i h s is o ρ ls m said signed spread ∙ k .same ρ ls m said signed spread;
+        }

@@ -1,0 +1,28 @@
+-- The opposite of the literal at the index.
+use mathlib.Core.Path.{_≡_, ap, _∙_}
+use mir.Syntax.{w32}
+use mir.Val.{toZ, ofZ}
+use mir.ValLaws.{toZ-ofZ}
+use borrow.Author.Needs.{needs, sfits-of}
+use Rattle.words.specs.Words.{opposite}
+use Rattle.rules.specs.Due.{literal}
+use Rattle.rules.proofs.variables.opposite_at.Statement.{statement}
+use Rattle.rules.proofs.variables.opposite_at.Tie as tie
+
+literal-at-requires : tie.Need-literal-at-requires
+literal-at-requires c κs = search needs
+
+opposite-requires : tie.Need-opposite-requires
+opposite-requires c κs = search needs
+
+returns : tie.Need-returns
+returns c =
+    let l = c .before .before .literal-at .result .0 in
+    let back : toZ w32 (ofZ w32 l) ≡ l = toZ-ofZ w32 l (record { sfits = c .before .struct-told .given .0 .1 }) in
+    ap literal
+    (toZ-ofZ w32 (c .opposite .result) (sfits-of (c .opposite .ok))
+    ∙ c .opposite .ensures
+    ∙ ap opposite (back ∙ ap (λ z. z .0) (c .before .before .literal-at .ensures)))
+
+pub opposite-at-spec : {M : Type 1} → statement M
+opposite-at-spec = tie.close (tie.spec literal-at-requires opposite-requires returns)

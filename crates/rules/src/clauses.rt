@@ -1,0 +1,188 @@
+// The clauses in conflict, and the unit clauses. Clause c has the literal words from the end before it to its own.
+use crate::Found;
+use crate::UnitFound;
+use crate::tables::PLACES;
+use crate::tables::sign_at;
+use crate::variables::literal_at;
+ghost use mathlib.Core.Path.{_≡_};
+ghost use Prim.Native.Nat.{_≤_, _<_};
+ghost use lib.IntN.{pos, natAbs};
+ghost use lib.ListN.{getD};
+ghost use Rattle.words.specs.Words.{eqZ};
+ghost use Rattle.formula.specs.Limits.{limits};
+ghost use Rattle.formula.specs.Formula.{clausesFrom};
+ghost use Rattle.rules.specs.Due.{lowest};
+ghost use Rattle.rules.specs.Clauses.{Placed, Clauses, statusBy, levelBy, conflictBy, Shown, decidedBy, lowestUnitBy};
+
+// What a literal is to its clause: 0 false, 1 true, 2 unassigned existential, 3 unassigned universal.
+fn status_at(ws: &[i32], i: usize, values: &[u8; PLACES], universals: &[u8; PLACES]) -> u8
+    requires { ⌜ natAbs (getD (now ws) i (pos 0)) ≤ limits .variables ⌝ }
+    ensures { λ r. ⌜ r ≡ statusBy (now (values .entry)) (now (universals .entry)) (getD (now (ws .entry)) i (pos 0)) ⌝ }
+{
+    let v = words::size_at(ws, i);
+    let value = values[v];
+    if value == 0 {
+        if universals[v] == 0 {
+            return 2;
+        }
+        return 3;
+    }
+    if value == sign_at(ws, i) { 1 } else { 0 }
+}
+
+// Whether a clause has no true literal and no unassigned existential literal.
+fn in_conflict(clause: &[i32], values: &[u8; PLACES], universals: &[u8; PLACES]) -> bool
+    requires { ⌜ Placed (now clause) ⌝ }
+    ensures { λ r. ⌜ r ≡ conflictBy (statusBy (now (values .entry)) (now (universals .entry))) (now (clause .entry)) ⌝ }
+{
+    let mut i = 0;
+    while i < clause.len() {
+        let status = status_at(clause, i, values, universals);
+        if status == 1 {
+            return false;
+        }
+        if status == 2 {
+            return false;
+        }
+        i += 1;
+    }
+    true
+}
+
+// The lowest clause in conflict.
+pub fn lowest_conflict(
+    ends: &[i32],
+    literals: &[i32],
+    values: &[u8; PLACES],
+    universals: &[u8; PLACES],
+) -> Found
+    requires { ⌜ Clauses (now ends) (now literals) ⌝ }
+    ensures { λ r. ⌜ r ≡ lowest (conflictBy (statusBy (now (values .entry)) (now (universals .entry)))) 0 (clausesFrom (now (literals .entry)) 0 (now (ends .entry))) ⌝ }
+{
+    let mut from = 0;
+    let mut c = 0;
+    while c < ends.len() {
+        let end = words::size_at(ends, c);
+        if in_conflict(&literals[from..end], values, universals) {
+            return Found::At(c);
+        }
+        from = end;
+        c += 1;
+    }
+    Found::Nothing
+}
+
+// Whether the words at two indices are the same.
+fn same_at(ws: &[i32], i: usize, j: usize) -> bool
+    ensures { λ r. ⌜ r ≡ eqZ (getD (now (ws .entry)) i (pos 0)) (getD (now (ws .entry)) j (pos 0)) ⌝ }
+{
+    if words::size_at(ws, i) != words::size_at(ws, j) {
+        return false;
+    }
+    words::negative_at(ws, i) == words::negative_at(ws, j)
+}
+
+// What the literals of a clause have shown so far.
+struct Look {
+    place: usize, // of its unassigned existential literal, or the clause's end while it has none
+    above: usize, // the lowest level of its unassigned universal literals, or PLACES, above all levels, while it has none
+    over: bool, // it has a true literal, or two different unassigned existential ones: it is no unit clause
+}
+
+impl Look {
+    // One literal more. A repeated one changes nothing.
+    fn with(
+        mut self,
+        literals: &[i32],
+        j: usize,
+        end: usize,
+        values: &[u8; PLACES],
+        universals: &[u8; PLACES],
+        levels: &[usize; PLACES],
+    ) -> Look
+        requires { ⌜ Placed (now literals) ⌝ }
+        requires { ⌜ j < end ⌝ }
+        ensures { λ r. ⌜ Shown (statusBy (now (values .entry)) (now (universals .entry))) (levelBy (now (levels .entry))) (now (literals .entry)) end self (getD (now (literals .entry)) j (pos 0)) r ⌝ }
+    {
+        let status = status_at(literals, j, values, universals);
+        if status == 0 {
+            return self;
+        }
+        if status == 1 {
+            self.over = true;
+            return self;
+        }
+        if status == 2 {
+            if end <= self.place {
+                self.place = j;
+            } else if !same_at(literals, j, self.place) {
+                self.over = true;
+            }
+            return self;
+        }
+        let level = levels[words::size_at(literals, j)];
+        if level < self.above {
+            self.above = level;
+        }
+        self
+    }
+
+    // Whether all the literals up to the clause's end were seen and it is a unit clause.
+    fn is_unit(self, literals: &[i32], j: usize, end: usize, levels: &[usize; PLACES]) -> bool
+        requires { ⌜ Placed (now literals) ⌝ }
+        ensures { λ r. ⌜ r ≡ decidedBy (now (levels .entry)) (now (literals .entry)) j end self ⌝ }
+    {
+        if j < end {
+            return false;
+        }
+        if end <= self.place {
+            return false;
+        }
+        levels[words::size_at(literals, self.place)] < self.above
+    }
+}
+
+// The lowest unit clause and its literal. The search stops at the first clause that decides it.
+pub fn lowest_unit(
+    ends: &[i32],
+    literals: &[i32],
+    values: &[u8; PLACES],
+    universals: &[u8; PLACES],
+    levels: &[usize; PLACES],
+) -> UnitFound
+    requires { ⌜ Clauses (now ends) (now literals) ⌝ }
+    ensures { λ r. ⌜ r ≡ lowestUnitBy (statusBy (now (values .entry)) (now (universals .entry))) (levelBy (now (levels .entry))) 0 (clausesFrom (now (literals .entry)) 0 (now (ends .entry))) ⌝ }
+{
+    let mut found = UnitFound::NoUnit;
+    let mut from = 0;
+    let mut c = 0;
+    'search: while c < ends.len() {
+        let end = words::size_at(ends, c);
+        let mut look = Look {
+            place: end,
+            above: PLACES,
+            over: false,
+        };
+        let mut j = from;
+        loop {
+            if look.is_unit(literals, j, end, levels) {
+                found = UnitFound::On {
+                    literal: literal_at(literals, look.place),
+                    clause: c,
+                };
+                break 'search;
+            }
+            if end <= j {
+                break;
+            }
+            look = look.with(literals, j, end, values, universals, levels);
+            if look.over {
+                break;
+            }
+            j += 1;
+        }
+        from = end;
+        c += 1;
+    }
+    found
+}

@@ -1,0 +1,117 @@
+// The due rule is the first that applies: conflict, Unit, Monotone, Decide, all assigned.
+use crate::Found;
+use crate::Picked;
+use crate::Rule;
+use crate::UnitFound;
+use crate::buffers;
+use crate::clauses;
+use crate::tables;
+use crate::tables::PLACES;
+use crate::variables;
+ghost use mathlib.Core.Path.{_≡_};
+ghost use mathlib.Core.List.{List};
+ghost use Prim.Native.Nat.{ℕ, _≤_};
+ghost use lib.IntN.{ℤ};
+ghost use lib.ListN.{length};
+ghost use Rattle.formula.specs.Formula.{Formula};
+ghost use Rattle.theory.specs.Record.{Record};
+ghost use Rattle.rules.specs.Due.{dueConflict, dueUnit, dueMonotone, dueDecide};
+ghost use Rattle.rules.specs.Due as spec;
+ghost use Rattle.rules.specs.Apply.{recordOf};
+ghost use Rattle.rules.specs.Ready.{formula, Bound, Ready, Kept};
+ghost use Rattle.rules.specs.Tables.{Universals};
+ghost use Rattle.rules.specs.Told.{Told};
+
+// The due rule of a record.
+pub fn due(
+    prefix: &[i32],
+    ends: &[i32],
+    literals: &[i32],
+    lits: &[i32],
+    kinds: &[u8],
+    count: usize,
+) -> Rule
+    requires { ⌜ Ready (now prefix) (now ends) (now literals) ⌝ }
+    requires { ⌜ Kept (now prefix) (now lits) (now kinds) count ⌝ }
+    ensures { λ r. ⌜ r ≡ spec.due (formula (now (prefix .entry)) (now (ends .entry)) (now (literals .entry))) (recordOf (now (lits .entry)) (now (kinds .entry)) count) ⌝ }
+{
+    let values = tables::values_of(lits, count);
+    let universals = tables::universals_of(prefix);
+    match clauses::lowest_conflict(ends, literals, &values, &universals) {
+        Found::At(clause) => due_conflict(kinds, count, clause),
+        Found::Nothing => due_unit(prefix, ends, literals, kinds, count, &values, &universals),
+    }
+}
+
+// In conflict: Backtrack-exists, or Fail.
+fn due_conflict(kinds: &[u8], count: usize, clause: usize) -> Rule
+    requires { ⌜ count ≤ length (now kinds) ⌝ }
+    ensures { λ r. ⌜ ((F : Formula) (R : Record) (table : List ℕ) → Told R table (now (kinds .entry)) count → r ≡ dueConflict F R clause) ⌝ }
+{
+    match buffers::last_kind(kinds, count, 1) {
+        Found::At(at) => Rule::BacktrackExists {
+            at: at,
+            clause: clause,
+        },
+        Found::Nothing => Rule::Fail { clause: clause },
+    }
+}
+
+// With no clause in conflict: Unit, or what comes after it.
+fn due_unit(
+    prefix: &[i32],
+    ends: &[i32],
+    literals: &[i32],
+    kinds: &[u8],
+    count: usize,
+    values: &[u8; PLACES],
+    universals: &[u8; PLACES],
+) -> Rule
+    requires { ⌜ Ready (now prefix) (now ends) (now literals) ⌝ }
+    requires { ⌜ (count ≤ length (now kinds)) × Universals (now prefix) (now universals) ⌝ }
+    ensures { λ r. ⌜ ((R : Record) → Told R (now (values .entry)) (now (kinds .entry)) count → r ≡ dueUnit (formula (now (prefix .entry)) (now (ends .entry)) (now (literals .entry))) R) ⌝ }
+{
+    let levels = tables::levels_of(prefix);
+    match clauses::lowest_unit(ends, literals, values, universals, &levels) {
+        UnitFound::On { literal, clause } => Rule::Unit {
+            literal: literal,
+            clause: clause,
+        },
+        UnitFound::NoUnit => due_monotone(prefix, ends, literals, kinds, count, values),
+    }
+}
+
+// With no unit clause: Monotone, or what comes after it.
+fn due_monotone(
+    prefix: &[i32],
+    ends: &[i32],
+    literals: &[i32],
+    kinds: &[u8],
+    count: usize,
+    values: &[u8; PLACES],
+) -> Rule
+    requires { ⌜ Ready (now prefix) (now ends) (now literals) ⌝ }
+    requires { ⌜ count ≤ length (now kinds) ⌝ }
+    ensures { λ r. ⌜ ((R : Record) → Told R (now (values .entry)) (now (kinds .entry)) count → r ≡ dueMonotone (formula (now (prefix .entry)) (now (ends .entry)) (now (literals .entry))) R) ⌝ }
+{
+    let signs = tables::signs_of(literals);
+    match variables::first_monotone(prefix, values, &signs) {
+        Picked::Is(literal) => Rule::Monotone { literal: literal },
+        Picked::NoLiteral => due_decide(prefix, kinds, count, values),
+    }
+}
+
+// With nothing forced: Decide, or with everything assigned Backtrack-forall or Succeed.
+fn due_decide(prefix: &[i32], kinds: &[u8], count: usize, values: &[u8; PLACES]) -> Rule
+    requires { ⌜ Bound (now prefix) ⌝ }
+    requires { ⌜ count ≤ length (now kinds) ⌝ }
+    ensures { λ r. ⌜ ((m : List (List ℤ)) (R : Record) → Told R (now (values .entry)) (now (kinds .entry)) count → r ≡ dueDecide (record { prefix = now (prefix .entry); clauses = m }) R) ⌝ }
+{
+    match variables::first_unassigned(prefix, values) {
+        Picked::Is(first) => Rule::Decide { first: first },
+        Picked::NoLiteral => match buffers::last_kind(kinds, count, 2) {
+            Found::At(at) => Rule::BacktrackForall { at: at },
+            Found::Nothing => Rule::Succeed,
+        },
+    }
+}
