@@ -2,11 +2,9 @@
 -- the outcomes needs none of it.
 use Prim.Native.Nat.{ℕ}
 use mathlib.Core.Path.{_≡_}
-use mathlib.Core.Bool.{Bool, not, _&&_, _||_}
+use mathlib.Core.Bool.{Bool, not, _&&_}
 use mathlib.Core.List.{List, [], _∷_, _++_}
-use lib.Dec.{ltb}
-use lib.IntN.{ℤ}
-use lib.ListN.{length}
+use lib.IntN.{ℤ, pos}
 use Rattle.words.specs.declared.Literal.{Literal}
 use Rattle.formula.specs.Limits.{limits}
 use Rattle.formula.specs.Formula.{prefixOf}
@@ -14,16 +12,14 @@ use Rattle.formula.specs.Block.{first, refusal}
 use Rattle.theory.specs.Record.{Assignment}
 use Rattle.theory.specs.Tests.{isOpen}
 use Rattle.rules.specs.declared.Rule.{Rule}
+use Rattle.rules.specs.Due.{pick}
+use Rattle.rules.specs.Preferred.{firstOpen}
 use Rattle.rules.specs.Check.{badRecord}
-use Rattle.rules.specs.Ready.{Kept}
+use Rattle.rules.specs.Ready.{Kept, Held}
 use Rattle.rules.specs.Buffers.{Lent}
 use Rattle.session.specs.declared.Revision.{Revision}
 use Rattle.session.specs.declared.Session.{Session}
 use Rattle.session.specs.Refusals.{over, stale, decides, proposed, after, openRows}
-
--- a buffer with fewer than n places
-abbrev pub shorter : ℕ → List ℤ → List ℕ → Bool
-shorter n ls ks = ltb (length ls) n || ltb (length ks) n
 
 -- rows 1 to 14
 module _ (s : Session) (b ls : List ℤ) (ks : List ℕ) (seen : Revision) where
@@ -46,3 +42,12 @@ pub record BuffersOn (b ls : List ℤ) (ks : List ℕ) : Type 0 where
 pub record OnBlock (b ls : List ℤ) (ks : List ℕ) (n : ℕ) : Type 0 where
   pub block : refusal limits b ≡ 0
   pub kept : Kept (prefixOf b) ls ks n
+
+-- the part of it that says which literals are true, with no kinds
+pub record HeldOn (b ls : List ℤ) (n : ℕ) : Type 0 where
+  pub block : refusal limits b ≡ 0
+  pub held : Held (prefixOf b) ls n
+
+-- "At Decide it proposes the first open one in the list, else 0."
+abbrev pub proposalOf : List ℤ → Assignment → List ℤ → Rule → ℤ
+proposalOf p ρ preferred rule = pick (decides rule) (firstOpen p ρ preferred) (pos 0)

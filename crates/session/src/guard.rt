@@ -1,18 +1,23 @@
 // The rows of the table that speak of buffers, of a session and of a proposal, in its order.
 ghost use mathlib.Core.Path.{_≡_};
-ghost use Rattle.session.specs.Refusals.{over, decides, openRefusal};
-ghost use Rattle.session.specs.Checked.{shorter, sessionRefusal};
+ghost use lib.ListN.{take};
+ghost use Rattle.formula.specs.Formula.{prefixOf};
+ghost use Rattle.theory.specs.Record.{among};
+ghost use Rattle.session.specs.Refusals.{short, over, decides, openRefusal};
+ghost use Rattle.session.specs.Checked.{sessionRefusal, proposalRefusal, HeldOn};
 use crate::Revision;
 use crate::Session;
 use crate::parts;
 use formula::Checked;
 use rules::Rule;
 use rules::State;
+use words::Literal;
 
-// Whether a buffer has fewer than n places.
-fn is_short(n: usize, lits: &[i32], kinds: &[u8]) -> bool
-    ensures { λ r. ⌜ r ≡ shorter n (now (lits .entry)) (now (kinds .entry)) ⌝ }
+// Whether a buffer has fewer than V places.
+fn is_short(block: &[i32], lits: &[i32], kinds: &[u8]) -> bool
+    ensures { λ r. ⌜ r ≡ short (now (block .entry)) (now (lits .entry)) (now (kinds .entry)) ⌝ }
 {
+    let n = words::size_at(block, 0);
     if lits.len() < n {
         return true;
     }
@@ -25,10 +30,7 @@ pub fn of_buffers(block: &[i32], lits: &[i32], kinds: &[u8]) -> u32
 {
     match formula::check(block) {
         Checked::Refused(number) => number,
-        Checked::Accepted => {
-            let n = words::size_at(block, 0);
-            if is_short(n, lits, kinds) { 11 } else { 0 }
-        }
+        Checked::Accepted => if is_short(block, lits, kinds) { 11 } else { 0 },
     }
 }
 
@@ -86,6 +88,23 @@ pub fn of_session(
     let mine = session.revision.0;
     if seen.0 != mine {
         return 14;
+    }
+    0
+}
+
+// Rows 16 and 17, where a rule is due.
+pub fn of_proposal(block: &[i32], lits: &[i32], count: usize, rule: Rule, proposal: Literal) -> u32
+    requires { ⌜ HeldOn (now block) (now lits) count ⌝ }
+    ensures { λ r. ⌜ r ≡ proposalRefusal (prefixOf (now (block .entry))) (among (take count (now (lits .entry)))) rule proposal ⌝ }
+{
+    if words::size(proposal.0) == 0 {
+        return 0;
+    }
+    if !is_decide(rule) {
+        return 16;
+    }
+    if !parts::open(block, lits, count, proposal) {
+        return 17;
     }
     0
 }

@@ -1,15 +1,19 @@
 // The prefix, the clause ends and the literals of an accepted block, lent to the rules.
 ghost use mathlib.Core.Path.{_≡_};
 ghost use Prim.Native.Nat.{_+_};
+ghost use lib.ListN.{take};
 ghost use Rattle.formula.specs.Limits.{limits};
 ghost use Rattle.formula.specs.Formula.{variablesOf, prefixOf, formulaOf};
 ghost use Rattle.formula.specs.Block.{refusal};
+ghost use Rattle.theory.specs.Record.{among};
+ghost use Rattle.theory.specs.Tests.{isOpen};
 ghost use Rattle.rules.specs.Due as rules;
+ghost use Rattle.rules.specs.Preferred.{firstOpen};
 ghost use Rattle.rules.specs.Apply as spec;
 ghost use Rattle.rules.specs.Apply.{recordOf, search, reached};
 ghost use Rattle.rules.specs.Check.{badRecord};
 ghost use Rattle.rules.specs.declared.State.the-variants.{Open};
-ghost use Rattle.session.specs.Checked.{BuffersOn, OnBlock};
+ghost use Rattle.session.specs.Checked.{BuffersOn, OnBlock, HeldOn};
 use rules::Reached;
 use rules::Rule;
 use words::Literal;
@@ -46,4 +50,39 @@ pub fn apply(
 {
     let end = prefix_end(block);
     rules::apply(&block[6..end], lits, kinds, count, rule, proposal)
+}
+
+// The due rule.
+pub fn due(block: &[i32], lits: &[i32], kinds: &[u8], count: usize) -> Rule
+    requires { ⌜ OnBlock (now block) (now lits) (now kinds) count ⌝ }
+    ensures { λ r. ⌜ r ≡ rules.due (formulaOf (now (block .entry))) (recordOf (now (lits .entry)) (now (kinds .entry)) count) ⌝ }
+{
+    let ends = prefix_end(block);
+    let literals = ends + words::size_at(block, 1);
+    rules::due(
+        &block[6..ends],
+        &block[ends..literals],
+        &block[literals..],
+        lits,
+        kinds,
+        count,
+    )
+}
+
+// Whether a literal is open.
+pub fn open(block: &[i32], lits: &[i32], count: usize, literal: Literal) -> bool
+    requires { ⌜ HeldOn (now block) (now lits) count ⌝ }
+    ensures { λ r. ⌜ r ≡ isOpen (prefixOf (now (block .entry))) (among (take count (now (lits .entry)))) (literal .0) ⌝ }
+{
+    let end = prefix_end(block);
+    rules::open(&block[6..end], lits, count, literal)
+}
+
+// The first open literal of a list of any content, 0 if it has none.
+pub fn preferred(block: &[i32], lits: &[i32], count: usize, list: &[i32]) -> Literal
+    requires { ⌜ HeldOn (now block) (now lits) count ⌝ }
+    ensures { λ r. ⌜ r ≡ rules.literal (firstOpen (prefixOf (now (block .entry))) (among (take count (now (lits .entry)))) (now (list .entry))) ⌝ }
+{
+    let end = prefix_end(block);
+    rules::preferred(&block[6..end], lits, count, list)
 }

@@ -1,5 +1,4 @@
 -- A refused call returns before anything is written; else the first V places are wiped, and there are as many.
-use mathlib.Core.Path.{sym, _∙_}
 use borrow.Author.Needs.{needs}
 use Rattle.session.proofs.Lent.{opened, clearable}
 use Rattle.session.proofs.Exits.{open-refused, open-clears}
@@ -24,7 +23,7 @@ size-at-requires c κs = search needs
 clear-requires : tie.Need-clear-requires
 clear-requires c κs =
     let o = c .before .before .before in
-    clearable (opened _ _ _ (sym (o .before .of-buffers .ensures) ∙ o .if1 .left)) (c .size-at .ensures)
+    clearable (opened _ _ _ (o .before .of-buffers .ensures) (o .if1 .left)) (c .size-at .ensures)
 
 same-length-3 : tie.Need-same-length-3
 same-length-3 c = search needs

@@ -12,9 +12,6 @@ enum-known-number c = search needs
 enum-told : tie.Need-enum-told
 enum-told c = search needs
 
-size-at-requires : tie.Need-size-at-requires
-size-at-requires c κs = search needs
-
 is-short-requires : tie.Need-is-short-requires
 is-short-requires c κs = search needs
 
@@ -23,13 +20,13 @@ returns c = block-refused _ _ _ (c .before .before .before .check .ensures) _ (c
 
 returns-2 : tie.Need-returns-2
 returns-2 c =
-    let a = c .before .before .before in
-    buffers-short _ _ _ (a .before .before .check .ensures) (a .enum-told .given .1) (c .before .before .size-at .ensures) (c .before .is-short .ensures) (c .if1 .taken)
+    let a = c .before .before in
+    buffers-short _ _ _ (a .before .before .check .ensures) (a .enum-told .given .1) (c .before .is-short .ensures) (c .if1 .taken)
 
 returns-3 : tie.Need-returns-3
 returns-3 c =
-    let a = c .before .before .before in
-    buffers-pass _ _ _ (a .before .before .check .ensures) (a .enum-told .given .1) (c .before .before .size-at .ensures) (c .before .is-short .ensures) (c .if1 .left)
+    let a = c .before .before in
+    buffers-pass _ _ _ (a .before .before .check .ensures) (a .enum-told .given .1) (c .before .is-short .ensures) (c .if1 .left)
 
 pub of-buffers-spec : {M : Type 1} → statement M
 of-buffers-spec =
@@ -38,7 +35,6 @@ of-buffers-spec =
     check-requires
     enum-known-number
     enum-told
-    size-at-requires
     is-short-requires
     returns
     returns-2

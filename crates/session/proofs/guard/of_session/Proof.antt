@@ -1,5 +1,5 @@
 -- The rows in the table's order; each is asked where those before it have passed.
-use mathlib.Core.Path.{sym, _∙_}
+use native.Mathlib.Omega.{arith}
 use borrow.Author.Needs.{needs}
 use Rattle.session.proofs.Guards.{session-buffers, session-record, session-over, session-stale, session-passes}
 use Rattle.session.proofs.Lent.{opened}
@@ -13,7 +13,7 @@ returns : tie.Need-returns
 returns c = session-buffers _ _ _ _ _ (c .before .of-buffers .ensures) (c .if1 .taken)
 
 bad-record-requires : tie.Need-bad-record-requires
-bad-record-requires c κs = opened _ _ _ (sym (c .before .of-buffers .ensures) ∙ c .if1 .left)
+bad-record-requires c κs = opened _ _ _ (c .before .of-buffers .ensures) (c .if1 .left)
 
 returns-2 : tie.Need-returns-2
 returns-2 c =
@@ -34,14 +34,14 @@ returns-4 c =
     let v = c .before .before in
     let g = v .before .before in
     let o = g .before .before in
-    session-stale _ _ _ _ _ (o .before .of-buffers .ensures) (o .if1 .left) (g .before .bad-record .ensures) (g .if2 .left) (v .before .is-over .ensures) (v .if3 .left) (c .if4 .taken)
+    session-stale _ _ _ _ _ (o .before .of-buffers .ensures) (o .if1 .left) (g .before .bad-record .ensures) (g .if2 .left) (v .before .is-over .ensures) (v .if3 .left) (λ e. omega (arith, c .if4 .taken, e))
 
 returns-5 : tie.Need-returns-5
 returns-5 c =
     let v = c .before .before in
     let g = v .before .before in
     let o = g .before .before in
-    session-passes _ _ _ _ _ (o .before .of-buffers .ensures) (o .if1 .left) (g .before .bad-record .ensures) (g .if2 .left) (v .before .is-over .ensures) (v .if3 .left) (c .if4 .left)
+    session-passes _ _ _ _ _ (o .before .of-buffers .ensures) (o .if1 .left) (g .before .bad-record .ensures) (g .if2 .left) (v .before .is-over .ensures) (v .if3 .left) (omega (arith, c .if4 .left))
 
 pub of-session-spec : {M : Type 1} → statement M
 of-session-spec =
