@@ -2,6 +2,7 @@
 pub mod Opening
 pub mod Page
 pub mod Cases
+pub mod Checked
 -- an opening: its values, its search, and when it wins
 pub mod Values
 pub mod Start
