@@ -1,8 +1,6 @@
 -- The listing of openings: what an opening is, and what a page answers and leaves, for every input.
 pub mod Opening
 pub mod Page
-pub mod Cases
-pub mod Checked
 -- an opening: its values, its search, and when it wins
 pub mod Values
 pub mod Start
@@ -20,3 +18,5 @@ pub mod Only
 pub mod Accepted
 -- any list of pages
 pub mod Pages
+-- what the functions of a page say to each other
+pub mod Checked

@@ -3,6 +3,7 @@ pub mod Refusals
 pub mod Rows
 pub mod Outcome
 pub mod Run
+pub mod Checked
 pub mod Play
 pub mod Advance
 pub mod Trips
@@ -12,4 +13,3 @@ pub mod Follows
 pub mod ByHand
 pub mod History
 pub mod Only
-pub mod Cases

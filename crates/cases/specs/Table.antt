@@ -1,0 +1,145 @@
+-- The starred cases, written by hand from document 01: opened at revision 0, the calls, and what is said of each.
+use mathlib.Core.Bool.{Bool, true, false}
+use mathlib.Core.List.{List, [], _∷_}
+use Prim.Native.Nat.{ℕ, zero, suc, _+_}
+use lib.IntN.{ℤ, pos, negℤ}
+use Rattle.rules.specs.declared.State.{State}
+use Rattle.rules.specs.declared.State.the-variants.{Open, Valid, Unsat}
+
+-- a step at a revision with a proposal; a page from a start, with a budget, on an output
+pub data Asked : Type 0 where
+  step : ℕ → ℤ → Asked
+  page : ℕ → ℕ → List ℕ → Asked
+
+-- what is said of a call: the rule that a step took with the literal that it wrote; a page's next, entries, paused or not, and output; or
+-- the number that the call was refused with
+pub data Said : Type 0 where
+  decide unit monotone backtrack-exists backtrack-forall : ℤ → Said
+  fail succeed : Said
+  listed : ℕ → ℕ → Bool → List ℕ → Said
+  refused : ℕ → Said
+
+-- opened at revision 0; each call, and what is said of it (of the opening too, where that is refused); how the session stands after them
+pub record Case : Type 0 where
+  pub block : List ℤ
+  pub calls : List Asked
+  pub said : List Said
+  pub state : State
+
+abbrev neg : ℕ → ℤ
+neg n = negℤ (pos n)
+
+-- "All proposals 0": n steps from revision r
+unfoldable pub all-0 : ℕ → ℕ → List Asked
+all-0 r zero = []
+all-0 r (suc n) = step r (pos 0) ∷ all-0 (r + 1) n
+
+-- source example 1
+unfoldable pub blockA : List ℤ
+blockA = pos 4 ∷ pos 5 ∷ pos 13 ∷ pos 6 ∷ pos 10 ∷ pos 15 ∷ pos 1 ∷ neg 2 ∷ pos 3 ∷ pos 4 ∷ pos 3 ∷ pos 5 ∷ pos 7 ∷ pos 10 ∷ pos 13 ∷ neg 1 ∷ neg 2 ∷ pos 3 ∷ neg 2 ∷ neg 3 ∷ pos 3 ∷ pos 4 ∷ pos 1 ∷ neg 2 ∷ neg 4 ∷ pos 2 ∷ pos 3 ∷ neg 4 ∷ []
+
+-- "Decide 1, Decide 2, Unit 3, Backtrack-exists to -1, Decide 2, Unit -3, Unit 4, Fail. Unsat, 8 steps."
+unfoldable pub caseA : Case
+caseA = record {
+  block = blockA;
+  calls = all-0 0 8;
+  said = decide (pos 1) ∷ decide (pos 2) ∷ unit (pos 3) ∷ backtrack-exists (neg 1) ∷ decide (pos 2) ∷ unit (neg 3) ∷ unit (pos 4) ∷ fail ∷ [];
+  state = Unsat;
+}
+
+-- "prefix -1 2, clauses {2,-1} {-2,1}: Valid, 5 steps."
+unfoldable pub caseB : Case
+caseB = record {
+  block = pos 2 ∷ pos 2 ∷ pos 4 ∷ pos 6 ∷ pos 8 ∷ pos 10 ∷ neg 1 ∷ pos 2 ∷ pos 2 ∷ pos 4 ∷ pos 2 ∷ neg 1 ∷ neg 2 ∷ pos 1 ∷ [];
+  calls = all-0 0 5;
+  said = decide (pos 1) ∷ unit (pos 2) ∷ backtrack-forall (neg 1) ∷ unit (neg 2) ∷ succeed ∷ [];
+  state = Valid;
+}
+
+-- "the same clauses, prefix 1 -2: refused 7."
+unfoldable pub caseC : Case
+caseC = record {
+  block = pos 2 ∷ pos 2 ∷ pos 4 ∷ pos 6 ∷ pos 8 ∷ pos 10 ∷ pos 1 ∷ neg 2 ∷ pos 2 ∷ pos 4 ∷ pos 2 ∷ neg 1 ∷ neg 2 ∷ pos 1 ∷ [];
+  calls = [];
+  said = refused 7 ∷ [];
+  state = Open;
+}
+
+-- "prefix 1 -2 3, clauses {1,-2} {-1,2}: Unit 1, Fail. Unsat, 2 steps."
+unfoldable pub caseD : Case
+caseD = record {
+  block = pos 3 ∷ pos 2 ∷ pos 4 ∷ pos 6 ∷ pos 9 ∷ pos 11 ∷ pos 1 ∷ neg 2 ∷ pos 3 ∷ pos 2 ∷ pos 4 ∷ pos 1 ∷ neg 2 ∷ neg 1 ∷ pos 2 ∷ [];
+  calls = all-0 0 2;
+  said = unit (pos 1) ∷ fail ∷ [];
+  state = Unsat;
+}
+
+-- "0 0 0 6 6 6: Valid, 1 step."
+unfoldable pub caseE : Case
+caseE = record {
+  block = pos 0 ∷ pos 0 ∷ pos 0 ∷ pos 6 ∷ pos 6 ∷ pos 6 ∷ [];
+  calls = all-0 0 1;
+  said = succeed ∷ [];
+  state = Valid;
+}
+
+-- "0 1 0 6 6 7 0: Unsat, 1 step."
+unfoldable pub caseF : Case
+caseF = record {
+  block = pos 0 ∷ pos 1 ∷ pos 0 ∷ pos 6 ∷ pos 6 ∷ pos 7 ∷ pos 0 ∷ [];
+  calls = all-0 0 1;
+  said = fail ∷ [];
+  state = Unsat;
+}
+
+unfoldable pub blockG : List ℤ
+blockG = pos 4 ∷ pos 3 ∷ pos 6 ∷ pos 6 ∷ pos 10 ∷ pos 13 ∷ pos 1 ∷ pos 2 ∷ neg 3 ∷ pos 4 ∷ pos 2 ∷ pos 4 ∷ pos 6 ∷ pos 1 ∷ pos 2 ∷ neg 3 ∷ pos 4 ∷ pos 3 ∷ neg 4 ∷ []
+
+-- "start 0, budget 100, 8 words of room: 1 1 2 1 3 2, next 4. With 4 words: 1 1 2 1, next 3."
+unfoldable pub caseG : Case
+caseG = record {
+  block = blockG;
+  calls = page 0 100 (9 ∷ 9 ∷ 9 ∷ 9 ∷ 9 ∷ 9 ∷ 9 ∷ 9 ∷ []) ∷ page 0 100 (9 ∷ 9 ∷ 9 ∷ 9 ∷ []) ∷ [];
+  said = listed 4 3 false (1 ∷ 1 ∷ 2 ∷ 1 ∷ 3 ∷ 2 ∷ 9 ∷ 9 ∷ []) ∷ listed 3 2 false (1 ∷ 1 ∷ 2 ∷ 1 ∷ []) ∷ [];
+  state = Open;
+}
+
+-- "G with budget 0: paused, nothing written, next 0; from start 4: not paused, next 4."
+unfoldable pub caseH : Case
+caseH = record {
+  block = blockG;
+  calls = page 0 0 (9 ∷ 9 ∷ []) ∷ page 4 0 (9 ∷ 9 ∷ []) ∷ [];
+  said = listed 0 0 true (9 ∷ 9 ∷ []) ∷ listed 4 0 false (9 ∷ 9 ∷ []) ∷ [];
+  state = Open;
+}
+
+-- "prefix -1 2, clauses {2,1} {-2,-1}: Valid."
+unfoldable pub caseI : Case
+caseI = record {
+  block = pos 2 ∷ pos 2 ∷ pos 4 ∷ pos 6 ∷ pos 8 ∷ pos 10 ∷ neg 1 ∷ pos 2 ∷ pos 2 ∷ pos 4 ∷ pos 2 ∷ pos 1 ∷ neg 2 ∷ neg 1 ∷ [];
+  calls = all-0 0 5;
+  said = decide (pos 1) ∷ unit (neg 2) ∷ backtrack-forall (neg 1) ∷ unit (pos 2) ∷ succeed ∷ [];
+  state = Valid;
+}
+
+-- "prefix -1 2, clause {1}: Unsat, 1 step."
+unfoldable pub caseJ : Case
+caseJ = record {
+  block = pos 2 ∷ pos 1 ∷ pos 1 ∷ pos 6 ∷ pos 8 ∷ pos 9 ∷ neg 1 ∷ pos 2 ∷ pos 1 ∷ pos 1 ∷ [];
+  calls = all-0 0 1;
+  said = fail ∷ [];
+  state = Unsat;
+}
+
+-- "A opened at revision 0. Proposal 3 at 0: refused 17. Proposal 1 at 0: taken. Proposal -2 at 0: refused 14; at 1: taken."
+unfoldable pub caseK : Case
+caseK = record {
+  block = blockA;
+  calls = step 0 (pos 3) ∷ step 0 (pos 1) ∷ step 0 (neg 2) ∷ step 1 (neg 2) ∷ [];
+  said = refused 17 ∷ decide (pos 1) ∷ refused 14 ∷ decide (neg 2) ∷ [];
+  state = Open;
+}
+
+unfoldable pub table : List Case
+table =
+    caseA ∷ caseB ∷ caseC ∷ caseD ∷ caseE ∷ caseF ∷ caseG ∷ caseH ∷ caseI ∷ caseJ ∷ caseK ∷ []

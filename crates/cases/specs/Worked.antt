@@ -1,0 +1,86 @@
+-- What the definitions say of the same blocks and calls, and the one claim: they say what the table says. By computing.
+use Prim.Native.Nat.{ℕ, _-_}
+use mathlib.Core.Path.{_≡_, refl}
+use mathlib.Core.List.{List, [], _∷_, map}
+use lib.Count.{ones}
+use lib.IntN.{ℤ, pos}
+use lib.ListN.{getD, replicate}
+use Rattle.words.specs.Lists.{all, any}
+use Rattle.words.specs.Words.{eqZ, mem}
+use Rattle.formula.specs.Limits.{limits}
+use Rattle.formula.specs.Formula.{formulaOf, variablesOf, clausesFrom, existential, universal, change, levelOf, level, run, firstGroup}
+use Rattle.formula.specs.Block.{refusal, twice, badEnds, bothSigns}
+use Rattle.theory.specs.Record.{literals, assigned}
+use Rattle.theory.specs.Tests.{unassignedE, unassignedU, inConflict, unitOn, occurs, oneSign, monotone as isMonotone, isOpen}
+use Rattle.rules.specs.declared.State.{State}
+use Rattle.rules.specs.declared.State.the-variants.{Open}
+use Rattle.rules.specs.declared.Rule.{Rule}
+use Rattle.rules.specs.declared.Rule.the-variants.{BacktrackExists, Fail, Unit, Monotone, Decide, BacktrackForall, Succeed}
+use Rattle.rules.specs.Due.{due, lowest, last, candidate, lowestUnit, firstMonotone, firstUnassigned}
+use Rattle.rules.specs.Preferred.{firstOpen}
+use Rattle.rules.specs.Apply.{recordOf, wiped, apply}
+use Rattle.rules.specs.Check.{badEntries, badRecord}
+use Rattle.session.specs.declared.Session.{Session}
+use Rattle.session.specs.declared.Answer.{Answer}
+use Rattle.session.specs.declared.Answer.the-variants.{To, Refused}
+use Rattle.session.specs.Refusals.{openRefusal, stepRefusal}
+use Rattle.session.specs.Outcome.{Outcome, openOutcome, stepOutcome}
+use Rattle.session.specs.Run.{advance, runFrom}
+use Rattle.listing.specs.declared.Paged as paged
+use Rattle.listing.specs.Opening.{valuesOf, startOf}
+use Rattle.listing.specs.Page.{PageOutcome, pageRefusal, pageFrom, pageOf}
+use Rattle.cases.specs.Table as said
+use Rattle.cases.specs.Table.{Asked, Said, Case, table, all-0, blockA, blockG, caseA, caseB, caseC, caseD, caseE, caseF, caseG, caseH, caseI, caseJ, caseK}
+
+-- a rule by its name, with the literal that it wrote
+abbrev pub named : Rule → ℤ → Said
+named (BacktrackExists i c) l = said.backtrack-exists l
+named (Fail c) l = said.fail
+named (Unit x c) l = said.unit l
+named (Monotone x) l = said.monotone l
+named (Decide x) l = said.decide l
+named (BacktrackForall i) l = said.backtrack-forall l
+named Succeed l = said.succeed
+
+pub record Seen : Type 0 where
+  pub heard : List Said
+  pub state : State
+
+abbrev pub seen : List Said → State → Seen
+seen s t = record { heard = s; state = t }
+
+-- the next thing said, and what is said of the rest of the calls
+abbrev pub next : Said → Seen → Seen
+next x u = seen (x ∷ u .heard) (u .state)
+
+abbrev pub stepped : Session → Rule → Outcome → Answer → (Session → List ℤ → List ℕ → Seen) → Seen
+stepped s r o (To t) rest = next (named r (getD (o .lits) (t .length - 1) (pos 0))) (rest t (o .lits) (o .kinds))
+stepped s r o (Refused n) rest = next (said.refused n) (rest s (o .lits) (o .kinds))
+
+abbrev pub paged-as : PageOutcome → paged.Paged → Said
+paged-as o (paged.the-variants.Page n e p) = said.listed n e p (o .output)
+paged-as o (paged.the-variants.Refused n) = said.refused n
+
+pub calling : List ℤ → List Asked → Session → List ℤ → List ℕ → Seen
+calling b [] s ls ks = seen [] (s .state)
+calling b (said.step rev l ∷ rest) s ls ks =
+    let o = stepOutcome s b ls ks (record { 0 = rev }) (record { 0 = l }) in
+    stepped s (due (formulaOf b) (recordOf ls ks (s .length))) o (o .answer) (calling b rest)
+calling b (said.page start budget out ∷ rest) s ls ks =
+    let o = pageOf b ls ks start [] budget out in
+    next (paged-as o (o .answer)) (calling b rest s (o .lits) (o .kinds))
+
+-- from the opening, on buffers of V places that hold something
+abbrev pub opened : List ℤ → List Asked → Outcome → Answer → Seen
+opened b calls o (To s) = calling b calls s (o .lits) (o .kinds)
+opened b calls o (Refused n) = seen (said.refused n ∷ []) Open
+
+pub worked : Case → Seen
+worked c =
+    let v = variablesOf (c .block) in
+    let o = openOutcome (c .block) (replicate v (pos 7)) (replicate v 7) (record { 0 = 0 }) in
+    opened (c .block) (c .calls) o (o .answer)
+
+pub worked-by-hand : map worked table ≡ map (λ (c : Case). seen (c .said) (c .state)) table
+unfolding table caseA caseB caseC caseD caseE caseF caseG caseH caseI caseJ caseK blockA blockG all-0 worked calling stepOutcome openOutcome stepRefusal openRefusal pageOf pageRefusal pageFrom valuesOf startOf advance runFrom refusal limits twice badEnds bothSigns all any eqZ mem formulaOf clausesFrom existential universal change levelOf level run firstGroup literals assigned unassignedE unassignedU inConflict unitOn occurs oneSign isMonotone isOpen due lowest last candidate lowestUnit firstMonotone firstUnassigned firstOpen recordOf wiped apply badEntries badRecord ones
+worked-by-hand = refl

@@ -1,0 +1,1 @@
+// The worked cases, as definitions and one claim: see specs/.
