@@ -1,6 +1,6 @@
 -- The first group and an opening's values, as the loops over them see them.
 use Prim.Native.Nat.{ℕ, suc, _+_, _-_, _*_, _^_, _/_, _%_, _≤_, _<_}
-use mathlib.Core.Path.{_≡_, refl, sym, _∙_, ap}
+use mathlib.Core.Path.{_≡_, refl, sym, _∙_}
 use mathlib.Core.Bool.{Bool, true, false, not, Bool·beq}
 use mathlib.Core.List.{List, [], _∷_}
 use native.Mathlib.Omega.{arith}
@@ -14,7 +14,6 @@ use Rattle.words.specs.Bools.{clash}
 use Rattle.words.specs.Lists.{next, ended}
 use Rattle.words.specs.Words.{negative, opposite, opposite-is}
 use Rattle.formula.specs.Formula.{run, firstGroup}
-use Rattle.rules.specs.Due.{pick}
 use Rattle.listing.specs.Opening.{valuesOf}
 use Rattle.listing.specs.Values.{values-turn}
 use Rattle.listing.specs.Checked.{literalOf}

@@ -1,15 +1,19 @@
 -- Which row turns a page away, one law for each way out of the guard: the rows passed so far do not hold, the next one does.
-use Prim.Native.Nat.{ℕ, _+_, _^_, _≤_, _<_}
-use mathlib.Core.Path.{_≡_, refl}
+use Prim.Native.Nat.{ℕ, zero, suc, _+_, _-_, _^_, _≤_, _<_}
+use mathlib.Core.Path.{_≡_, refl, _∙_, ap}
 use mathlib.Core.Bool.{Bool, true, false, _&&_}
 use mathlib.Core.List.{List, [], _∷_}
 use native.Mathlib.Omega.{arith}
 use lib.Dec.{ltb}
-use lib.IntN.{ℤ, pos}
-use lib.ListN.{length, getD}
+use lib.IntN.{ℤ}
+use lib.ListN.{length, take, drop}
 use borrow.Author.Tests.{lt-ltb, le-ltb}
 use Rattle.words.specs.Words.{negative}
-use Rattle.formula.specs.Formula.{word, firstGroup}
+use Rattle.formula.specs.Formula.{word, variablesOf, formulaOf, firstGroup}
+use Rattle.session.specs.Refusals.{openRefusal}
+use Rattle.session.proofs.Lent.{opened, prefix-lent}
+use Rattle.listing.specs.Page.{after, pageRefusal}
+use Rattle.listing.specs.Rows.{pageRows}
 use Rattle.listing.specs.Checked.{openingsRefusal}
 
 -- ---- rows 18 to 21
@@ -41,3 +45,17 @@ module _ (p : List ℤ) (start room : ℕ) {u : Bool} (is : u ≡ negative (word
         pub openings-pass : 2 ≤ room → 0 ≡ openingsRefusal p start room
         unfolding openingsRefusal
         openings-pass r = rw (first-word p, ← is, x, ← e, le-ltb 16 k h, ← t, le-ltb m start l, le-ltb room 2 r)
+
+-- ---- rows 1 to 11, and then these
+after-first : (n : ℕ) (rows : List Bool) → (n ≡ 0 → ⊥) → n ≡ after n rows
+after-first zero rows f = absurd (f refl)
+after-first (suc n) rows f = refl
+
+module _ (b ls : List ℤ) (ks : List ℕ) (start : ℕ) (out : List ℕ) {r : ℕ} (e : r ≡ openRefusal b ls ks) where
+  pub page-buffers : (r ≡ 0 → ⊥) → r ≡ pageRefusal b ls ks start out
+  unfolding pageRefusal
+  page-buffers f = rw (← e) (after-first r (pageRows (formulaOf b) start out) f)
+
+  pub page-openings : (z : r ≡ 0) {v : ℕ} → v ≡ variablesOf b → {q : ℕ} → q ≡ openingsRefusal (take (6 + v - 6) (drop 6 b)) start (length out) → q ≡ pageRefusal b ls ks start out
+  unfolding pageRefusal openingsRefusal formulaOf
+  page-openings z is p = p ∙ rw (← e, z, prefix-lent b (opened b ls ks e z .block) (ap (λ n. 6 + n) is))

@@ -2,3 +2,4 @@
 pub mod Groups
 pub mod Guards
 pub mod Begun
+pub mod Exits

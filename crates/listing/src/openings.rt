@@ -6,10 +6,11 @@ ghost use lib.IntN.{pos};
 ghost use lib.ListN.{getD};
 ghost use lib.Seq.{sets};
 ghost use Rattle.formula.specs.Formula.{formulaOf, firstGroup};
-ghost use Rattle.rules.specs.Apply.{search};
+ghost use Rattle.rules.specs.Apply.{search, reached};
 ghost use Rattle.rules.specs.declared.State.the-variants.{Open};
-ghost use Rattle.listing.specs.Opening.{valuesOf, startOf};
+ghost use Rattle.listing.specs.Opening.{valuesOf, startOf, searchOf};
 ghost use Rattle.listing.specs.Checked.{OnGroup, literalOf, WritableAt, Writable};
+use rules::Reached;
 
 // The size of the first group.
 pub fn first_group(prefix: &[i32]) -> usize
@@ -77,4 +78,22 @@ fn begin(block: &[i32], lits: &mut [i32], kinds: &mut [u8], k: usize, n: u32)
     rules::clear(lits, kinds, words::size_at(block, 0));
     let end = 6 + k;
     write_values(&block[6..end], n, lits);
+}
+
+// The search of the opening n, within the budget.
+pub fn try_opening(
+    block: &[i32],
+    lits: &mut [i32],
+    kinds: &mut [u8],
+    k: usize,
+    n: u32,
+    preferred: &[i32],
+    budget: u32,
+) -> Reached
+    requires { ⌜ OnGroup (now block) (now lits) (now kinds) k ⌝ }
+    ensures { λ r. ⌜ reached r (now (lits .exit)) (now (kinds .exit)) ≡ searchOf (formulaOf (now (block .entry))) (now (preferred .entry)) budget (now (lits .entry)) (now (kinds .entry)) n ⌝ }
+{
+    begin(block, lits, kinds, k, n);
+    let found = session::search(block, lits, kinds, k, budget, preferred);
+    found.reached
 }

@@ -1,6 +1,7 @@
 -- The first V places are wiped, and the part that is lent is the first group.
 use borrow.Author.Needs.{needs}
-use Rattle.listing.proofs.Begun.{clearable, group-within, writable, begun}
+use Rattle.session.proofs.Lent.{clearable}
+use Rattle.listing.proofs.Begun.{group-within, writable, begun}
 use Rattle.listing.proofs.openings.begin.Statement.{statement}
 use Rattle.listing.proofs.openings.begin.Tie as tie
 
@@ -8,7 +9,7 @@ size-at-requires : tie.Need-size-at-requires
 size-at-requires c κs = search needs
 
 clear-requires : tie.Need-clear-requires
-clear-requires c κs = clearable (c .before .before .before .before .pre) (c .size-at .ensures)
+clear-requires c κs = clearable (c .before .before .before .before .pre .on) (c .size-at .ensures)
 
 add-end : tie.Need-add-end
 add-end c = search needs

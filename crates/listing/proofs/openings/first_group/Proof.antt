@@ -3,9 +3,7 @@ use Prim.Native.Nat.{_+_, _-_, _≤_}
 use mathlib.Core.Path.{_≡_}
 use native.Mathlib.Omega.{arith}
 use borrow.Author.Needs.{needs}
-use lib.IntN.{pos}
-use lib.ListN.{length, getD, drop}
-use Rattle.words.specs.Words.{negative}
+use lib.ListN.{length, drop}
 use Rattle.formula.specs.Formula.{run, firstGroup}
 use Rattle.listing.proofs.Groups.{group-begins, group-ended, group-stops, group-goes}
 use Rattle.listing.proofs.openings.first_group.Statement.{statement}
