@@ -1,0 +1,8 @@
+mod line;
+mod numbers;
+mod fill;
+mod text;
+
+fn main() {
+    let a = numbers::next_number(b"  12 ", 0, numbers::Place::Kind);
+}
