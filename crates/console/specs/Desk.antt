@@ -1,9 +1,37 @@
 -- The desk's words in use are within its buffers, and an answer is within the room for its text.
-use Prim.Native.Nat.{ℕ, _≤_}
-use Rattle.console.specs.declared.fill.Filled.{Filled}
-use Rattle.console.specs.declared.fill.Filled.the-variants.{With, Unfit}
+use mathlib.Core.Path.{_≡_, sym}
+use mathlib.Core.List.{List}
+use lib.ListN.{length, take}
+use lib.Seq.{length-take-le}
+use Prim.Native.Nat.{ℕ, _+_, _*_, _≤_}
+use Rattle.console.specs.declared.desk.Desk.{Desk}
+use Rattle.console.specs.declared.desk.Answered.{Answered}
+use Rattle.console.specs.declared.set.Set.{Set}
 
--- no more numbers than the buffer's room were put into it
-abbrev pub Filling : ℕ → Filled → Type 0
-Filling room (With count) = count ≤ room
-Filling room Unfit = Unit {0}
+-- the first n words of a buffer can be lent; the second part follows from the first, and both are what a loan asks
+abbrev pub Front {ℓ} : {A : Type ℓ} → ℕ → List A → Type 0
+Front n xs = (n ≤ length xs) × (n ≡ length (take n xs))
+
+pub front {ℓ} : {A : Type ℓ} (n : ℕ) (xs : List A) → n ≤ length xs → Front n xs
+front n xs h = (h, sym (length-take-le n xs h))
+
+-- the words in use are within the buffers, of these lengths
+pub record Within (d : Desk) (b l k o : ℕ) : Type 0 where
+  pub block : d .block ≤ b
+  pub literals : d .literals ≤ l
+  pub kinds : d .kinds ≤ k
+  pub output : d .output ≤ o
+
+-- the text has room for the longest answer: every word of every buffer that is shown
+pub record Roomy (literals kinds output text : ℕ) : Type 0 where
+  pub all : 22 * literals + 21 * kinds + 21 * output + 256 ≤ text
+
+-- a buffer of this length was set, or left, and the answer is within the text
+pub record Sets (s : Set) (buffer text : ℕ) : Type 0 where
+  pub count : s .count ≤ buffer
+  pub size : s .size ≤ text
+
+-- a line leaves a desk within its buffers, and an answer within the text
+pub record Leaves (a : Answered) (block literals kinds output text : ℕ) : Type 0 where
+  pub within : Within (a .desk) block literals kinds output
+  pub size : a .size ≤ text

@@ -50,10 +50,10 @@ largestOf place.Word true = 2147483648
 largestOf place.Word false = 2147483647
 largestOf place.Kind true = 0
 largestOf place.Kind false = 255
-largestOf place.Output true = 0
-largestOf place.Output false = 4294967295
-largestOf place.Revision true = 0
-largestOf place.Revision false = 18446744073709551615
+largestOf place.Count true = 0
+largestOf place.Count false = 4294967295
+largestOf place.Long true = 0
+largestOf place.Long false = 18446744073709551615
 largestOf place.State true = 0
 largestOf place.State false = 2
 

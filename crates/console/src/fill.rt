@@ -1,21 +1,19 @@
-// The numbers of a line, put into a buffer. They are all looked at before the first is stored, so a line that doesn't fit changes nothing.
+// The numbers of a line, for a buffer. All are looked at before the first is stored, so that a line that doesn't fit changes nothing.
 ghost use Prim.Native.Nat.{_≤_};
 ghost use lib.ListN.{length};
-ghost use Rattle.console.specs.Desk.{Filling};
+ghost use Rattle.console.specs.Desk.{Front};
 use crate::numbers::Next;
+use crate::numbers::NextCount;
+use crate::numbers::NextKind;
+use crate::numbers::NextWord;
 use crate::numbers::Place;
+use crate::numbers::count_at;
+use crate::numbers::kind_at;
 use crate::numbers::next_number;
-use crate::numbers::signed;
-
-// How many numbers were put into a buffer.
-pub(crate) enum Filled {
-    With(usize),
-    Unfit,
-}
+use crate::numbers::word_at;
 
 // Whether every word from a place on is a number that fits, and they are no more than there is room for.
-fn all_fit(line: &[u8], from: usize, place: Place, room: usize) -> bool
-    requires { ⌜ from ≤ length (now line) ⌝ }
+pub(crate) fn all_fit(line: &[u8], from: usize, place: Place, room: usize) -> bool
 {
     let mut at = from;
     let mut count = 0;
@@ -34,17 +32,16 @@ fn all_fit(line: &[u8], from: usize, place: Place, room: usize) -> bool
     }
 }
 
-fn store_words(line: &[u8], from: usize, buffer: &mut [i32]) -> usize
-    requires { ⌜ from ≤ length (now line) ⌝ }
-    ensures { λ r. ⌜ r ≤ length (now (buffer .entry)) ⌝ }
+// Each of these stores the numbers from a place on, as far as they fit, and answers how many there are.
+pub(crate) fn store_words(line: &[u8], from: usize, buffer: &mut [i32]) -> usize
+    ensures { λ r. ⌜ Front r (now (buffer .exit)) ⌝ }
 {
     let mut at = from;
     let mut count = 0;
     while count < buffer.len() {
-        let Next::Fit { negative, size, next } = next_number(line, at, Place::Word) else {
+        let NextWord::Is { word, next } = word_at(line, at) else {
             return count;
         };
-        let word = signed(negative, size);
         buffer[count] = word;
         count += 1;
         at = next;
@@ -52,69 +49,34 @@ fn store_words(line: &[u8], from: usize, buffer: &mut [i32]) -> usize
     count
 }
 
-fn store_kinds(line: &[u8], from: usize, buffer: &mut [u8]) -> usize
-    requires { ⌜ from ≤ length (now line) ⌝ }
+pub(crate) fn store_kinds(line: &[u8], from: usize, buffer: &mut [u8]) -> usize
     ensures { λ r. ⌜ r ≤ length (now (buffer .entry)) ⌝ }
 {
     let mut at = from;
     let mut count = 0;
     while count < buffer.len() {
-        let Next::Fit { negative: _, size, next } = next_number(line, at, Place::Kind) else {
+        let NextKind::Is { kind, next } = kind_at(line, at) else {
             return count;
         };
-        buffer[count] = size as u8;
+        buffer[count] = kind;
         count += 1;
         at = next;
     }
     count
 }
 
-fn store_output(line: &[u8], from: usize, buffer: &mut [u32]) -> usize
-    requires { ⌜ from ≤ length (now line) ⌝ }
+pub(crate) fn store_counts(line: &[u8], from: usize, buffer: &mut [u32]) -> usize
     ensures { λ r. ⌜ r ≤ length (now (buffer .entry)) ⌝ }
 {
     let mut at = from;
     let mut count = 0;
     while count < buffer.len() {
-        let Next::Fit { negative: _, size, next } = next_number(line, at, Place::Output) else {
+        let NextCount::Is { count: word, next } = count_at(line, at) else {
             return count;
         };
-        buffer[count] = size as u32;
+        buffer[count] = word;
         count += 1;
         at = next;
     }
     count
-}
-
-pub(crate) fn words(line: &[u8], from: usize, buffer: &mut [i32]) -> Filled
-    requires { ⌜ from ≤ length (now line) ⌝ }
-    ensures { λ r. ⌜ Filling (length (now (buffer .entry))) r ⌝ }
-{
-    if all_fit(line, from, Place::Word, buffer.len()) {
-        Filled::With(store_words(line, from, buffer))
-    } else {
-        Filled::Unfit
-    }
-}
-
-pub(crate) fn kinds(line: &[u8], from: usize, buffer: &mut [u8]) -> Filled
-    requires { ⌜ from ≤ length (now line) ⌝ }
-    ensures { λ r. ⌜ Filling (length (now (buffer .entry))) r ⌝ }
-{
-    if all_fit(line, from, Place::Kind, buffer.len()) {
-        Filled::With(store_kinds(line, from, buffer))
-    } else {
-        Filled::Unfit
-    }
-}
-
-pub(crate) fn output(line: &[u8], from: usize, buffer: &mut [u32]) -> Filled
-    requires { ⌜ from ≤ length (now line) ⌝ }
-    ensures { λ r. ⌜ Filling (length (now (buffer .entry))) r ⌝ }
-{
-    if all_fit(line, from, Place::Output, buffer.len()) {
-        Filled::With(store_output(line, from, buffer))
-    } else {
-        Filled::Unfit
-    }
 }

@@ -1,3 +1,7 @@
+mod desk;
+mod set;
+mod show;
+mod calls;
 mod line;
 mod numbers;
 mod fill;

@@ -17,12 +17,12 @@ enum Number {
     NoNumber,
 }
 
-// What a number has to fit: i32 words, u8 kinds, u32 budgets, starts and outputs, u64 revisions and lengths, and the state of a session.
+// What a number has to fit: "i32 words, u8 kinds, u64 revisions and lengths, u32 budgets, starts and outputs", and the state of a session.
 pub(crate) enum Place {
     Word,
     Kind,
-    Output,
-    Revision,
+    Long,
+    Count,
     State,
 }
 
@@ -85,16 +85,19 @@ fn largest(place: Place, negative: bool) -> u64
     match place {
         Place::Word => if negative { 2147483648 } else { 2147483647 },
         Place::Kind => if negative { 0 } else { 255 },
-        Place::Output => if negative { 0 } else { 4294967295 },
-        Place::Revision => if negative { 0 } else { u64::MAX },
+        Place::Count => if negative { 0 } else { 4294967295 },
+        Place::Long => if negative { 0 } else { u64::MAX },
         Place::State => if negative { 0 } else { 2 },
     }
 }
 
+// Behind the end of a line there is no number either.
 pub(crate) fn next_number(line: &[u8], from: usize, place: Place) -> Next
-    requires { ⌜ from ≤ length (now line) ⌝ }
     ensures { λ r. ⌜ Read from (length (now (line .entry))) place r ⌝ }
 {
+    if line.len() < from {
+        return Next::End;
+    }
     let word = next_word(line, from);
     let start = word.start;
     let end = word.end;
@@ -113,19 +116,50 @@ pub(crate) fn next_number(line: &[u8], from: usize, place: Place) -> Next
     }
 }
 
-// Whether a line has no word left.
-pub(crate) fn no_more(line: &[u8], from: usize) -> bool
-    requires { ⌜ from ≤ length (now line) ⌝ }
-{
-    let word = next_word(line, from);
-    word.start == word.end
+// The next number as a word.
+pub(crate) enum NextWord {
+    Is { word: i32, next: usize },
+    NoWord,
+}
+
+// The next number as a kind.
+pub(crate) enum NextKind {
+    Is { kind: u8, next: usize },
+    NoKind,
+}
+
+// The next number as a budget, a start or a word of the output.
+pub(crate) enum NextCount {
+    Is { count: u32, next: usize },
+    NoCount,
 }
 
 // The word of a sign and a size. It is made in 64 bits: the least word is never negated.
-pub(crate) fn signed(negative: bool, size: u64) -> i32
+fn signed(negative: bool, size: u64) -> i32
     requires { ⌜ size ≤ largestOf Place.Word negative ⌝ }
     ensures { λ r. ⌜ r ≡ signedOf negative size ⌝ }
 {
     let wide = size as i64;
     if negative { (0 - wide) as i32 } else { wide as i32 }
+}
+
+pub(crate) fn word_at(line: &[u8], from: usize) -> NextWord {
+    let Next::Fit { negative, size, next } = next_number(line, from, Place::Word) else {
+        return NextWord::NoWord;
+    };
+    NextWord::Is { word: signed(negative, size), next }
+}
+
+pub(crate) fn kind_at(line: &[u8], from: usize) -> NextKind {
+    let Next::Fit { negative: _, size, next } = next_number(line, from, Place::Kind) else {
+        return NextKind::NoKind;
+    };
+    NextKind::Is { kind: size as u8, next }
+}
+
+pub(crate) fn count_at(line: &[u8], from: usize) -> NextCount {
+    let Next::Fit { negative: _, size, next } = next_number(line, from, Place::Count) else {
+        return NextCount::NoCount;
+    };
+    NextCount::Is { count: size as u32, next }
 }

@@ -9,7 +9,7 @@ use Rattle.console.proofs.fill.all_fit.Statement.{statement}
 use Rattle.console.proofs.fill.all_fit.Tie as tie
 
 abbrev Inv-loop : tie.InvT-loop
-Inv-loop line from place room at₀ count₀ at count = (at ≤ length line) × (count ≤ room)
+Inv-loop line from place room at₀ count₀ at count = (count ≤ room)
 
 abbrev μ-loop : tie.MeasureT-loop
 μ-loop line from place room at₀ count₀ at count = length line - at

@@ -1,46 +1,35 @@
--- A number is stored only where the buffer has room left, and it fits its place.
+-- A number is stored only where the buffer has room left.
 use mathlib.Core.Path.{_≡_}
 use Prim.Native.Nat.{_-_, _≤_}
 use native.Mathlib.Omega.{arith}
 use lib.ListN.{length, length-set}
-use Rattle.console.specs.declared.numbers.Next.the-variants.{Fit}
-use Rattle.console.specs.declared.numbers.Place.the-variants as place
-use Rattle.console.specs.Numbers.{Read}
-use Rattle.console.proofs.Places.{kind-most}
 use borrow.Author.Needs.{needs}
 use Rattle.console.proofs.fill.store_kinds.Statement.{statement}
 use Rattle.console.proofs.fill.store_kinds.Tie as tie
 
 abbrev Inv-loop : tie.InvT-loop
-Inv-loop line from buffer₀ at₀ count₀ buffer at count = (at ≤ length line) × (count ≤ length buffer) × (length buffer ≡ length buffer₀)
+Inv-loop line from buffer₀ at₀ count₀ buffer at count = (count ≤ length buffer) × (length buffer ≡ length buffer₀)
 
 abbrev μ-loop : tie.MeasureT-loop
 μ-loop line from buffer₀ at₀ count₀ buffer at count = length buffer₀ - count
 
-module _ (c : tie.After-size Inv-loop μ-loop) where
-  abbrev head : tie.At-loop Inv-loop μ-loop
-  head = c .before .before .before .before
-
-  told : Read (head .loop .at) (length (c .before .before .before .before .before .before .before .args .line .now)) place.Kind (Fit (c .size .given .0 .0) (c .size .given .0 .1 .0) (c .size .given .0 .1 .1 .0))
-  told = rw (c .size .given .1) at (c .before .before .next-number .ensures)
-
 loop-holds : tie.Need-loop-holds Inv-loop μ-loop
 loop-holds c = search needs
 
-next-number-requires : tie.Need-next-number-requires Inv-loop μ-loop
-next-number-requires c κs = search needs
+kind-at-requires : tie.Need-kind-at-requires Inv-loop μ-loop
+kind-at-requires c κs = search needs
 
-enum-known-size : tie.Need-enum-known-size Inv-loop μ-loop
-enum-known-size c = search needs
+enum-known-kind : tie.Need-enum-known-kind Inv-loop μ-loop
+enum-known-kind c = search needs
+
+enum-told : tie.Need-enum-told Inv-loop μ-loop
+enum-told c = search needs
 
 same-length : tie.Need-same-length Inv-loop μ-loop
 same-length c = search needs
 
 returns : tie.Need-returns Inv-loop μ-loop
 returns c = search needs
-
-cast-buffer : tie.Need-cast-buffer Inv-loop μ-loop
-cast-buffer c = omega (arith, kind-most (c .before .size .given .0 .0) (c .before .size .given .0 .1 .0) (told (c .before) .2))
 
 slice-write-buffer : tie.Need-slice-write-buffer Inv-loop μ-loop
 slice-write-buffer c = search needs
@@ -52,7 +41,7 @@ loop-less : tie.Need-loop-less Inv-loop μ-loop
 loop-less c = search needs
 
 loop-again : tie.Need-loop-again Inv-loop μ-loop
-loop-again c = simp length-set (omega (arith, told (c .before)))
+loop-again c = simp length-set (omega arith)
 
 same-length-2 : tie.Need-same-length-2 Inv-loop μ-loop
 same-length-2 c = search needs
@@ -67,11 +56,11 @@ store-kinds-spec =
     Inv-loop
     μ-loop
     loop-holds
-    next-number-requires
-    enum-known-size
+    kind-at-requires
+    enum-known-kind
+    enum-told
     same-length
     returns
-    cast-buffer
     slice-write-buffer
     add-count
     loop-less

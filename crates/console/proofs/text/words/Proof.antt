@@ -7,10 +7,10 @@ use Rattle.console.proofs.text.words.Statement.{statement}
 use Rattle.console.proofs.text.words.Tie as tie
 
 abbrev Inv-loop : tie.InvT-loop
-Inv-loop text₀ from ws at₀ i₀ text at i = (i ≤ length ws) × (at ≤ from + 22 * i) × (length text ≡ length text₀)
+Inv-loop text₀ from ws count at₀ i₀ text at i = (i ≤ length ws) × (at ≤ from + 22 * i) × (length text ≡ length text₀)
 
 abbrev μ-loop : tie.MeasureT-loop
-μ-loop text₀ from ws at₀ i₀ text at i = length ws - i
+μ-loop text₀ from ws count at₀ i₀ text at i = length ws - i
 
 loop-holds : tie.Need-loop-holds Inv-loop μ-loop
 loop-holds c = search needs
@@ -33,6 +33,12 @@ same-length c = search needs
 returns : tie.Need-returns Inv-loop μ-loop
 returns c = search needs
 
+same-length-2 : tie.Need-same-length-2 Inv-loop μ-loop
+same-length-2 c = search needs
+
+returns-2 : tie.Need-returns-2 Inv-loop μ-loop
+returns-2 c = search needs
+
 pub words-spec : {M : Type 1} → statement M
 words-spec =
     tie.close
@@ -45,4 +51,6 @@ words-spec =
     loop-less
     loop-again
     same-length
-    returns)
+    returns
+    same-length-2
+    returns-2)

@@ -4,14 +4,14 @@ use Prim.Native.Nat.{_+_, _-_, _*_, _≤_}
 use native.Mathlib.Omega.{arith}
 use lib.ListN.{length}
 use borrow.Author.Needs.{needs}
-use Rattle.console.proofs.text.output.Statement.{statement}
-use Rattle.console.proofs.text.output.Tie as tie
+use Rattle.console.proofs.text.counts.Statement.{statement}
+use Rattle.console.proofs.text.counts.Tie as tie
 
 abbrev Inv-loop : tie.InvT-loop
-Inv-loop text₀ from ns at₀ i₀ text at i = (i ≤ length ns) × (at ≤ from + 21 * i) × (length text ≡ length text₀)
+Inv-loop text₀ from ns count at₀ i₀ text at i = (i ≤ length ns) × (at ≤ from + 21 * i) × (length text ≡ length text₀)
 
 abbrev μ-loop : tie.MeasureT-loop
-μ-loop text₀ from ns at₀ i₀ text at i = length ns - i
+μ-loop text₀ from ns count at₀ i₀ text at i = length ns - i
 
 loop-holds : tie.Need-loop-holds Inv-loop μ-loop
 loop-holds c = search needs
@@ -23,7 +23,7 @@ shared-slice-read-natural : tie.Need-shared-slice-read-natural Inv-loop μ-loop
 shared-slice-read-natural c = search needs
 
 cast-natural : tie.Need-cast-natural Inv-loop μ-loop
-cast-natural c = omega (arith, c .shared-slice-known2 .given (c .before .before .before .loop .i))
+cast-natural c = omega (arith, c .shared-slice-known2 .given (c .before .before .before .before .loop .i))
 
 natural-requires : tie.Need-natural-requires Inv-loop μ-loop
 natural-requires c κs = search needs
@@ -43,8 +43,14 @@ same-length c = search needs
 returns : tie.Need-returns Inv-loop μ-loop
 returns c = search needs
 
-pub output-spec : {M : Type 1} → statement M
-output-spec =
+same-length-2 : tie.Need-same-length-2 Inv-loop μ-loop
+same-length-2 c = search needs
+
+returns-2 : tie.Need-returns-2 Inv-loop μ-loop
+returns-2 c = search needs
+
+pub counts-spec : {M : Type 1} → statement M
+counts-spec =
     tie.close
     (tie.spec
     Inv-loop
@@ -58,4 +64,6 @@ output-spec =
     loop-less
     loop-again
     same-length
-    returns)
+    returns
+    same-length-2
+    returns-2)
