@@ -194,3 +194,68 @@ fn page(line: &[u8], from: usize, block: &[i32], literals: &mut [i32], kinds: &m
     let answer = call_page(block, literals, kinds, output, start, budget, &preferred[..count]);
     tell_page(text, output, answer)
 }
+
+// The library is lent each buffer as far as its words are in use.
+fn call_on(
+    call: Call,
+    line: &[u8],
+    from: usize,
+    session: Session,
+    block: &[i32],
+    literals: &mut [i32],
+    kinds: &mut [u8],
+    output: &mut [u32],
+    preferred: &mut [i32],
+    text: &mut [u8],
+) -> Moved
+    requires { ⌜ 21 * length (now output) + 256 ≤ length (now text) ⌝ }
+    ensures { λ r. ⌜ r .size ≤ length (now (text .entry)) ⌝ }
+{
+    match call {
+        Call::Open => open(line, from, session, block, literals, kinds, text),
+        Call::Step => step(line, from, session, block, literals, kinds, text),
+        Call::Run => run(line, from, session, block, literals, kinds, preferred, text),
+        Call::Page => {
+            let size = page(line, from, block, literals, kinds, output, preferred, text);
+            Moved { session, size }
+        }
+    }
+}
+
+pub(crate) fn call_part(
+    call: Call,
+    line: &[u8],
+    from: usize,
+    mut desk: Desk,
+    block: &[i32],
+    literals: &mut [i32],
+    kinds: &mut [u8],
+    output: &mut [u32],
+    preferred: &mut [i32],
+    text: &mut [u8],
+) -> Answered
+    requires { ⌜ Within desk (length (now block)) (length (now literals)) (length (now kinds)) (length (now output)) ⌝ }
+    requires { ⌜ Roomy (length (now literals)) (length (now kinds)) (length (now output)) (length (now text)) ⌝ }
+    ensures { λ r. ⌜ Leaves r (length (now (block .entry))) (length (now (literals .entry))) (length (now (kinds .entry))) (length (now (output .entry))) (length (now (text .entry))) ⌝ }
+{
+    let b = desk.block;
+    let l = desk.literals;
+    let k = desk.kinds;
+    let o = desk.output;
+    let session = desk.session;
+    let moved = call_on(
+        call,
+        line,
+        from,
+        session,
+        &block[..b],
+        &mut literals[..l],
+        &mut kinds[..k],
+        &mut output[..o],
+        preferred,
+        text,
+    );
+    let next = moved.session;
+    desk.session = next;
+    Answered { desk, size: moved.size }
+}

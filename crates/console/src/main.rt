@@ -1,5 +1,6 @@
 mod desk;
 mod set;
+mod commands;
 mod show;
 mod calls;
 mod line;
