@@ -1,19 +1,8 @@
 -- The desk's words in use are within its buffers, and an answer is within the room for its text.
-use mathlib.Core.Path.{_≡_, sym}
-use mathlib.Core.List.{List}
-use lib.ListN.{length, take}
-use lib.Seq.{length-take-le}
 use Prim.Native.Nat.{ℕ, _+_, _*_, _≤_}
 use Rattle.console.specs.declared.desk.Desk.{Desk}
 use Rattle.console.specs.declared.desk.Answered.{Answered}
 use Rattle.console.specs.declared.set.Set.{Set}
-
--- the first n words of a buffer can be lent; the second part follows from the first, and both are what a loan asks
-abbrev pub Front {ℓ} : {A : Type ℓ} → ℕ → List A → Type 0
-Front n xs = (n ≤ length xs) × (n ≡ length (take n xs))
-
-pub front {ℓ} : {A : Type ℓ} (n : ℕ) (xs : List A) → n ≤ length xs → Front n xs
-front n xs h = (h, sym (length-take-le n xs h))
 
 -- the words in use are within the buffers, of these lengths
 pub record Within (d : Desk) (b l k o : ℕ) : Type 0 where

@@ -172,8 +172,16 @@ fn run(line: &[u8], from: usize, session: Session, block: &[i32], literals: &mut
         return Moved { session, size: text::unknown(text) };
     }
     let count = fill::store_words(line, third, preferred);
-    let answer = call_run(session, block, literals, kinds, seen, budget, &preferred[..count]);
+    let answer = call_run(session, block, literals, kinds, seen, budget, &preferred[0..count]);
     tell_run(text, session, answer)
+}
+
+fn list(block: &[i32], literals: &mut [i32], kinds: &mut [u8], output: &mut [u32], start: u32, budget: u32, preferred: &[i32], text: &mut [u8]) -> usize
+    requires { ⌜ 21 * length (now output) + 256 ≤ length (now text) ⌝ }
+    ensures { λ r. ⌜ r ≤ length (now (text .entry)) ⌝ }
+{
+    let answer = call_page(block, literals, kinds, output, start, budget, preferred);
+    tell_page(text, output, answer)
 }
 
 // `page START BUDGET P..`
@@ -191,8 +199,7 @@ fn page(line: &[u8], from: usize, block: &[i32], literals: &mut [i32], kinds: &m
         return text::unknown(text);
     }
     let count = fill::store_words(line, third, preferred);
-    let answer = call_page(block, literals, kinds, output, start, budget, &preferred[..count]);
-    tell_page(text, output, answer)
+    list(block, literals, kinds, output, start, budget, &preferred[0..count], text)
 }
 
 // The library is lent each buffer as far as its words are in use.
@@ -248,10 +255,10 @@ pub(crate) fn call_part(
         line,
         from,
         session,
-        &block[..b],
-        &mut literals[..l],
-        &mut kinds[..k],
-        &mut output[..o],
+        &block[0..b],
+        &mut literals[0..l],
+        &mut kinds[0..k],
+        &mut output[0..o],
         preferred,
         text,
     );

@@ -106,5 +106,5 @@ pub(crate) fn answer_held(
     if line.len() < count {
         return Answered { desk, size: text::unknown(text) };
     }
-    answer(&line[..count], desk, block, literals, kinds, output, preferred, text)
+    answer(&line[0..count], desk, block, literals, kinds, output, preferred, text)
 }

@@ -1,7 +1,6 @@
 // The numbers of a line, for a buffer. All are looked at before the first is stored, so that a line that doesn't fit changes nothing.
 ghost use Prim.Native.Nat.{_≤_};
 ghost use lib.ListN.{length};
-ghost use Rattle.console.specs.Desk.{Front};
 use crate::numbers::Next;
 use crate::numbers::NextCount;
 use crate::numbers::NextKind;
@@ -34,7 +33,7 @@ pub(crate) fn all_fit(line: &[u8], from: usize, place: Place, room: usize) -> bo
 
 // Each of these stores the numbers from a place on, as far as they fit, and answers how many there are.
 pub(crate) fn store_words(line: &[u8], from: usize, buffer: &mut [i32]) -> usize
-    ensures { λ r. ⌜ Front r (now (buffer .exit)) ⌝ }
+    ensures { λ r. ⌜ r ≤ length (now (buffer .entry)) ⌝ }
 {
     let mut at = from;
     let mut count = 0;

@@ -1,13 +1,49 @@
-mod desk;
-mod set;
-mod commands;
-mod show;
-mod calls;
-mod line;
-mod numbers;
-mod fill;
-mod text;
+// The console: one desk, served line by line on standard input until that ends. Here it only reads and writes.
+ghost use Prim.Native.Nat.{_≤_};
+ghost use lib.ListN.{length};
+ghost use Rattle.console.specs.Desk.{Within, Roomy};
 
-fn main() {
-    let a = numbers::next_number(b"  12 ", 0, numbers::Place::Kind);
+mod calls; // the lines that call the library
+mod commands; // one line, answered
+mod desk; // the desk between two lines
+mod fill; // the numbers of a line, for a buffer
+mod line; // a line's bytes and words
+mod numbers; // a word's number
+mod set; // the lines that set a part of the desk
+mod show; // the line that shows the desk
+mod text; // the text of an answer
+
+use desk::Desk;
+use libc::STDIN_FILENO;
+use libc::STDOUT_FILENO;
+
+// The console between two reads: the desk, how many bytes have come in of a line that has not ended, and whether it goes on.
+struct Served {
+    desk: Desk,
+    held: usize,
+    on: bool,
 }
+
+// Answers a line, and goes on if the answer could be written.
+fn serve_line(
+    line: &[u8],
+    count: usize,
+    desk: Desk,
+    block: &mut [i32],
+    literals: &mut [i32],
+    kinds: &mut [u8],
+    output: &mut [u32],
+    preferred: &mut [i32],
+    text: &mut [u8],
+) -> Served
+    requires { ⌜ Within desk (length (now block)) (length (now literals)) (length (now kinds)) (length (now output)) ⌝ }
+    requires { ⌜ Roomy (length (now literals)) (length (now kinds)) (length (now output)) (length (now text)) ⌝ }
+    ensures { λ r. ⌜ Within (r .desk) (length (now (block .entry))) (length (now (literals .entry))) (length (now (kinds .entry))) (length (now (output .entry))) ⌝ }
+{
+    let answered = commands::answer_held(line, count, desk, block, literals, kinds, output, preferred, text);
+    let size = answered.size;
+    let on = io::write_all(STDOUT_FILENO, &text[0..size]);
+    let left = answered.desk;
+    Served { desk: left, held: 0, on }
+}
+fn main() {}

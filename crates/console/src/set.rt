@@ -41,7 +41,7 @@ fn set_block(line: &[u8], from: usize, old: usize, block: &mut [i32], text: &mut
         return Set { count: old, size: text::unknown(text) };
     }
     let count = fill::store_words(line, from, block);
-    let n = check(&block[..count]);
+    let n = check(&block[0..count]);
     Set { count, size: text::counted(text, b"block", n as u64) }
 }
 

@@ -1,7 +1,6 @@
 -- A number is stored only where the buffer has room left.
 use mathlib.Core.Path.{_≡_}
 use Prim.Native.Nat.{_-_, _≤_}
-use Rattle.console.specs.Desk.{front}
 use native.Mathlib.Omega.{arith}
 use lib.ListN.{length, length-set}
 use borrow.Author.Needs.{needs}
@@ -30,7 +29,7 @@ same-length : tie.Need-same-length Inv-loop μ-loop
 same-length c = search needs
 
 returns : tie.Need-returns Inv-loop μ-loop
-returns c = front _ _ (search needs)
+returns c = search needs
 
 mul-word : tie.Need-mul-word Inv-loop μ-loop
 mul-word c = search needs
@@ -51,7 +50,7 @@ same-length-2 : tie.Need-same-length-2 Inv-loop μ-loop
 same-length-2 c = search needs
 
 returns-2 : tie.Need-returns-2 Inv-loop μ-loop
-returns-2 c = front _ _ (search needs)
+returns-2 c = search needs
 
 pub store-words-spec : {M : Type 1} → statement M
 store-words-spec =
