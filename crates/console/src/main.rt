@@ -1,5 +1,5 @@
 // The console: one desk, served line by line on standard input until that ends. Here it only reads and writes.
-ghost use Prim.Native.Nat.{_≤_};
+ghost use Prim.Native.Nat.{_<_, _≤_};
 ghost use lib.ListN.{length};
 ghost use Rattle.console.specs.Desk.{Within, Roomy};
 
@@ -17,14 +17,21 @@ use desk::Desk;
 use libc::STDIN_FILENO;
 use libc::STDOUT_FILENO;
 
-// The console between two reads: the desk, how many bytes have come in of a line that has not ended, and whether it goes on.
+// The console between two lines: the desk, and whether the last answer could be written.
 struct Served {
     desk: Desk,
-    held: usize,
     on: bool,
 }
 
-// Answers a line, and goes on if the answer could be written.
+// The console on its way through a part of the input: where that goes on, and how many bytes have come in of a line that has not ended.
+struct Reading {
+    desk: Desk,
+    on: bool,
+    at: usize,
+    held: usize,
+}
+
+// Answers a line.
 fn serve_line(
     line: &[u8],
     count: usize,
@@ -44,6 +51,36 @@ fn serve_line(
     let size = answered.size;
     let on = io::write_all(STDOUT_FILENO, &text[0..size]);
     let left = answered.desk;
-    Served { desk: left, held: 0, on }
+    Served { desk: left, on }
+}
+
+// Takes in a line, or what the part has of it, and answers it if it has ended.
+fn serve_next(
+    part: &[u8],
+    reading: Reading,
+    line: &mut [u8],
+    block: &mut [i32],
+    literals: &mut [i32],
+    kinds: &mut [u8],
+    output: &mut [u32],
+    preferred: &mut [i32],
+    text: &mut [u8],
+) -> Reading
+    requires { ⌜ reading .at < length (now part) ⌝ }
+    requires { ⌜ Within (reading .desk) (length (now block)) (length (now literals)) (length (now kinds)) (length (now output)) ⌝ }
+    requires { ⌜ Roomy (length (now literals)) (length (now kinds)) (length (now output)) (length (now text)) ⌝ }
+    ensures { λ r. ⌜ Within (r .desk) (length (now (block .entry))) (length (now (literals .entry))) (length (now (kinds .entry))) (length (now (output .entry))) ⌝ }
+    ensures { λ r. ⌜ (reading .at < r .at) × (r .at ≤ length (now (part .entry))) ⌝ }
+{
+    let at = reading.at;
+    let held = reading.held;
+    let desk = reading.desk;
+    let gathered = line::gather(part, at, line, held);
+    if !gathered.ended {
+        return Reading { desk, on: true, at: gathered.next, held: gathered.count };
+    }
+    let served = serve_line(line, gathered.count, desk, block, literals, kinds, output, preferred, text);
+    let left = served.desk;
+    Reading { desk: left, on: served.on, at: gathered.next, held: 0 }
 }
 fn main() {}
