@@ -83,4 +83,27 @@ fn serve_next(
     let left = served.desk;
     Reading { desk: left, on: served.on, at: gathered.next, held: 0 }
 }
+
+// Answers each line that ends in a part of the input, as long as answers can be written.
+fn serve_part(
+    part: &[u8],
+    first: Reading,
+    line: &mut [u8],
+    block: &mut [i32],
+    literals: &mut [i32],
+    kinds: &mut [u8],
+    output: &mut [u32],
+    preferred: &mut [i32],
+    text: &mut [u8],
+) -> Reading
+    requires { ⌜ Within (first .desk) (length (now block)) (length (now literals)) (length (now kinds)) (length (now output)) ⌝ }
+    requires { ⌜ Roomy (length (now literals)) (length (now kinds)) (length (now output)) (length (now text)) ⌝ }
+    ensures { λ r. ⌜ Within (r .desk) (length (now (block .entry))) (length (now (literals .entry))) (length (now (kinds .entry))) (length (now (output .entry))) ⌝ }
+{
+    let mut reading = first;
+    while reading.at < part.len() && reading.on {
+        reading = serve_next(part, reading, line, block, literals, kinds, output, preferred, text);
+    }
+    reading
+}
 fn main() {}
