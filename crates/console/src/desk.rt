@@ -1,5 +1,4 @@
 // The desk between two lines.
-ghost use Prim.Native.Nat.{ℕ};
 ghost use Rattle.console.specs.Desk.{Within};
 
 // A session: record length, revision, and the state, 0 open, 1 Valid, 2 Unsat.
@@ -32,7 +31,7 @@ pub(crate) struct Moved {
 
 // "At the start everything is empty and the session is 0 0 0."
 pub(crate) fn empty() -> Desk
-    ensures { λ r. ⌜ ((b l k o : ℕ) → Within r b l k o) ⌝ }
+    ensures { λ r. ⌜ Within r 0 0 0 0 ⌝ }
 {
     let session = Session { length: 0, revision: 0, state: 0 };
     Desk { block: 0, literals: 0, kinds: 0, output: 0, session }

@@ -106,4 +106,56 @@ fn serve_part(
     }
     reading
 }
+
+// Reads once, and serves what came. Where nothing came the input has ended, or can't be read.
+fn serve_read(
+    part: &mut [u8],
+    reading: Reading,
+    line: &mut [u8],
+    block: &mut [i32],
+    literals: &mut [i32],
+    kinds: &mut [u8],
+    output: &mut [u32],
+    preferred: &mut [i32],
+    text: &mut [u8],
+) -> Reading
+    requires { ⌜ Within (reading .desk) (length (now block)) (length (now literals)) (length (now kinds)) (length (now output)) ⌝ }
+    requires { ⌜ Roomy (length (now literals)) (length (now kinds)) (length (now output)) (length (now text)) ⌝ }
+    ensures { λ r. ⌜ Within (r .desk) (length (now (block .entry))) (length (now (literals .entry))) (length (now (kinds .entry))) (length (now (output .entry))) ⌝ }
+{
+    let desk = reading.desk;
+    let held = reading.held;
+    let got = libc::read(STDIN_FILENO, part);
+    let n = io::count(got, part);
+    if n == 0 {
+        return Reading { desk, on: false, at: 0, held };
+    }
+    let first = Reading { desk, on: true, at: 0, held };
+    serve_part(&part[0..n], first, line, block, literals, kinds, output, preferred, text)
+}
+
+// A proved loop has to end, and nothing says that the input does. So the loop counts its turns down, from a number that no run uses up.
+fn serve(
+    part: &mut [u8],
+    line: &mut [u8],
+    block: &mut [i32],
+    literals: &mut [i32],
+    kinds: &mut [u8],
+    output: &mut [u32],
+    preferred: &mut [i32],
+    text: &mut [u8],
+)
+    requires { ⌜ Roomy (length (now literals)) (length (now kinds)) (length (now output)) (length (now text)) ⌝ }
+{
+    let desk = desk::empty();
+    let mut reading = Reading { desk, on: true, at: 0, held: 0 };
+    let mut turns = u64::MAX;
+    while 0 < turns && reading.on {
+        turns -= 1;
+        reading = serve_read(part, reading, line, block, literals, kinds, output, preferred, text);
+    }
+    let left = reading.desk;
+    let held = reading.held;
+    serve_line(line, held, left, block, literals, kinds, output, preferred, text);
+}
 fn main() {}
