@@ -158,4 +158,39 @@ fn serve(
     let held = reading.held;
     serve_line(line, held, left, block, literals, kinds, output, preferred, text);
 }
-fn main() {}
+
+// "Room: 16,384 block words, 2,048 places of record, 8,192 of output, lines of 262,144 bytes." A line has at most half as many words as
+// bytes, which is room enough for preferences.
+fn serve_in(
+    part: &mut [u8; 65536],
+    line: &mut [u8; 262144],
+    block: &mut [i32; 16384],
+    literals: &mut [i32; 2048],
+    kinds: &mut [u8; 2048],
+    output: &mut [u32; 8192],
+    preferred: &mut [i32; 131072],
+    text: &mut [u8; 262144],
+) {
+    serve(part, line, block, literals, kinds, output, preferred, text);
+}
+
+fn main() {
+    let mut part = [0; 65536];
+    let mut line = [0; 262144];
+    let mut block = [0; 16384];
+    let mut literals = [0; 2048];
+    let mut kinds = [0; 2048];
+    let mut output = [0; 8192];
+    let mut preferred = [0; 131072];
+    let mut text = [0; 262144];
+    serve_in(
+        &mut part,
+        &mut line,
+        &mut block,
+        &mut literals,
+        &mut kinds,
+        &mut output,
+        &mut preferred,
+        &mut text,
+    );
+}
