@@ -39,7 +39,11 @@ enum Ran {
 
 // What a page answers: words is how many words of the output its entries fill.
 enum Listed {
-    Until { next: u32, words: usize, paused: bool },
+    Until {
+        next: u32,
+        words: usize,
+        paused: bool,
+    },
     Stopped(u32),
     Unserved,
 }
@@ -54,10 +58,19 @@ fn tell(text: &mut [u8], name: &[u8], session: Session, answer: Answer) -> Moved
             let named = text::put(text, 0, name);
             let first = text::natural(text, named, 0);
             let end = text::session(text, first, next);
-            Moved { session: next, size: text::put(text, end, b"\n") }
+            Moved {
+                session: next,
+                size: text::put(text, end, b"\n"),
+            }
         }
-        Answer::Refused(n) => Moved { session, size: text::counted(text, name, n as u64) },
-        Answer::Unserved => Moved { session, size: text::unknown(text) },
+        Answer::Refused(n) => Moved {
+            session,
+            size: text::counted(text, name, n as u64),
+        },
+        Answer::Unserved => Moved {
+            session,
+            size: text::unknown(text),
+        },
     }
 }
 
@@ -67,15 +80,27 @@ fn tell_run(text: &mut [u8], session: Session, answer: Ran) -> Moved
     ensures { λ r. ⌜ r .size ≤ length (now (text .entry)) ⌝ }
 {
     match answer {
-        Ran::Until { session: next, steps } => {
+        Ran::Until {
+            session: next,
+            steps,
+        } => {
             let named = text::put(text, 0, b"run");
             let first = text::natural(text, named, 0);
             let last = text::session(text, first, next);
             let end = text::natural(text, last, steps as u64);
-            Moved { session: next, size: text::put(text, end, b"\n") }
+            Moved {
+                session: next,
+                size: text::put(text, end, b"\n"),
+            }
         }
-        Ran::Stopped(n) => Moved { session, size: text::counted(text, b"run", n as u64) },
-        Ran::Unserved => Moved { session, size: text::unknown(text) },
+        Ran::Stopped(n) => Moved {
+            session,
+            size: text::counted(text, b"run", n as u64),
+        },
+        Ran::Unserved => Moved {
+            session,
+            size: text::unknown(text),
+        },
     }
 }
 
@@ -97,7 +122,11 @@ fn tell_page(text: &mut [u8], output: &[u32], answer: Listed) -> usize
     ensures { λ r. ⌜ r ≤ length (now (text .entry)) ⌝ }
 {
     match answer {
-        Listed::Until { next, words, paused } => {
+        Listed::Until {
+            next,
+            words,
+            paused,
+        } => {
             let from = put_page(text, next, words, paused);
             let end = text::counts(text, from, output, words);
             text::put(text, end, b"\n")
@@ -112,71 +141,183 @@ fn call_open(block: &[i32], literals: &mut [i32], kinds: &mut [u8], first: u64) 
     Answer::Unserved
 }
 
-fn call_step(session: Session, block: &[i32], literals: &mut [i32], kinds: &mut [u8], seen: u64, proposal: i32) -> Answer {
+fn call_step(
+    session: Session,
+    block: &[i32],
+    literals: &mut [i32],
+    kinds: &mut [u8],
+    seen: u64,
+    proposal: i32,
+) -> Answer {
     Answer::Unserved
 }
 
-fn call_run(session: Session, block: &[i32], literals: &mut [i32], kinds: &mut [u8], seen: u64, budget: u32, preferred: &[i32]) -> Ran {
+fn call_run(
+    session: Session,
+    block: &[i32],
+    literals: &mut [i32],
+    kinds: &mut [u8],
+    seen: u64,
+    budget: u32,
+    preferred: &[i32],
+) -> Ran {
     Ran::Unserved
 }
 
-fn call_page(block: &[i32], literals: &mut [i32], kinds: &mut [u8], output: &mut [u32], start: u32, budget: u32, preferred: &[i32]) -> Listed {
+fn call_page(
+    block: &[i32],
+    literals: &mut [i32],
+    kinds: &mut [u8],
+    output: &mut [u32],
+    start: u32,
+    budget: u32,
+    preferred: &[i32],
+) -> Listed {
     Listed::Unserved
 }
 
 // `open REVISION`
-fn open(line: &[u8], from: usize, session: Session, block: &[i32], literals: &mut [i32], kinds: &mut [u8], text: &mut [u8]) -> Moved
+fn open(
+    line: &[u8],
+    from: usize,
+    session: Session,
+    block: &[i32],
+    literals: &mut [i32],
+    kinds: &mut [u8],
+    text: &mut [u8],
+) -> Moved
     requires { ⌜ 256 ≤ length (now text) ⌝ }
     ensures { λ r. ⌜ r .size ≤ length (now (text .entry)) ⌝ }
 {
-    let Next::Fit { negative: _, size: first, next: end } = next_number(line, from, Place::Long) else {
-        return Moved { session, size: text::unknown(text) };
+    let Next::Fit {
+        negative: _,
+        size: first,
+        next: end,
+    } = next_number(line, from, Place::Long)
+    else {
+        return Moved {
+            session,
+            size: text::unknown(text),
+        };
     };
     let Next::End = next_number(line, end, Place::Long) else {
-        return Moved { session, size: text::unknown(text) };
+        return Moved {
+            session,
+            size: text::unknown(text),
+        };
     };
     let answer = call_open(block, literals, kinds, first);
     tell(text, b"open", session, answer)
 }
 
 // `step SEEN PROPOSAL`
-fn step(line: &[u8], from: usize, session: Session, block: &[i32], literals: &mut [i32], kinds: &mut [u8], text: &mut [u8]) -> Moved
+fn step(
+    line: &[u8],
+    from: usize,
+    session: Session,
+    block: &[i32],
+    literals: &mut [i32],
+    kinds: &mut [u8],
+    text: &mut [u8],
+) -> Moved
     requires { ⌜ 256 ≤ length (now text) ⌝ }
     ensures { λ r. ⌜ r .size ≤ length (now (text .entry)) ⌝ }
 {
-    let Next::Fit { negative: _, size: seen, next: second } = next_number(line, from, Place::Long) else {
-        return Moved { session, size: text::unknown(text) };
+    let Next::Fit {
+        negative: _,
+        size: seen,
+        next: second,
+    } = next_number(line, from, Place::Long)
+    else {
+        return Moved {
+            session,
+            size: text::unknown(text),
+        };
     };
-    let NextWord::Is { word: proposal, next: end } = word_at(line, second) else {
-        return Moved { session, size: text::unknown(text) };
+    let NextWord::Is {
+        word: proposal,
+        next: end,
+    } = word_at(line, second)
+    else {
+        return Moved {
+            session,
+            size: text::unknown(text),
+        };
     };
     let Next::End = next_number(line, end, Place::Word) else {
-        return Moved { session, size: text::unknown(text) };
+        return Moved {
+            session,
+            size: text::unknown(text),
+        };
     };
     let answer = call_step(session, block, literals, kinds, seen, proposal);
     tell(text, b"step", session, answer)
 }
 
 // `run SEEN BUDGET P..`
-fn run(line: &[u8], from: usize, session: Session, block: &[i32], literals: &mut [i32], kinds: &mut [u8], preferred: &mut [i32], text: &mut [u8]) -> Moved
+fn run(
+    line: &[u8],
+    from: usize,
+    session: Session,
+    block: &[i32],
+    literals: &mut [i32],
+    kinds: &mut [u8],
+    preferred: &mut [i32],
+    text: &mut [u8],
+) -> Moved
     requires { ⌜ 256 ≤ length (now text) ⌝ }
     ensures { λ r. ⌜ r .size ≤ length (now (text .entry)) ⌝ }
 {
-    let Next::Fit { negative: _, size: seen, next: second } = next_number(line, from, Place::Long) else {
-        return Moved { session, size: text::unknown(text) };
+    let Next::Fit {
+        negative: _,
+        size: seen,
+        next: second,
+    } = next_number(line, from, Place::Long)
+    else {
+        return Moved {
+            session,
+            size: text::unknown(text),
+        };
     };
-    let NextCount::Is { count: budget, next: third } = count_at(line, second) else {
-        return Moved { session, size: text::unknown(text) };
+    let NextCount::Is {
+        count: budget,
+        next: third,
+    } = count_at(line, second)
+    else {
+        return Moved {
+            session,
+            size: text::unknown(text),
+        };
     };
     if !fill::all_fit(line, third, Place::Word, preferred.len()) {
-        return Moved { session, size: text::unknown(text) };
+        return Moved {
+            session,
+            size: text::unknown(text),
+        };
     }
     let count = fill::store_words(line, third, preferred);
-    let answer = call_run(session, block, literals, kinds, seen, budget, &preferred[0..count]);
+    let answer = call_run(
+        session,
+        block,
+        literals,
+        kinds,
+        seen,
+        budget,
+        &preferred[0..count],
+    );
     tell_run(text, session, answer)
 }
 
-fn list(block: &[i32], literals: &mut [i32], kinds: &mut [u8], output: &mut [u32], start: u32, budget: u32, preferred: &[i32], text: &mut [u8]) -> usize
+fn list(
+    block: &[i32],
+    literals: &mut [i32],
+    kinds: &mut [u8],
+    output: &mut [u32],
+    start: u32,
+    budget: u32,
+    preferred: &[i32],
+    text: &mut [u8],
+) -> usize
     requires { ⌜ 21 * length (now output) + 256 ≤ length (now text) ⌝ }
     ensures { λ r. ⌜ r ≤ length (now (text .entry)) ⌝ }
 {
@@ -185,21 +326,47 @@ fn list(block: &[i32], literals: &mut [i32], kinds: &mut [u8], output: &mut [u32
 }
 
 // `page START BUDGET P..`
-fn page(line: &[u8], from: usize, block: &[i32], literals: &mut [i32], kinds: &mut [u8], output: &mut [u32], preferred: &mut [i32], text: &mut [u8]) -> usize
+fn page(
+    line: &[u8],
+    from: usize,
+    block: &[i32],
+    literals: &mut [i32],
+    kinds: &mut [u8],
+    output: &mut [u32],
+    preferred: &mut [i32],
+    text: &mut [u8],
+) -> usize
     requires { ⌜ 21 * length (now output) + 256 ≤ length (now text) ⌝ }
     ensures { λ r. ⌜ r ≤ length (now (text .entry)) ⌝ }
 {
-    let NextCount::Is { count: start, next: second } = count_at(line, from) else {
+    let NextCount::Is {
+        count: start,
+        next: second,
+    } = count_at(line, from)
+    else {
         return text::unknown(text);
     };
-    let NextCount::Is { count: budget, next: third } = count_at(line, second) else {
+    let NextCount::Is {
+        count: budget,
+        next: third,
+    } = count_at(line, second)
+    else {
         return text::unknown(text);
     };
     if !fill::all_fit(line, third, Place::Word, preferred.len()) {
         return text::unknown(text);
     }
     let count = fill::store_words(line, third, preferred);
-    list(block, literals, kinds, output, start, budget, &preferred[0..count], text)
+    list(
+        block,
+        literals,
+        kinds,
+        output,
+        start,
+        budget,
+        &preferred[0..count],
+        text,
+    )
 }
 
 // The library is lent each buffer as far as its words are in use.
@@ -264,5 +431,8 @@ pub(crate) fn call_part(
     );
     let next = moved.session;
     desk.session = next;
-    Answered { desk, size: moved.size }
+    Answered {
+        desk,
+        size: moved.size,
+    }
 }

@@ -81,9 +81,26 @@ fn answer(
     let command = named(&line[start..end]);
     match command {
         Command::Set(part) => set_part(part, line, end, desk, block, literals, kinds, output, text),
-        Command::Does(call) => call_part(call, line, end, desk, block, literals, kinds, output, preferred, text),
-        Command::Show => Answered { desk, size: show(line, end, desk, literals, kinds, output, text) },
-        Command::Unknown => Answered { desk, size: text::unknown(text) },
+        Command::Does(call) => call_part(
+            call,
+            line,
+            end,
+            desk,
+            block,
+            literals,
+            kinds,
+            output,
+            preferred,
+            text,
+        ),
+        Command::Show => Answered {
+            desk,
+            size: show(line, end, desk, literals, kinds, output, text),
+        },
+        Command::Unknown => Answered {
+            desk,
+            size: text::unknown(text),
+        },
     }
 }
 
@@ -104,7 +121,19 @@ pub(crate) fn answer_held(
     ensures { λ r. ⌜ Leaves r (length (now (block .entry))) (length (now (literals .entry))) (length (now (kinds .entry))) (length (now (output .entry))) (length (now (text .entry))) ⌝ }
 {
     if line.len() < count {
-        return Answered { desk, size: text::unknown(text) };
+        return Answered {
+            desk,
+            size: text::unknown(text),
+        };
     }
-    answer(&line[0..count], desk, block, literals, kinds, output, preferred, text)
+    answer(
+        &line[0..count],
+        desk,
+        block,
+        literals,
+        kinds,
+        output,
+        preferred,
+        text,
+    )
 }

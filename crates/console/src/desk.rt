@@ -33,6 +33,16 @@ pub(crate) struct Moved {
 pub(crate) fn empty() -> Desk
     ensures { λ r. ⌜ Within r 0 0 0 0 ⌝ }
 {
-    let session = Session { length: 0, revision: 0, state: 0 };
-    Desk { block: 0, literals: 0, kinds: 0, output: 0, session }
+    let session = Session {
+        length: 0,
+        revision: 0,
+        state: 0,
+    };
+    Desk {
+        block: 0,
+        literals: 0,
+        kinds: 0,
+        output: 0,
+        session,
+    }
 }

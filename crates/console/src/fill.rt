@@ -12,13 +12,16 @@ use crate::numbers::next_number;
 use crate::numbers::word_at;
 
 // Whether every word from a place on is a number that fits, and they are no more than there is room for.
-pub(crate) fn all_fit(line: &[u8], from: usize, place: Place, room: usize) -> bool
-{
+pub(crate) fn all_fit(line: &[u8], from: usize, place: Place, room: usize) -> bool {
     let mut at = from;
     let mut count = 0;
     loop {
         match next_number(line, at, place) {
-            Next::Fit { negative: _, size: _, next } => {
+            Next::Fit {
+                negative: _,
+                size: _,
+                next,
+            } => {
                 if count == room {
                     return false;
                 }

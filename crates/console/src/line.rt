@@ -29,7 +29,11 @@ pub(crate) fn gather(part: &[u8], from: usize, line: &mut [u8], held: usize) -> 
         let b = part[i];
         i += 1;
         if b == b'\n' {
-            return Gathered { next: i, count, ended: true };
+            return Gathered {
+                next: i,
+                count,
+                ended: true,
+            };
         }
         if count < line.len() {
             line[count] = b;
@@ -38,7 +42,11 @@ pub(crate) fn gather(part: &[u8], from: usize, line: &mut [u8], held: usize) -> 
             count = line.len() + 1;
         }
     }
-    Gathered { next: i, count, ended: false }
+    Gathered {
+        next: i,
+        count,
+        ended: false,
+    }
 }
 
 // Where the next word begins.

@@ -47,7 +47,17 @@ fn serve_line(
     requires { ⌜ Roomy (length (now literals)) (length (now kinds)) (length (now output)) (length (now text)) ⌝ }
     ensures { λ r. ⌜ Within (r .desk) (length (now (block .entry))) (length (now (literals .entry))) (length (now (kinds .entry))) (length (now (output .entry))) ⌝ }
 {
-    let answered = commands::answer_held(line, count, desk, block, literals, kinds, output, preferred, text);
+    let answered = commands::answer_held(
+        line,
+        count,
+        desk,
+        block,
+        literals,
+        kinds,
+        output,
+        preferred,
+        text,
+    );
     let size = answered.size;
     let on = io::write_all(STDOUT_FILENO, &text[0..size]);
     let left = answered.desk;
@@ -77,11 +87,31 @@ fn serve_next(
     let desk = reading.desk;
     let gathered = line::gather(part, at, line, held);
     if !gathered.ended {
-        return Reading { desk, on: true, at: gathered.next, held: gathered.count };
+        return Reading {
+            desk,
+            on: true,
+            at: gathered.next,
+            held: gathered.count,
+        };
     }
-    let served = serve_line(line, gathered.count, desk, block, literals, kinds, output, preferred, text);
+    let served = serve_line(
+        line,
+        gathered.count,
+        desk,
+        block,
+        literals,
+        kinds,
+        output,
+        preferred,
+        text,
+    );
     let left = served.desk;
-    Reading { desk: left, on: served.on, at: gathered.next, held: 0 }
+    Reading {
+        desk: left,
+        on: served.on,
+        at: gathered.next,
+        held: 0,
+    }
 }
 
 // Answers each line that ends in a part of the input, as long as answers can be written.
@@ -102,7 +132,17 @@ fn serve_part(
 {
     let mut reading = first;
     while reading.at < part.len() && reading.on {
-        reading = serve_next(part, reading, line, block, literals, kinds, output, preferred, text);
+        reading = serve_next(
+            part,
+            reading,
+            line,
+            block,
+            literals,
+            kinds,
+            output,
+            preferred,
+            text,
+        );
     }
     reading
 }
@@ -128,10 +168,30 @@ fn serve_read(
     let got = libc::read(STDIN_FILENO, part);
     let n = io::count(got, part);
     if n == 0 {
-        return Reading { desk, on: false, at: 0, held };
+        return Reading {
+            desk,
+            on: false,
+            at: 0,
+            held,
+        };
     }
-    let first = Reading { desk, on: true, at: 0, held };
-    serve_part(&part[0..n], first, line, block, literals, kinds, output, preferred, text)
+    let first = Reading {
+        desk,
+        on: true,
+        at: 0,
+        held,
+    };
+    serve_part(
+        &part[0..n],
+        first,
+        line,
+        block,
+        literals,
+        kinds,
+        output,
+        preferred,
+        text,
+    )
 }
 
 // A proved loop has to end, and nothing says that the input does. So the loop counts its turns down, from a number that no run uses up.
@@ -148,15 +208,40 @@ fn serve(
     requires { ⌜ Roomy (length (now literals)) (length (now kinds)) (length (now output)) (length (now text)) ⌝ }
 {
     let desk = desk::empty();
-    let mut reading = Reading { desk, on: true, at: 0, held: 0 };
+    let mut reading = Reading {
+        desk,
+        on: true,
+        at: 0,
+        held: 0,
+    };
     let mut turns = u64::MAX;
     while 0 < turns && reading.on {
         turns -= 1;
-        reading = serve_read(part, reading, line, block, literals, kinds, output, preferred, text);
+        reading = serve_read(
+            part,
+            reading,
+            line,
+            block,
+            literals,
+            kinds,
+            output,
+            preferred,
+            text,
+        );
     }
     let left = reading.desk;
     let held = reading.held;
-    serve_line(line, held, left, block, literals, kinds, output, preferred, text);
+    serve_line(
+        line,
+        held,
+        left,
+        block,
+        literals,
+        kinds,
+        output,
+        preferred,
+        text,
+    );
 }
 
 // "Room: 16,384 block words, 2,048 places of record, 8,192 of output, lines of 262,144 bytes." A line has at most half as many words as

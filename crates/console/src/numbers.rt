@@ -28,7 +28,11 @@ pub(crate) enum Place {
 
 // The next number of a line, and where the line goes on behind it.
 pub(crate) enum Next {
-    Fit { negative: bool, size: u64, next: usize },
+    Fit {
+        negative: bool,
+        size: u64,
+        next: usize,
+    },
     Unfit,
     End,
 }
@@ -107,7 +111,11 @@ pub(crate) fn next_number(line: &[u8], from: usize, place: Place) -> Next
     match number_of(&line[start..end]) {
         Number::Is { negative, size } => {
             if size <= largest(place, negative) {
-                Next::Fit { negative, size, next: end }
+                Next::Fit {
+                    negative,
+                    size,
+                    next: end,
+                }
             } else {
                 Next::Unfit
             }
@@ -140,26 +148,54 @@ fn signed(negative: bool, size: u64) -> i32
     ensures { λ r. ⌜ r ≡ signedOf negative size ⌝ }
 {
     let wide = size as i64;
-    if negative { (0 - wide) as i32 } else { wide as i32 }
+    if negative {
+        (0 - wide) as i32
+    } else {
+        wide as i32
+    }
 }
 
 pub(crate) fn word_at(line: &[u8], from: usize) -> NextWord {
-    let Next::Fit { negative, size, next } = next_number(line, from, Place::Word) else {
+    let Next::Fit {
+        negative,
+        size,
+        next,
+    } = next_number(line, from, Place::Word)
+    else {
         return NextWord::NoWord;
     };
-    NextWord::Is { word: signed(negative, size), next }
+    NextWord::Is {
+        word: signed(negative, size),
+        next,
+    }
 }
 
 pub(crate) fn kind_at(line: &[u8], from: usize) -> NextKind {
-    let Next::Fit { negative: _, size, next } = next_number(line, from, Place::Kind) else {
+    let Next::Fit {
+        negative: _,
+        size,
+        next,
+    } = next_number(line, from, Place::Kind)
+    else {
         return NextKind::NoKind;
     };
-    NextKind::Is { kind: size as u8, next }
+    NextKind::Is {
+        kind: size as u8,
+        next,
+    }
 }
 
 pub(crate) fn count_at(line: &[u8], from: usize) -> NextCount {
-    let Next::Fit { negative: _, size, next } = next_number(line, from, Place::Count) else {
+    let Next::Fit {
+        negative: _,
+        size,
+        next,
+    } = next_number(line, from, Place::Count)
+    else {
         return NextCount::NoCount;
     };
-    NextCount::Is { count: size as u32, next }
+    NextCount::Is {
+        count: size as u32,
+        next,
+    }
 }

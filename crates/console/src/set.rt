@@ -38,11 +38,17 @@ fn set_block(line: &[u8], from: usize, old: usize, block: &mut [i32], text: &mut
     ensures { λ r. ⌜ Sets r (length (now (block .entry))) (length (now (text .entry))) ⌝ }
 {
     if !fill::all_fit(line, from, Place::Word, block.len()) {
-        return Set { count: old, size: text::unknown(text) };
+        return Set {
+            count: old,
+            size: text::unknown(text),
+        };
     }
     let count = fill::store_words(line, from, block);
     let n = check(&block[0..count]);
-    Set { count, size: text::counted(text, b"block", n as u64) }
+    Set {
+        count,
+        size: text::counted(text, b"block", n as u64),
+    }
 }
 
 // `lits W..`
@@ -52,10 +58,16 @@ fn set_literals(line: &[u8], from: usize, old: usize, literals: &mut [i32], text
     ensures { λ r. ⌜ Sets r (length (now (literals .entry))) (length (now (text .entry))) ⌝ }
 {
     if !fill::all_fit(line, from, Place::Word, literals.len()) {
-        return Set { count: old, size: text::unknown(text) };
+        return Set {
+            count: old,
+            size: text::unknown(text),
+        };
     }
     let count = fill::store_words(line, from, literals);
-    Set { count, size: text::counted(text, b"lits", count as u64) }
+    Set {
+        count,
+        size: text::counted(text, b"lits", count as u64),
+    }
 }
 
 // `kinds B..`
@@ -65,10 +77,16 @@ fn set_kinds(line: &[u8], from: usize, old: usize, kinds: &mut [u8], text: &mut 
     ensures { λ r. ⌜ Sets r (length (now (kinds .entry))) (length (now (text .entry))) ⌝ }
 {
     if !fill::all_fit(line, from, Place::Kind, kinds.len()) {
-        return Set { count: old, size: text::unknown(text) };
+        return Set {
+            count: old,
+            size: text::unknown(text),
+        };
     }
     let count = fill::store_kinds(line, from, kinds);
-    Set { count, size: text::counted(text, b"kinds", count as u64) }
+    Set {
+        count,
+        size: text::counted(text, b"kinds", count as u64),
+    }
 }
 
 // `out W..`
@@ -78,10 +96,16 @@ fn set_output(line: &[u8], from: usize, old: usize, output: &mut [u32], text: &m
     ensures { λ r. ⌜ Sets r (length (now (output .entry))) (length (now (text .entry))) ⌝ }
 {
     if !fill::all_fit(line, from, Place::Count, output.len()) {
-        return Set { count: old, size: text::unknown(text) };
+        return Set {
+            count: old,
+            size: text::unknown(text),
+        };
     }
     let count = fill::store_counts(line, from, output);
-    Set { count, size: text::counted(text, b"out", count as u64) }
+    Set {
+        count,
+        size: text::counted(text, b"out", count as u64),
+    }
 }
 
 // `session LENGTH REVISION STATE`
@@ -89,25 +113,59 @@ fn set_session(line: &[u8], from: usize, session: Session, text: &mut [u8]) -> M
     requires { ⌜ 256 ≤ length (now text) ⌝ }
     ensures { λ r. ⌜ r .size ≤ length (now (text .entry)) ⌝ }
 {
-    let Next::Fit { negative: _, size: length, next: second } = next_number(line, from, Place::Long) else {
-        return Moved { session, size: text::unknown(text) };
+    let Next::Fit {
+        negative: _,
+        size: length,
+        next: second,
+    } = next_number(line, from, Place::Long)
+    else {
+        return Moved {
+            session,
+            size: text::unknown(text),
+        };
     };
-    let Next::Fit { negative: _, size: revision, next: third } = next_number(line, second, Place::Long) else {
-        return Moved { session, size: text::unknown(text) };
+    let Next::Fit {
+        negative: _,
+        size: revision,
+        next: third,
+    } = next_number(line, second, Place::Long)
+    else {
+        return Moved {
+            session,
+            size: text::unknown(text),
+        };
     };
-    let Next::Fit { negative: _, size: number, next: end } = next_number(line, third, Place::State) else {
-        return Moved { session, size: text::unknown(text) };
+    let Next::Fit {
+        negative: _,
+        size: number,
+        next: end,
+    } = next_number(line, third, Place::State)
+    else {
+        return Moved {
+            session,
+            size: text::unknown(text),
+        };
     };
     let Next::End = next_number(line, end, Place::State) else {
-        return Moved { session, size: text::unknown(text) };
+        return Moved {
+            session,
+            size: text::unknown(text),
+        };
     };
     let state = match number {
         0 => 0,
         1 => 1,
         _ => 2,
     };
-    let set = Session { length: length as usize, revision, state };
-    Moved { session: set, size: text::put(text, 0, b"session\n") }
+    let set = Session {
+        length: length as usize,
+        revision,
+        state,
+    };
+    Moved {
+        session: set,
+        size: text::put(text, 0, b"session\n"),
+    }
 }
 
 // What is set stays within the buffers.
@@ -130,29 +188,44 @@ pub(crate) fn set_part(
         Part::Block => {
             let set = set_block(line, from, desk.block, block, text);
             desk.block = set.count;
-            Answered { desk, size: set.size }
+            Answered {
+                desk,
+                size: set.size,
+            }
         }
         Part::Literals => {
             let set = set_literals(line, from, desk.literals, literals, text);
             desk.literals = set.count;
-            Answered { desk, size: set.size }
+            Answered {
+                desk,
+                size: set.size,
+            }
         }
         Part::Kinds => {
             let set = set_kinds(line, from, desk.kinds, kinds, text);
             desk.kinds = set.count;
-            Answered { desk, size: set.size }
+            Answered {
+                desk,
+                size: set.size,
+            }
         }
         Part::Output => {
             let set = set_output(line, from, desk.output, output, text);
             desk.output = set.count;
-            Answered { desk, size: set.size }
+            Answered {
+                desk,
+                size: set.size,
+            }
         }
         Part::Session => {
             let session = desk.session;
             let moved = set_session(line, from, session, text);
             let next = moved.session;
             desk.session = next;
-            Answered { desk, size: moved.size }
+            Answered {
+                desk,
+                size: moved.size,
+            }
         }
     }
 }

@@ -49,7 +49,15 @@ fn put_desk(text: &mut [u8], desk: Desk, literals: &[i32], kinds: &[u8], output:
     text::put(text, end, b"\n")
 }
 
-pub(crate) fn show(line: &[u8], from: usize, desk: Desk, literals: &[i32], kinds: &[u8], output: &[u32], text: &mut [u8]) -> usize
+pub(crate) fn show(
+    line: &[u8],
+    from: usize,
+    desk: Desk,
+    literals: &[i32],
+    kinds: &[u8],
+    output: &[u32],
+    text: &mut [u8],
+) -> usize
     requires { ⌜ Roomy (length (now literals)) (length (now kinds)) (length (now output)) (length (now text)) ⌝ }
     ensures { λ r. ⌜ r ≤ length (now (text .entry)) ⌝ }
 {
