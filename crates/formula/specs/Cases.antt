@@ -13,3 +13,8 @@ use Rattle.formula.specs.Block.{refusal, twice, badEnds, bothSigns}
 caseC : refusal limits (pos 2 ∷ pos 2 ∷ pos 4 ∷ pos 6 ∷ pos 8 ∷ pos 10 ∷ pos 1 ∷ negℤ (pos 2) ∷ pos 2 ∷ pos 4 ∷ pos 2 ∷ negℤ (pos 1) ∷ negℤ (pos 2) ∷ pos 1 ∷ []) ≡ 7
 unfolding refusal limits all any eqZ mem clausesFrom twice badEnds bothSigns
 caseC = refl
+
+-- L: "word -2147483648 as a clause literal gives 9"
+caseL : refusal limits (pos 1 ∷ pos 1 ∷ pos 1 ∷ pos 6 ∷ pos 7 ∷ pos 8 ∷ pos 1 ∷ pos 1 ∷ negℤ (pos 2147483648) ∷ []) ≡ 9
+unfolding refusal limits all any eqZ mem clausesFrom twice badEnds bothSigns
+caseL = refl

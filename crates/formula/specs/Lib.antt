@@ -2,6 +2,15 @@
 pub mod Limits
 pub mod Formula
 pub mod Block
+pub mod Named
+pub mod Ends
+pub mod Once
+pub mod Clauses
+pub mod Layout
+pub mod Prefix
+pub mod Check
+pub mod Tables
 pub mod Proper
+pub mod Accepted
 pub mod Truth
 pub mod Cases

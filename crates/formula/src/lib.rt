@@ -1,1 +1,43 @@
 // The formula block: a checker with refusals 1 to 10.
+ghost use mathlib.Core.Path.{_≡_};
+ghost use Rattle.formula.specs.Limits.{limits};
+ghost use Rattle.formula.specs.Block.{refusal};
+ghost use Rattle.formula.specs.Check.{checkedOf};
+
+mod header; // the counts and the offsets
+mod parts; // the prefix, the clause ends and the literals
+mod marks; // which variables or literals were seen
+
+// What the check answers: a refused block has the number of the first row that applies to it.
+pub enum Checked {
+    Accepted,
+    Refused(u32),
+}
+
+// The limits: every table's size goes by them. specs/Limits has the same three numbers, and says that they are these.
+pub const MAX_VARIABLES: usize = 256;
+
+pub const MAX_CLAUSES: usize = 1024;
+
+pub const MAX_LITERALS: usize = 4096;
+
+// Rows 1 to 4 are about the header; with a header as it should be, the parts lie within the block.
+pub fn check(block: &[i32]) -> Checked
+    ensures { λ r. ⌜ r ≡ checkedOf (refusal limits (now (block .entry))) ⌝ }
+{
+    if block.len() < 6 {
+        return Checked::Refused(1);
+    }
+    if header::bad_counts(block) {
+        return Checked::Refused(2);
+    }
+    let ends = 6 + words::size_at(block, 0);
+    let literals = ends + words::size_at(block, 1);
+    if header::bad_offsets(block, ends, literals) {
+        return Checked::Refused(3);
+    }
+    if block.len() != literals + words::size_at(block, 2) {
+        return Checked::Refused(4);
+    }
+    parts::check_parts(&block[6..ends], &block[ends..literals], &block[literals..])
+}

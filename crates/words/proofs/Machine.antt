@@ -1,13 +1,13 @@
 -- What the machine reads back from a word's bits is the word: it fits, and fits the wider type too.
-use mathlib.Core.Path.{_≡_, refl, sym, ap, _∙_}
-use mathlib.Core.Bool.{Bool, true, false}
+use mathlib.Core.Path.{_≡_, refl, ap, _∙_}
+use mathlib.Core.Bool.{true, false}
 use Prim.Native.Nat.{ℕ, zero, suc, _+_, _-_, _≤_, _<_, _^_, zero-le}
 use native.Mathlib.Nat.{lt-trans, lt-of-le-of-lt}
 use native.Mathlib.Omega.{arith}
 use lib.Dec.{T, lit<}
 use lib.IntN.{ℤ, pos, negsuc, negℤ, natAbs, _-ℤ_}
-use lib.Signed.{ltZ, nonNeg, mag, natAbs-le}
-use borrow.Author.Tests.{le-ltb, ltb-true}
+use lib.Signed.{ltZ, nonNeg, natAbs-le}
+use borrow.Author.Tests.{le-ltb}
 use mir.Syntax.{w32, w64}
 use mir.Val.{SFits, Fits, toZ, ofZ}
 use mir.ValLaws.{toZ-ofZ}

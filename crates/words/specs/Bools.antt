@@ -1,5 +1,5 @@
 -- The Booleans' small change: a test taken apart, put together, or looked at. Each by the cases of its test.
-use mathlib.Core.Path.{_≡_, refl, sym}
+use mathlib.Core.Path.{_≡_, refl, sym, _∙_}
 use mathlib.Core.Logic.{_⊎_, inl, inr}
 use mathlib.Core.Bool.{Bool, true, false, not, _&&_, _||_}
 use Prim.Native.Nat.{ℕ}
@@ -71,3 +71,10 @@ bool-eq false false f g = refl
 pub to-false : (a : Bool) → (a ≡ true → ⊥) → a ≡ false
 to-false true f = absurd (f refl)
 to-false false f = refl
+
+-- a test made in two halves, as code makes it: the first half decides, or the second does
+pub or-first : {r a : Bool} (b : Bool) → r ≡ a → r ≡ true → r ≡ (a || b)
+or-first b e t = t ∙ sym (or-l b (sym e ∙ t))
+
+pub or-second : {r a s : Bool} (b : Bool) → r ≡ a → r ≡ false → s ≡ b → s ≡ (a || b)
+or-second b e f g = rw (← e, f) g

@@ -2,3 +2,4 @@
 pub mod Bools
 pub mod Lists
 pub mod Words
+pub mod Counts

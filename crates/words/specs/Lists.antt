@@ -1,11 +1,12 @@
 -- Lists: membership, tests of all and of some elements, and the list as a loop sees it. Each by induction on the list.
-use mathlib.Core.Path.{_≡_, refl}
+use mathlib.Core.Path.{_≡_, refl, sym}
 use mathlib.Core.Logic.{_⊎_, inl, inr}
 use mathlib.Core.Bool.{Bool, true, false, _&&_, _||_}
 use mathlib.Core.List.{List, [], _∷_}
-use Prim.Native.Nat.{ℕ, _+_, _≤_, _<_}
+use Prim.Native.Nat.{ℕ, zero, suc, _+_, _≤_, _<_, zero-le, suc-le-suc}
+use native.Mathlib.Nat.{not-suc-le-zero, le-of-suc-le-suc}
 use native.Mathlib.Numerals.{add-one}
-use lib.ListN.{length, getD, drop, drop-of-length-le}
+use lib.ListN.{length, getD, take, drop, drop-of-length-le}
 use lib.Seq.{drop-cons}
 use Rattle.words.specs.Bools.{clash, and-l, and-r, and-i, or-e, or-l, or-r, to-false}
 
@@ -64,3 +65,50 @@ module _ {A : Type 0} where
 
   pub ended : (xs : List A) (i : ℕ) → length xs ≤ i → drop i xs ≡ []
   ended xs i h = drop-of-length-le xs h
+
+  -- a loop's test of some element: it is found at i, it is looked for further on, it is not there
+  module _ (f : A → Bool) (xs : List A) (i : ℕ) where
+    pub any-found : (d : A) → i < length xs → f (getD xs i d) ≡ true → any f (drop i xs) ≡ true
+    unfolding any
+    any-found d h e = rw (next xs i d h, e)
+
+    pub any-past : (d : A) → i < length xs → f (getD xs i d) ≡ false → any f (drop (i + 1) xs) ≡ any f (drop i xs)
+    unfolding any
+    any-past d h e = rw (next xs i d h, e)
+
+    pub any-ended : length xs ≤ i → any f (drop i xs) ≡ false
+    unfolding any
+    any-ended h = rw (ended xs i h)
+
+    -- and of all elements
+    pub all-failed : (d : A) → i < length xs → f (getD xs i d) ≡ false → all f (drop i xs) ≡ false
+    unfolding all
+    all-failed d h e = rw (next xs i d h, e)
+
+    pub all-past : (d : A) → i < length xs → f (getD xs i d) ≡ true → all f (drop (i + 1) xs) ≡ all f (drop i xs)
+    unfolding all
+    all-past d h e = rw (next xs i d h, e)
+
+    pub all-ended : length xs ≤ i → all f (drop i xs) ≡ true
+    unfolding all
+    all-ended h = rw (ended xs i h)
+
+  -- an element by its place, and the place of an element
+  pub in-at : (xs : List A) (i : ℕ) (d : A) → i < length xs → In (getD xs i d) xs
+  in-at [] i d h = absurd (not-suc-le-zero h)
+  in-at (x ∷ xs) zero d h = here refl
+  in-at (x ∷ xs) (suc i) d h = there (in-at xs i d (le-of-suc-le-suc h))
+
+  pub at-in : {x : A} {xs : List A} (d : A) → In x xs → (i : ℕ) × (i < length xs) × (getD xs i d ≡ x)
+  at-in d (here {y = y} e) = (0, suc-le-suc zero-le, sym e)
+  at-in d (there i) = let r = at-in d i in (suc (r .0), suc-le-suc (r .1), r .2)
+
+  -- what stands in a part stands in the whole
+  pub in-drop : (n : ℕ) (xs : List A) {x : A} → In x (drop n xs) → In x xs
+  in-drop zero xs i = i
+  in-drop (suc n) [] i = i
+  in-drop (suc n) (y ∷ xs) i = there (in-drop n xs i)
+
+  pub in-take : (n : ℕ) (xs : List A) {x : A} → In x (take n xs) → In x xs
+  in-take (suc n) (y ∷ xs) (here e) = here e
+  in-take (suc n) (y ∷ xs) (there i) = there (in-take n xs i)

@@ -1,7 +1,4 @@
 -- The test reads the word itself back.
-use mathlib.Core.Path.{_∙_, ap}
-use lib.IntN.{ℤ, pos}
-use lib.Signed.{ltZ}
 use Rattle.words.proofs.Machine.{below-zero, read}
 use Rattle.words.proofs.negative.Statement.{statement}
 use Rattle.words.proofs.negative.Tie as tie

@@ -1,0 +1,58 @@
+-- Row 10 clause by clause: from the i-th end on, some clause has both signs exactly if some clause of all has; no mark has the next stamp yet.
+use mathlib.Core.Path.{_≡_, refl}
+use mathlib.Core.Bool.{Bool, true, false}
+use mathlib.Core.List.{List}
+use Prim.Native.Nat.{ℕ, _+_, _-_, _≤_, _<_}
+use native.Mathlib.Omega.{arith}
+use lib.IntN.{ℤ, pos, natAbs}
+use lib.ListN.{length, take, drop, getD, replicate, length-replicate}
+use Rattle.words.specs.Lists.{any}
+use Rattle.formula.specs.Formula.{clausesFrom}
+use Rattle.formula.specs.Block.{badEnds, bothSigns}
+use Rattle.formula.specs.Ends.{good-end}
+use Rattle.formula.specs.Clauses.{clauses-at, clauses-ended}
+use Rattle.formula.specs.Tables.{Fresh}
+use Rattle.formula.proofs.Seen.{blank}
+
+pub record Looked (ls es : List ℤ) (n : ℕ) (marks : List ℕ) (from i : ℕ) : Type 0 where
+  pub at : i ≤ length es
+  pub fresh : Fresh n (i + 1) marks
+  pub good : badEnds (length ls) from (drop i es) ≡ false
+  pub same : any bothSigns (clausesFrom ls from (drop i es)) ≡ any bothSigns (clausesFrom ls 0 es)
+
+pub begin : (ls es : List ℤ) (n : ℕ) → badEnds (length ls) 0 es ≡ false → Looked ls es n (replicate (n + n + 2) 0) 0 0
+begin ls es n good =
+    record {
+      at = omega arith;
+      fresh = record { room = length-replicate {A = ℕ} (n + n + 2) 0; under = λ k. omega (arith, blank {A = ℕ} 0 (n + n + 2) k) };
+      good = good;
+      same = refl;
+    }
+
+module _ (ls es : List ℤ) (n : ℕ) (marks : List ℕ) (from i : ℕ) (p : Looked ls es n marks from i) where
+  pub end : length es ≤ i → false ≡ any bothSigns (clausesFrom ls 0 es)
+  unfolding any
+  end h = rw (clauses-ended ls from es i h) at (p .same)
+
+  module _ (h : i < length es) (e : ℕ) (is : e ≡ natAbs (getD es i (pos 0))) where
+    -- the clause lies between `from` and its end, within the literals
+    pub rises : from ≤ e
+    rises = omega (arith, good-end (length ls) from es i (p .good) h .rises)
+
+    pub fits : e ≤ length ls
+    fits = omega (arith, good-end (length ls) from es i (p .good) h .fits)
+
+    module _ (r : Bool) (found : r ≡ bothSigns (take (e - from) (drop from ls))) where
+      pub hit : r ≡ true → true ≡ any bothSigns (clausesFrom ls 0 es)
+      unfolding any
+      hit t = rw (clauses-at ls from es i h, ← is, ← found, t) at (p .same)
+
+      pub more : r ≡ false → (marks′ : List ℕ) → Fresh n (i + 1 + 1) marks′ → Looked ls es n marks′ e (i + 1)
+      unfolding any
+      more f marks′ fresh =
+          record {
+            at = omega arith;
+            fresh = fresh;
+            good = rw is (good-end (length ls) from es i (p .good) h .rest);
+            same = rw (clauses-at ls from es i h, ← is, ← found, f) at (p .same);
+          }

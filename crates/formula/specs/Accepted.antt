@@ -1,0 +1,139 @@
+-- What an accepted block is, row by row and place by place: for whoever works on a block that was checked.
+use mathlib.Core.Path.{_≡_, refl, sym, _∙_, ap}
+use mathlib.Core.Bool.{Bool, true, false, not}
+use mathlib.Core.Logic.{_⊎_}
+use mathlib.Core.List.{List, [], _∷_}
+use Prim.Native.Nat.{ℕ, suc, _+_, _-_, _≤_, _<_}
+use native.Mathlib.Omega.{arith}
+use lib.Dec.{eqb}
+use lib.IntN.{ℤ, pos, natAbs}
+use lib.ListN.{length, getD}
+use borrow.Author.Tests.{ltb-false, lt-ltb, eqb-true, not-false}
+use Rattle.words.specs.Bools.{to-false}
+use Rattle.words.specs.Lists.{In, any, any-e, in-at, at-in}
+use Rattle.words.specs.Words.{negative, mem, mem-e}
+use Rattle.formula.specs.Limits.{Limits}
+use Rattle.formula.specs.Formula.{word, variablesOf, clauseCountOf, literalCountOf, prefixOf, endsOf, literalsOf, clausesFrom, formulaOf, existential, universal}
+use Rattle.formula.specs.Block.{noVariable, names, twice, badEnds, bothSigns, first, rows, refusal}
+use Rattle.formula.specs.Named.{Named, AllNamed, named, in-named, all-named}
+use Rattle.formula.specs.Ends.{GoodEnd, startOf, good-at}
+use Rattle.formula.specs.Clauses.{clauses-in}
+use Rattle.formula.specs.Layout as layout
+use Rattle.formula.specs.Prefix as bound
+use Rattle.formula.specs.Proper.{Proper}
+
+pub record Accepted (L : Limits) (b : List ℤ) : Type 0 where
+  -- 1 to 4: the header
+  pub long : 6 ≤ length b
+  pub counts : layout.Counts L b
+  pub offsets : layout.Offsets b
+  pub whole : length b ≡ 6 + variablesOf b + clauseCountOf b + literalCountOf b
+  -- 5 to 7: the prefix
+  pub known : any (noVariable (variablesOf b)) (prefixOf b) ≡ false
+  pub once : twice (prefixOf b) ≡ false
+  pub last : 0 < variablesOf b → negative (word b (5 + variablesOf b)) ≡ false
+  -- 8 to 10: the clauses
+  pub ends : badEnds (literalCountOf b) 0 (endsOf b) ≡ false
+  pub literals : any (noVariable (variablesOf b)) (literalsOf b) ≡ false
+  pub plain : any bothSigns (clausesFrom (literalsOf b) 0 (endsOf b)) ≡ false
+
+-- a number of tests, none of which holds
+abbrev None : List Bool → Type 0
+None [] = Unit {0}
+None (t ∷ ts) = (t ≡ false) × None ts
+
+none : (n : ℕ) (ts : List Bool) → first (suc n) ts ≡ 0 → None ts
+none n [] e = tt
+none n (false ∷ ts) e = (refl, none (suc n) ts e)
+none n (true ∷ ts) e = let z : suc n ≡ 0 = e in absurd (omega arith)
+
+pub accepted : (L : Limits) (b : List ℤ) → refusal L b ≡ 0 → Accepted L b
+unfolding refusal
+accepted L b e =
+    let p : None (rows L b) = none 0 (rows L b) e in
+    record {
+      long = ltb-false (length b) 6 (p .0);
+      counts = layout.good-counts L b (p .1 .0);
+      offsets = layout.good-offsets b (p .1 .1 .0);
+      whole = eqb-true (length b) (6 + variablesOf b + clauseCountOf b + literalCountOf b) (not-false (eqb (length b) (6 + variablesOf b + clauseCountOf b + literalCountOf b)) (p .1 .1 .1 .0));
+      known = p .1 .1 .1 .1 .0;
+      once = p .1 .1 .1 .1 .1 .0;
+      last = λ h. rw (lt-ltb 0 (variablesOf b) h) at (p .1 .1 .1 .1 .1 .1 .0);
+      ends = p .1 .1 .1 .1 .1 .1 .1 .0;
+      literals = p .1 .1 .1 .1 .1 .1 .1 .1 .0;
+      plain = p .1 .1 .1 .1 .1 .1 .1 .1 .1 .0;
+    }
+
+module _ {L : Limits} {b : List ℤ} (a : Accepted L b) where
+  -- the counts are within the limits, and each part is as long as its count
+  pub variables-most : variablesOf b ≤ L .variables
+  variables-most = a .counts .variables .most
+
+  pub clauses-most : clauseCountOf b ≤ L .clauses
+  clauses-most = a .counts .clauses .most
+
+  pub literals-most : literalCountOf b ≤ L .literals
+  literals-most = a .counts .literals .most
+
+  pub prefix-length : length (prefixOf b) ≡ variablesOf b
+  prefix-length = layout.prefix-length b (a .whole)
+
+  pub ends-length : length (endsOf b) ≡ clauseCountOf b
+  ends-length = layout.ends-length b (a .whole)
+
+  pub literals-length : length (literalsOf b) ≡ literalCountOf b
+  literals-length = layout.literals-length b (a .whole)
+
+  -- every prefix word and every literal names one of the V variables: at each place, and wherever a literal is met
+  pub prefix-named : AllNamed (variablesOf b) (prefixOf b)
+  prefix-named = all-named (variablesOf b) (prefixOf b) (a .known)
+
+  pub literals-named : AllNamed (variablesOf b) (literalsOf b)
+  literals-named = all-named (variablesOf b) (literalsOf b) (a .literals)
+
+  pub clause-named : {c : List ℤ} {l : ℤ} → In c (formulaOf b .clauses) → In l c → Named (variablesOf b) l
+  unfolding formulaOf
+  clause-named i j = in-named (variablesOf b) (literalsOf b) (a .literals) (clauses-in (literalsOf b) 0 (endsOf b) i j)
+
+  -- the prefix binds each variable once: by one quantifier, at one place
+  pub all-bound : (v : ℕ) → 0 < v → v ≤ variablesOf b → any (names v) (prefixOf b) ≡ true
+  all-bound = bound.all-bound (variablesOf b) (prefixOf b) (a .once) (a .known) prefix-length
+
+  pub quantified : (l : ℤ) → Named (variablesOf b) l → (existential (prefixOf b) l ≡ true) ⊎ (universal (prefixOf b) l ≡ true)
+  quantified = bound.quantified (variablesOf b) (prefixOf b) (a .once) (a .known) prefix-length
+
+  pub quantifier : (l : ℤ) → Named (variablesOf b) l → universal (prefixOf b) l ≡ not (existential (prefixOf b) l)
+  quantifier = bound.quantifier (variablesOf b) (prefixOf b) (a .once) (a .known) prefix-length
+
+  pub one-place : (i j : ℕ) → i < variablesOf b → j < variablesOf b → natAbs (getD (prefixOf b) i (pos 0)) ≡ natAbs (getD (prefixOf b) j (pos 0)) → i ≡ j
+  one-place i j h k = bound.once-at (prefixOf b) (a .once) i j (rw prefix-length h) (rw prefix-length k)
+
+  pub place-of : (l : ℤ) → Named (variablesOf b) l → (i : ℕ) × (i < variablesOf b) × (natAbs (getD (prefixOf b) i (pos 0)) ≡ natAbs l)
+  place-of l h =
+      let r = any-e (names (natAbs l)) (prefixOf b) (all-bound (natAbs l) (h .some) (h .most)) in
+      let q = at-in (pos 0) (r .1) in
+      (q .0, rw prefix-length at (q .1), ap natAbs (q .2) ∙ sym (eqb-true (natAbs l) (natAbs (r .0)) (r .2)))
+
+  -- a prefix word shows its variable's quantifier by its sign; the last one is existential
+  pub existential-at : (i : ℕ) → i < variablesOf b → existential (prefixOf b) (getD (prefixOf b) i (pos 0)) ≡ not (negative (getD (prefixOf b) i (pos 0)))
+  existential-at i h =
+      let h′ : i < length (prefixOf b) = rw prefix-length h in
+      bound.existential-in (prefixOf b) (a .once) (in-at (prefixOf b) i (pos 0) h′) (prefix-named .at i h′ .some)
+
+  pub last-existential : 0 < variablesOf b → negative (getD (prefixOf b) (variablesOf b - 1) (pos 0)) ≡ false
+  last-existential h = ap negative (layout.prefix-last b h) ∙ a .last h
+
+  -- each clause lies within the literals
+  pub clause-within : (c : ℕ) → c < clauseCountOf b → GoodEnd (literalCountOf b) (startOf (endsOf b) c) (endsOf b) c
+  clause-within c h = good-at (literalCountOf b) (endsOf b) (a .ends) c (rw ends-length h)
+
+  -- what the theory of the rules asks
+  is-proper : Proper (formulaOf b)
+  unfolding formulaOf
+  is-proper = record { named = to-false _ zero-nowhere; once = a .once; plain = a .plain }
+    where
+      zero-nowhere : mem (pos 0) (prefixOf b) ≡ true → ⊥
+      zero-nowhere e = let r = in-named (variablesOf b) (prefixOf b) (a .known) (mem-e (pos 0) (prefixOf b) e) in omega (arith, r .some)
+
+pub proper : (L : Limits) (b : List ℤ) → refusal L b ≡ 0 → Proper (formulaOf b)
+proper L b e = is-proper (accepted L b e)
