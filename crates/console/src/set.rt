@@ -1,6 +1,9 @@
 // The lines that set a part of the desk.
 ghost use Prim.Native.Nat.{_≤_};
 ghost use lib.ListN.{length};
+ghost use mathlib.Core.Path.{_≡_};
+ghost use Rattle.formula.specs.Limits.{limits};
+ghost use Rattle.formula.specs.Block.{refusal};
 ghost use Rattle.console.specs.Desk.{Within, Leaves, Sets};
 use crate::desk::Answered;
 use crate::desk::Desk;
@@ -27,8 +30,13 @@ struct Set {
 }
 
 // The check's number, 0 if the block is accepted.
-fn check(block: &[i32]) -> u32 {
-    0
+fn check(block: &[i32]) -> u32
+    ensures { λ r. ⌜ r ≡ refusal limits (now (block .entry)) ⌝ }
+{
+    match formula::check(block) {
+        formula::Checked::Accepted => 0,
+        formula::Checked::Refused(n) => n,
+    }
 }
 
 // `block W..`: the words replace the block whether or not the check accepts them.
