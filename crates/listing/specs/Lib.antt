@@ -18,3 +18,5 @@ pub mod Only
 pub mod Accepted
 -- any list of pages
 pub mod Pages
+-- what the functions of a page say to each other
+pub mod Checked

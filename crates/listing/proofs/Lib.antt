@@ -1,0 +1,5 @@
+-- What only the proofs of this crate need.
+pub mod Groups
+pub mod Guards
+pub mod Begun
+pub mod Exits

@@ -1,0 +1,60 @@
+// The rows of the table that speak of a page, in its order.
+ghost use mathlib.Core.Path.{_≡_};
+ghost use Rattle.session.specs.Refusals.{short, openRefusal};
+ghost use Rattle.listing.specs.Page.{pageRefusal};
+ghost use Rattle.listing.specs.Checked.{openingsRefusal};
+use crate::openings;
+use formula::Checked;
+
+// Whether a buffer has fewer than V places.
+fn is_short(block: &[i32], lits: &[i32], kinds: &[u8]) -> bool
+    ensures { λ r. ⌜ r ≡ short (now (block .entry)) (now (lits .entry)) (now (kinds .entry)) ⌝ }
+{
+    let n = words::size_at(block, 0);
+    if lits.len() < n {
+        return true;
+    }
+    kinds.len() < n
+}
+
+// Rows 1 to 11: the number of the first that applies, 0 if none does.
+fn of_buffers(block: &[i32], lits: &[i32], kinds: &[u8]) -> u32
+    ensures { λ r. ⌜ r ≡ openRefusal (now (block .entry)) (now (lits .entry)) (now (kinds .entry)) ⌝ }
+{
+    match formula::check(block) {
+        Checked::Refused(number) => number,
+        Checked::Accepted => if is_short(block, lits, kinds) { 11 } else { 0 },
+    }
+}
+
+// Rows 18 to 21, of a prefix and an output of so many words.
+fn of_openings(prefix: &[i32], start: u32, room: usize) -> u32
+    ensures { λ r. ⌜ r ≡ openingsRefusal (now (prefix .entry)) start room ⌝ }
+{
+    if words::negative_at(prefix, 0) {
+        return 18;
+    }
+    let k = openings::first_group(prefix);
+    if 16 < k {
+        return 19;
+    }
+    if openings::count(k) < start {
+        return 20;
+    }
+    if room < 2 {
+        return 21;
+    }
+    0
+}
+
+// All rows of a page.
+pub fn of_page(block: &[i32], lits: &[i32], kinds: &[u8], start: u32, output: &[u32]) -> u32
+    ensures { λ r. ⌜ r ≡ pageRefusal (now (block .entry)) (now (lits .entry)) (now (kinds .entry)) start (now (output .entry)) ⌝ }
+{
+    let refused = of_buffers(block, lits, kinds);
+    if refused != 0 {
+        return refused;
+    }
+    let end = 6 + words::size_at(block, 0);
+    of_openings(&block[6..end], start, output.len())
+}

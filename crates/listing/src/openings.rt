@@ -1,0 +1,99 @@
+// An opening: the first group, the values that a number gives to it, and its search.
+ghost use mathlib.Core.Path.{_≡_};
+ghost use Prim.Native.Nat.{_^_, _/_, _%_, _≤_, _<_};
+ghost use lib.Dec.{eqb};
+ghost use lib.IntN.{pos};
+ghost use lib.ListN.{getD};
+ghost use lib.Seq.{sets};
+ghost use Rattle.formula.specs.Formula.{formulaOf, firstGroup};
+ghost use Rattle.rules.specs.Apply.{search, reached};
+ghost use Rattle.rules.specs.declared.State.the-variants.{Open};
+ghost use Rattle.listing.specs.Opening.{valuesOf, startOf, searchOf};
+ghost use Rattle.listing.specs.Checked.{OnGroup, literalOf, WritableAt, Writable};
+use rules::Reached;
+
+// The size of the first group.
+pub fn first_group(prefix: &[i32]) -> usize
+    ensures { λ r. ⌜ r ≡ firstGroup (now (prefix .entry)) ⌝ }
+{
+    let universal = words::negative_at(prefix, 0);
+    let mut i = 0;
+    while i < prefix.len() {
+        if universal != words::negative_at(prefix, i) {
+            return i;
+        }
+        i += 1;
+    }
+    i
+}
+
+// How many openings a group of k variables has, 2^k.
+pub fn count(k: usize) -> u32
+    requires { ⌜ k ≤ 16 ⌝ }
+    ensures { λ r. ⌜ r ≡ 2 ^ k ⌝ }
+{
+    1 << k
+}
+
+// Whether a number has a 1 at a place; place 0 is the lowest bit.
+fn has_one(n: u32, place: usize) -> bool
+    requires { ⌜ place < 16 ⌝ }
+    ensures { λ r. ⌜ r ≡ eqb (n / 2 ^ place % 2) 1 ⌝ }
+{
+    (n >> place) % 2 == 1
+}
+
+// The literal of the variable at an index: positive for true, negative for false.
+fn literal_at(group: &[i32], i: usize, value: bool) -> i32
+    requires { ⌜ WritableAt (now group) i ⌝ }
+    ensures { λ r. ⌜ r ≡ literalOf value (getD (now (group .entry)) i (pos 0)) ⌝ }
+{
+    if words::negative_at(group, i) == value {
+        words::opposite(group[i])
+    } else {
+        group[i]
+    }
+}
+
+// Puts the values of the number n at the start of the record, in prefix order. The group's first variable is the highest bit.
+fn write_values(group: &[i32], n: u32, lits: &mut [i32])
+    requires { ⌜ Writable (now group) (now lits) ⌝ }
+    ensures { λ r. ⌜ now (lits .exit) ≡ sets (now (lits .entry)) 0 (valuesOf n (now (group .entry))) ⌝ }
+{
+    let mut place = group.len();
+    let mut i = 0;
+    while i < group.len() {
+        place -= 1;
+        let word = literal_at(group, i, has_one(n, place));
+        lits[i] = word;
+        i += 1;
+    }
+}
+
+// Where an opening's search starts: the first V places are 0, but for the values at the start of the record.
+fn begin(block: &[i32], lits: &mut [i32], kinds: &mut [u8], k: usize, n: u32)
+    requires { ⌜ OnGroup (now block) (now lits) (now kinds) k ⌝ }
+    ensures { λ r. ⌜ search (now (lits .exit)) (now (kinds .exit)) k Open ≡ startOf (formulaOf (now (block .entry))) (now (lits .entry)) (now (kinds .entry)) n ⌝ }
+{
+    rules::clear(lits, kinds, words::size_at(block, 0));
+    let end = 6 + k;
+    write_values(&block[6..end], n, lits);
+}
+
+// The search of the opening n, within the budget.
+pub fn try_opening(
+    block: &[i32],
+    lits: &mut [i32],
+    kinds: &mut [u8],
+    k: usize,
+    n: u32,
+    preferred: &[i32],
+    budget: u32,
+) -> Reached
+    requires { ⌜ OnGroup (now block) (now lits) (now kinds) k ⌝ }
+    ensures { λ r. ⌜ reached r (now (lits .exit)) (now (kinds .exit)) ≡ searchOf (formulaOf (now (block .entry))) (now (preferred .entry)) budget (now (lits .entry)) (now (kinds .entry)) n ⌝ }
+{
+    begin(block, lits, kinds, k, n);
+    let found = session::search(block, lits, kinds, k, budget, preferred);
+    found.reached
+}
