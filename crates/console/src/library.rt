@@ -1,5 +1,6 @@
 // The library's calls, on the desk's own session.
 use crate::desk::Session;
+use listing::Paged;
 use rules::State;
 use words::Literal;
 
@@ -131,5 +132,16 @@ pub(crate) fn page(
     budget: u32,
     preferred: &[i32],
 ) -> Listed {
-    Listed::Stopped(0)
+    match listing::page(block, literals, kinds, start, preferred, budget, output) {
+        Paged::Page {
+            next,
+            entries,
+            paused,
+        } => Listed::Until {
+            next,
+            words: 2 * (entries as usize),
+            paused,
+        },
+        Paged::Refused(number) => Listed::Stopped(number),
+    }
 }
