@@ -10,6 +10,7 @@ pub mod dice;
 pub mod hits;
 pub mod nonsense;
 pub mod page;
+pub mod qdimacs;
 pub mod record;
 pub mod rules;
 pub mod session;
