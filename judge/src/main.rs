@@ -5,6 +5,7 @@ use std::io::{self, BufRead, BufWriter, Write};
 use std::path::Path;
 use std::process::ExitCode;
 
+use judge::bench;
 use judge::cases;
 use judge::console::Desk;
 use judge::desks;
@@ -13,6 +14,7 @@ use judge::qdimacs::Asked;
 use judge::tally::Tally;
 
 const USAGE: &str = "\
+judge bench                        writes the benchmark's formulas, one to a line: name, budget, count of words, words
 judge cases                        writes the check's cases as console lines
 judge console                      answers console lines from standard input
 judge desks SEED LINES             writes generated console lines
@@ -24,6 +26,7 @@ fn main() -> ExitCode {
     let words: Vec<String> = std::env::args().skip(1).collect();
     let words: Vec<&str> = words.iter().map(String::as_str).collect();
     let done = match words[..] {
+        ["bench"] => write_trials(&mut io::stdout().lock()),
         ["cases"] => write_cases(&mut io::stdout().lock()),
         ["console"] => serve(&mut io::stdin().lock(), &mut io::stdout().lock()),
         ["tally"] => count(&mut io::stdin().lock(), &mut io::stdout().lock()),
@@ -55,6 +58,14 @@ fn ended(done: io::Result<()>) -> ExitCode {
             ExitCode::FAILURE
         }
     }
+}
+
+fn write_trials(to: &mut impl Write) -> io::Result<()> {
+    for trial in bench::trials() {
+        let start = format!("{} {} {}", trial.name, trial.budget, trial.block.len());
+        writeln!(to, "{}", judge::console::line(&start, &trial.block))?;
+    }
+    Ok(())
 }
 
 fn write_cases(to: &mut impl Write) -> io::Result<()> {
