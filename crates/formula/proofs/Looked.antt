@@ -6,13 +6,12 @@ use Prim.Native.Nat.{ℕ, _+_, _-_, _≤_, _<_}
 use native.Mathlib.Omega.{arith}
 use lib.IntN.{ℤ, pos, natAbs}
 use lib.ListN.{length, take, drop, getD, replicate, length-replicate}
-use Rattle.words.specs.Lists.{any}
+use Rattle.words.specs.Lists.{any, blank}
 use Rattle.formula.specs.Formula.{clausesFrom}
 use Rattle.formula.specs.Block.{badEnds, bothSigns}
 use Rattle.formula.specs.Ends.{good-end}
 use Rattle.formula.specs.Clauses.{clauses-at, clauses-ended}
 use Rattle.formula.specs.Tables.{Fresh}
-use Rattle.formula.proofs.Seen.{blank}
 
 pub record Looked (ls es : List ℤ) (n : ℕ) (marks : List ℕ) (from i : ℕ) : Type 0 where
   pub at : i ≤ length es

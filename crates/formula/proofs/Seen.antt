@@ -2,7 +2,7 @@
 use mathlib.Core.Path.{_≡_, refl, sym, _∙_}
 use mathlib.Core.Bool.{Bool, true, false, _||_}
 use mathlib.Core.List.{List}
-use Prim.Native.Nat.{ℕ, zero, suc, _+_, _≤_, _<_}
+use Prim.Native.Nat.{ℕ, _+_, _≤_, _<_}
 use native.Mathlib.Decide.{ℕ-discrete}
 use native.Mathlib.Omega.{arith}
 use lib.Dec.{eqb}
@@ -10,15 +10,9 @@ use lib.IntN.{ℤ, pos, natAbs}
 use lib.ListN.{length, drop, getD, set, replicate, length-set, length-replicate}
 use lib.Seq.{getD-set-same, getD-set-other}
 use borrow.Author.Tests.{eq-eqb, ne-eqb}
-use Rattle.words.specs.Lists.{any, next, ended}
+use Rattle.words.specs.Lists.{any, next, ended, blank}
 use Rattle.formula.specs.Block.{names, twice}
 use Rattle.formula.specs.Once.{twice-drop, twice-at}
-
--- a fresh table
-pub blank : {A : Type 0} (a : A) (n i : ℕ) → getD (replicate n a) i a ≡ a
-blank a zero i = refl
-blank a (suc n) zero = refl
-blank a (suc n) (suc i) = blank a n i
 
 pub record Seen (ws : List ℤ) (size : ℕ) (seen : List Bool) (i : ℕ) : Type 0 where
   pub at : i ≤ length ws

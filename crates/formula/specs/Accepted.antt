@@ -19,6 +19,7 @@ use Rattle.formula.specs.Named.{Named, AllNamed, named, in-named, all-na
 use Rattle.formula.specs.Ends.{GoodEnd, startOf, good-at}
 use Rattle.formula.specs.Clauses.{clauses-in}
 use Rattle.formula.specs.Layout as layout
+use Rattle.formula.specs.Prefix.{once-at, existential-in}
 use Rattle.formula.specs.Permuted as bound
 use Rattle.formula.specs.Proper.{Proper}
 
@@ -97,16 +98,16 @@ module _ {L : Limits} {b : List ℤ} (a : Accepted L b) where
 
   -- the prefix binds each variable once: by one quantifier, at one place
   pub all-bound : (v : ℕ) → 0 < v → v ≤ variablesOf b → any (names v) (prefixOf b) ≡ true
-  all-bound = bound.all-bound (variablesOf b) (prefixOf b) (a .once) (a .known) prefix-length
+  all-bound = bound.all-bound (variablesOf b) (prefixOf b) (a .known) (a .once) prefix-length
 
   pub quantified : (l : ℤ) → Named (variablesOf b) l → (existential (prefixOf b) l ≡ true) ⊎ (universal (prefixOf b) l ≡ true)
-  quantified = bound.quantified (variablesOf b) (prefixOf b) (a .once) (a .known) prefix-length
+  quantified = bound.quantified (variablesOf b) (prefixOf b) (a .known) (a .once) prefix-length
 
   pub quantifier : (l : ℤ) → Named (variablesOf b) l → universal (prefixOf b) l ≡ not (existential (prefixOf b) l)
-  quantifier = bound.quantifier (variablesOf b) (prefixOf b) (a .once) (a .known) prefix-length
+  quantifier = bound.quantifier (variablesOf b) (prefixOf b) (a .known) (a .once) prefix-length
 
   pub one-place : (i j : ℕ) → i < variablesOf b → j < variablesOf b → natAbs (getD (prefixOf b) i (pos 0)) ≡ natAbs (getD (prefixOf b) j (pos 0)) → i ≡ j
-  one-place i j h k = bound.once-at (prefixOf b) (a .once) i j (rw prefix-length h) (rw prefix-length k)
+  one-place i j h k = once-at (prefixOf b) (a .once) i j (rw prefix-length h) (rw prefix-length k)
 
   pub place-of : (l : ℤ) → Named (variablesOf b) l → (i : ℕ) × (i < variablesOf b) × (natAbs (getD (prefixOf b) i (pos 0)) ≡ natAbs l)
   place-of l h =
@@ -118,7 +119,7 @@ module _ {L : Limits} {b : List ℤ} (a : Accepted L b) where
   pub existential-at : (i : ℕ) → i < variablesOf b → existential (prefixOf b) (getD (prefixOf b) i (pos 0)) ≡ not (negative (getD (prefixOf b) i (pos 0)))
   existential-at i h =
       let h′ : i < length (prefixOf b) = rw prefix-length h in
-      bound.existential-in (prefixOf b) (a .once) (in-at (prefixOf b) i (pos 0) h′) (prefix-named .at i h′ .some)
+      existential-in (prefixOf b) (a .once) (in-at (prefixOf b) i (pos 0) h′) (prefix-named .at i h′ .some)
 
   pub last-existential : 0 < variablesOf b → negative (getD (prefixOf b) (variablesOf b - 1) (pos 0)) ≡ false
   last-existential h = ap negative (layout.prefix-last b h) ∙ a .last h

@@ -1,8 +1,7 @@
 -- Formulas worked by hand, computed.
 use mathlib.Core.Path.{_≡_, refl}
-use mathlib.Core.List.{List, [], _∷_}
-use Prim.Native.Nat.{ℕ}
-use lib.IntN.{ℤ, pos, negℤ}
+use mathlib.Core.List.{[], _∷_}
+use lib.IntN.{pos, negℤ}
 use Rattle.words.specs.Lists.{all, any}
 use Rattle.words.specs.Words.{eqZ, mem}
 use Rattle.formula.specs.Limits.{limits}

@@ -7,11 +7,11 @@ pub mod Ends
 pub mod Once
 pub mod Clauses
 pub mod Layout
+pub mod Proper
+pub mod Prefix
 pub mod Permuted
 pub mod Check
 pub mod Tables
-pub mod Proper
-pub mod Prefix
 pub mod Accepted
 pub mod Truth
 pub mod Cases

@@ -1,24 +1,40 @@
 -- "Limits: V 256, C 1,024, T 4,096." The one place that has the numbers: every definition takes them as a parameter.
 use mathlib.Core.Path.{_≡_, refl}
-use Prim.Native.Nat.{ℕ}
+use Prim.Native.Nat.{ℕ, _≤_}
+use lib.Dec.{lit≤}
 
 pub record Limits : Type 0 where
   pub variables : ℕ
   pub clauses : ℕ
   pub literals : ℕ
 
-unfoldable pub limits : Limits
-limits = record { variables = 256; clauses = 1024; literals = 4096 }
+-- the constants of the code are these
+abbrev pub maxVariables : ℕ
+maxVariables = 256
 
--- the constants of the code are these; a proof about a table's size knows no more of them
-pub variables-are : limits .variables ≡ 256
+abbrev pub maxClauses : ℕ
+maxClauses = 1024
+
+abbrev pub maxLiterals : ℕ
+maxLiterals = 4096
+
+unfoldable pub limits : Limits
+limits = record { variables = maxVariables; clauses = maxClauses; literals = maxLiterals }
+
+-- a proof about a table's size knows no more of the limits than this
+pub variables-are : limits .variables ≡ maxVariables
 unfolding limits
 variables-are = refl
 
-pub clauses-are : limits .clauses ≡ 1024
+pub clauses-are : limits .clauses ≡ maxClauses
 unfolding limits
 clauses-are = refl
 
-pub literals-are : limits .literals ≡ 4096
+pub literals-are : limits .literals ≡ maxLiterals
 unfolding limits
 literals-are = refl
+
+-- a variable is far from the least word
+pub variables-small : limits .variables ≤ 2147483647
+unfolding limits
+variables-small = lit≤ tt

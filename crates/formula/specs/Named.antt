@@ -8,9 +8,9 @@ use lib.Dec.{eqb, ltb}
 use lib.IntN.{ℤ, pos, natAbs}
 use lib.ListN.{length, getD, take, drop, length-take, length-drop}
 use lib.Seq.{getD-take, getD-drop}
-use borrow.Author.Tests.{eqb-false, ltb-false}
+use borrow.Author.Tests.{eqb-false, ne-eqb, ltb-false, le-ltb}
 use Rattle.words.specs.Bools.{or-fl, or-fr}
-use Rattle.words.specs.Lists.{In, any, any-none, in-at}
+use Rattle.words.specs.Lists.{In, any, any-f, any-none, in-at}
 use Rattle.formula.specs.Block.{noVariable}
 
 pub record Named (n : ℕ) (w : ℤ) : Type 0 where
@@ -26,6 +26,9 @@ named n w h =
     let z : natAbs w ≡ 0 → ⊥ = eqb-false (natAbs w) 0 (or-fl (eqb (natAbs w) 0) (ltb n (natAbs w)) h) in
     record { some = omega arith; most = ltb-false n (natAbs w) (or-fr (eqb (natAbs w) 0) (ltb n (natAbs w)) h) }
 
+pub named-passes : (n : ℕ) (w : ℤ) → Named n w → noVariable n w ≡ false
+named-passes n w h = rw (ne-eqb (natAbs w) 0 (λ e. omega (arith, h .some))) (le-ltb n (natAbs w) (h .most))
+
 module _ (n : ℕ) (ws : List ℤ) where
   pub in-named : any (noVariable n) ws ≡ false → {w : ℤ} → In w ws → Named n w
   in-named h {w} i = named n w (any-none (noVariable n) ws h i)
@@ -36,6 +39,9 @@ module _ (n : ℕ) (ws : List ℤ) where
   -- more variables, and a part of the list
   pub named-up : (m : ℕ) → n ≤ m → AllNamed n ws → AllNamed m ws
   named-up m h a = record { at = λ i l. record { some = a .at i l .some; most = omega (arith, a .at i l .most) } }
+
+  pub known-up : (m : ℕ) → n ≤ m → any (noVariable n) ws ≡ false → any (noVariable m) ws ≡ false
+  known-up m h k = any-f (noVariable m) ws (λ w i. let a = in-named k {w = w} i in named-passes m w (record { some = a .some; most = omega (arith, a .most) }))
 
   pub named-part : (k j : ℕ) → AllNamed n ws → AllNamed n (take k (drop j ws))
   named-part k j a = record { at = λ i l. part i (rw (length-take, length-drop) at l) }

@@ -5,12 +5,15 @@ use mathlib.Core.Path.{_≡_, refl, sym, _∙_, ap}
 use mathlib.Core.Logic.{_⊎_, inl, inr}
 use mathlib.Core.Bool.{Bool, true, false, not, cond, _||_, Bool·beq}
 use mathlib.Core.List.{List, [], _∷_, _++_}
-use Prim.Native.Nat.{ℕ, suc, _+_, _≤_}
+use Prim.Native.Nat.{ℕ, zero, suc, _+_, _≤_, _<_}
+use native.Mathlib.Nat.{not-suc-le-zero, le-of-suc-le-suc}
 use native.Mathlib.Omega.{arith}
 use lib.Dec.{eqb}
 use lib.IntN.{ℤ, pos, negsuc, negℤ, natAbs}
+use lib.ListN.{length, getD, take, drop}
+use lib.Seq.{split-at}
 use Rattle.words.specs.Bools.{clash, look, or-e, or-fl, or-fr, or-l, or-r, bool-eq, to-false, eqb-eq, eqb-same, eqb-i, eqb-ne, eqb-comm}
-use Rattle.words.specs.Lists.{In, here, there, any, any-i, any-e, any-append}
+use Rattle.words.specs.Lists.{In, here, there, any, any-i, any-e, any-append, in-at}
 use Rattle.words.specs.Words.{negative, mem, mem-i, mem-e, negneg, neg-swap, natAbs-neg, var-cases, own-opposite}
 use Rattle.formula.specs.Formula.{Formula, existential, universal, change, levelOf, level}
 use Rattle.formula.specs.Block.{names, twice, bothSigns}
@@ -56,6 +59,11 @@ stands-mem ws l = bool-eq _ _ go (λ h. let r = stands-e ws l h in back (r .0) (
     back w i (inl e) = or-l {a = mem l ws} (mem (negℤ l) ws) (rw e (mem-i i))
     back w i (inr e) = or-r (mem l ws) {b = mem (negℤ l) ws} (rw (e, negneg w) (mem-i i))
 
+-- a word of another variable than all of these is none of them
+pub fresh-word : (l : ℤ) (ws : List ℤ) → any (names (natAbs l)) ws ≡ false → mem l ws ≡ false
+unfolding stands
+fresh-word l ws h = or-fl (mem l ws) (mem (negℤ l) ws) (stands-mem ws l ∙ h)
+
 pub stands-append : (xs ys : List ℤ) (l : ℤ) → stands (xs ++ ys) l ≡ (stands xs l || stands ys l)
 unfolding stands
 stands-append xs ys l = any-append (names (natAbs l)) xs ys
@@ -96,12 +104,27 @@ twice-snoc (x ∷ xs) l h s =
 pub other : (q : ℤ) {x : ℤ} {p : List ℤ} → stands p q ≡ false → In x p → natAbs q ≡ natAbs x → ⊥
 other q s i e = clash (stands-i q i e) s
 
--- a word and its opposite do not both stand there, unless it is 0
-pub one-sign : (p : List ℤ) → twice p ≡ false → (q : ℤ) → In q p → In (negℤ q) p → q ≡ negℤ q
-one-sign (a ∷ p) h q (here e) (here f) = e ∙ sym f
-one-sign (a ∷ p) h q (here e) (there j) = absurd (other _ (twice-head _ _ h) j (ap natAbs (sym e) ∙ sym (natAbs-neg q)))
-one-sign (a ∷ p) h q (there i) (here f) = absurd (other _ (twice-head _ _ h) i (ap natAbs (sym f) ∙ natAbs-neg q))
-one-sign (a ∷ p) h q (there i) (there j) = one-sign p (twice-tail _ _ h) q i j
+-- so it stands at one place, and with one sign
+pub once-in : (p : List ℤ) → twice p ≡ false → {x y : ℤ} → In x p → In y p → natAbs x ≡ natAbs y → x ≡ y
+once-in (q ∷ p) h (here e) (here f) s = e ∙ sym f
+once-in (q ∷ p) h (here e) (there j) s = absurd (other q (twice-head q p h) j (ap natAbs (sym e) ∙ s))
+once-in (q ∷ p) h (there i) (here f) s = absurd (other q (twice-head q p h) i (ap natAbs (sym f) ∙ sym s))
+once-in (q ∷ p) h (there i) (there j) s = once-in p (twice-tail q p h) i j s
+
+pub once-at : (p : List ℤ) → twice p ≡ false → (i j : ℕ) → i < length p → j < length p → natAbs (getD p i (pos 0)) ≡ natAbs (getD p j (pos 0)) → i ≡ j
+once-at [] h i j k l s = absurd (not-suc-le-zero k)
+once-at (q ∷ p) h zero zero k l s = refl
+once-at (q ∷ p) h zero (suc j) k l s = absurd (other q (twice-head q p h) (in-at p j (pos 0) (le-of-suc-le-suc l)) s)
+once-at (q ∷ p) h (suc i) zero k l s = absurd (other q (twice-head q p h) (in-at p i (pos 0) (le-of-suc-le-suc k)) (sym s))
+once-at (q ∷ p) h (suc i) (suc j) k l s = ap suc (once-at p (twice-tail q p h) i j (le-of-suc-le-suc k) (le-of-suc-le-suc l) s)
+
+pub one-sign : (p : List ℤ) → twice p ≡ false → {q : ℤ} → In q p → 0 < natAbs q → mem (negℤ q) p ≡ false
+one-sign p h {q} i z = to-false (mem (negℤ q) p) (λ e. let w = own-opposite q (once-in p h i (mem-e (negℤ q) p e) (sym (natAbs-neg q))) in omega arith)
+
+-- and its variable is not among those before it
+pub fresh-at : (p : List ℤ) → twice p ≡ false → (i : ℕ) → i < length p → any (names (natAbs (getD p i (pos 0)))) (take i p) ≡ false
+unfolding stands
+fresh-at p h i l = twice-before (take i p) (getD p i (pos 0)) (drop (suc i) p) (rw (← split-at p i (pos 0) l) h) .1
 
 -- no clause with both signs of a variable: a literal and its opposite stand in it only if they are 0
 pub both-signs : (C : List ℤ) → bothSigns C ≡ false → (x : ℤ) → In x C → In (negℤ x) C → x ≡ negℤ x
@@ -133,52 +156,80 @@ pub level-var : (p : List ℤ) (x y : ℤ) → natAbs x ≡ natAbs y → level p
 unfolding level
 level-var p x y e = rw e
 
+-- "the number of changes of quantifier before it": of at most as many as there are words
+pub change-few : (q : ℤ) (p : List ℤ) → change q p ≤ 1
+unfolding change
+change-few q [] = omega arith
+change-few q (r ∷ p) = few (Bool·beq (negative q) (negative r))
+  where
+    few : (b : Bool) → cond b 0 1 ≤ 1
+    few true = omega arith
+    few false = omega arith
+
+pub level-few : (p : List ℤ) (v : ℕ) → levelOf p v ≤ length p
+unfolding levelOf
+level-few [] v = omega arith
+level-few (q ∷ p) v = few (eqb (natAbs q) v) (change q p + levelOf p v) (omega (arith, change-few q p, level-few p v))
+  where
+    few : (b : Bool) (n : ℕ) → n ≤ suc (length p) → cond b 0 n ≤ suc (length p)
+    few true n h = omega arith
+    few false n h = h
+
 -- a bound variable stands in the prefix, and the other way round
+pub binds : (p : List ℤ) (l : ℤ) → (existential p l || universal p l) ≡ stands p l
+unfolding existential universal stands
+binds p l = stands-mem p (pos (natAbs l))
+
 pub existential-stands : (p : List ℤ) (l : ℤ) → existential p l ≡ true → stands p l ≡ true
-unfolding existential
-existential-stands p l h = stands-i l (mem-e (pos (natAbs l)) p h) refl
+existential-stands p l h = sym (binds p l) ∙ or-l (universal p l) h
 
 pub universal-stands : (p : List ℤ) (l : ℤ) → universal p l ≡ true → stands p l ≡ true
-unfolding universal
-universal-stands p l h = stands-i l (mem-e (negℤ (pos (natAbs l))) p h) (sym (natAbs-neg (pos (natAbs l))))
+universal-stands p l h = sym (binds p l) ∙ or-r (existential p l) h
 
 pub stands-bound : (p : List ℤ) (l : ℤ) → stands p l ≡ true → (existential p l ≡ true) ⊎ (universal p l ≡ true)
-unfolding existential universal
-stands-bound p l h = let r = stands-e p l h in go (r .0) (r .1) (r .2)
-  where
-    go : (w : ℤ) → In w p → natAbs l ≡ natAbs w → (mem (pos (natAbs l)) p ≡ true) ⊎ (mem (negℤ (pos (natAbs l))) p ≡ true)
-    go (pos n) i e = inl (rw e (mem-i i))
-    go (negsuc n) i e = inr (rw e (mem-i i))
+stands-bound p l h = or-e (existential p l) (universal p l) (binds p l ∙ h)
+
+-- with no variable twice, a variable has one quantifier: "+v binds variable v existentially, -v universally", and the word's sign says it
+module _ (p : List ℤ) (once : twice p ≡ false) where
+  pub one-quantifier : (l : ℤ) → 0 < natAbs l → existential p l ≡ true → universal p l ≡ false
+  unfolding existential universal
+  one-quantifier l h e = one-sign p once (mem-e (pos (natAbs l)) p e) h
+
+  pub universal-in : {w : ℤ} → In w p → 0 < natAbs w → universal p w ≡ negative w
+  unfolding universal
+  universal-in {w = pos n} i h = one-sign p once i h
+  universal-in {w = negsuc n} i h = mem-i i
+
+  pub existential-in : {w : ℤ} → In w p → 0 < natAbs w → existential p w ≡ not (negative w)
+  unfolding existential
+  existential-in {w = pos n} i h = mem-i i
+  existential-in {w = negsuc n} i h = one-sign p once i h
 
 -- ---- a proper formula's prefix
 module _ {F : Formula} (ok : Proper F) where
-  -- "+v binds variable v existentially, -v universally": the word's sign says it
+  -- none of its words is 0
+  word-named : (q : ℤ) → In q (F .prefix) → 0 < natAbs q
+  word-named (pos zero) i = clash (mem-i i) (ok .named)
+  word-named (pos (suc n)) i = omega arith
+  word-named (negsuc n) i = omega arith
+
   pub word-universal : (q : ℤ) → In q (F .prefix) → universal (F .prefix) q ≡ negative q
-  unfolding universal
-  word-universal (pos n) i = to-false _ (λ e. zero-word (own-opposite (pos n) (one-sign (F .prefix) (ok .once) (pos n) i (mem-e (negℤ (pos n)) (F .prefix) e))))
-    where
-      zero-word : n ≡ 0 → ⊥
-      zero-word e = clash (mem-i (rw e at i)) (ok .named)
-  word-universal (negsuc n) i = mem-i i
+  word-universal q i = universal-in (F .prefix) (ok .once) i (word-named q i)
 
-  pub word-existential : (q : ℤ) → In q (F .prefix) → existential (F .prefix) q ≡ not (negative q)
-  unfolding existential
-  word-existential (pos n) i = mem-i i
-  word-existential (negsuc n) i = to-false _ (λ e. let z = own-opposite (negsuc n) (one-sign (F .prefix) (ok .once) (negsuc n) i (mem-e (pos (suc n)) (F .prefix) e)) in absurd (omega arith))
-
-  -- no variable has both quantifiers
-  pub universal-existential : (l : ℤ) → universal (F .prefix) l ≡ true → existential (F .prefix) l ≡ false
-  universal-existential l h =
-      let r = stands-e (F .prefix) l (universal-stands (F .prefix) l h) in
-      existential-var (F .prefix) l (r .0) (r .2) ∙ word-existential (r .0) (r .1) ∙ ap not (sym (word-universal (r .0) (r .1)) ∙ sym (universal-var (F .prefix) l (r .0) (r .2)) ∙ h)
-
-  pub existential-universal : (l : ℤ) → existential (F .prefix) l ≡ true → universal (F .prefix) l ≡ false
-  existential-universal l h = to-false (universal (F .prefix) l) (λ e. clash h (universal-existential l e))
+  word-existential : (q : ℤ) → In q (F .prefix) → existential (F .prefix) q ≡ not (negative q)
+  word-existential q i = existential-in (F .prefix) (ok .once) i (word-named q i)
 
   -- an existential variable is not 0
   pub existential-named : (l : ℤ) → existential (F .prefix) l ≡ true → natAbs l ≡ 0 → ⊥
   unfolding existential
   existential-named l h e = clash (rw e at h) (ok .named)
+
+  -- no variable has both quantifiers
+  pub existential-universal : (l : ℤ) → existential (F .prefix) l ≡ true → universal (F .prefix) l ≡ false
+  existential-universal l h = let z = existential-named l h in one-quantifier (F .prefix) (ok .once) l (omega arith) h
+
+  pub universal-existential : (l : ℤ) → universal (F .prefix) l ≡ true → existential (F .prefix) l ≡ false
+  universal-existential l h = to-false (existential (F .prefix) l) (λ e. clash h (existential-universal l e))
 
 -- what is known of a part p of the prefix P that goes on to P's end: no variable twice; a word's sign is its quantifier; later words have
 -- no lower level, and those of the same level the same quantifier

@@ -1,8 +1,7 @@
 -- What the theory of the rules asks of a formula. An accepted block's formula is so.
 use mathlib.Core.Path.{_≡_}
-use mathlib.Core.Bool.{Bool, false}
-use mathlib.Core.List.{List, [], _∷_}
-use lib.IntN.{ℤ, pos}
+use mathlib.Core.Bool.{false}
+use lib.IntN.{pos}
 use Rattle.words.specs.Lists.{any}
 use Rattle.words.specs.Words.{mem}
 use Rattle.formula.specs.Formula.{Formula}

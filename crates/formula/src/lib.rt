@@ -8,6 +8,10 @@ mod header; // the counts and the offsets
 mod parts; // the prefix, the clause ends and the literals
 mod marks; // which variables or literals were seen
 
+// Inner doors: row 12 asks the same of a record's words as rows 5 and 6 of the prefix's.
+pub use marks::variable_twice;
+pub use parts::some_stranger;
+
 // What the check answers: a refused block has the number of the first row that applies to it.
 pub enum Checked {
     Accepted,

@@ -12,7 +12,7 @@ ghost use Rattle.formula.specs.Named.{AllNamed};
 ghost use Rattle.formula.specs.Tables.{placeOf, Fresh};
 
 // Whether some variable stands twice.
-pub(crate) fn variable_twice(ws: &[i32]) -> bool
+pub fn variable_twice(ws: &[i32]) -> bool
     requires { ⌜ AllNamed (limits .variables) (now ws) ⌝ }
     ensures { λ r. ⌜ r ≡ twice (now (ws .entry)) ⌝ }
 {

@@ -10,7 +10,7 @@ ghost use Rattle.formula.specs.Check.{checkedOf};
 ghost use Rattle.formula.specs.Tables.{lastNegative, partRows};
 
 // Whether some word is 0 or of size over n.
-fn some_stranger(ws: &[i32], n: usize) -> bool
+pub fn some_stranger(ws: &[i32], n: usize) -> bool
     ensures { λ r. ⌜ r ≡ any (noVariable n) (now (ws .entry)) ⌝ }
 {
     let mut i = 0;

@@ -1,31 +1,20 @@
 -- A table filled by one pass says of every variable what the words passed say: a store changes what is said at its own place only.
-use mathlib.Core.Path.{_≡_, refl, sym, _∙_}
+use mathlib.Core.Path.{_≡_, sym, _∙_}
 use mathlib.Core.List.{List, [], _∷_, _++_}
-use Prim.Native.Nat.{ℕ, zero, suc, _+_, _≤_, _<_}
+use Prim.Native.Nat.{ℕ, _+_, _≤_, _<_}
 use native.Mathlib.Decide.{ℕ-discrete}
 use native.Mathlib.Omega.{arith}
-use lib.Dec.{lit<}
 use lib.IntN.{ℤ, pos, natAbs}
 use lib.ListN.{length, getD, take, set, replicate, length-set, length-replicate}
 use lib.Seq.{getD-set-same, getD-set-other}
-use Rattle.formula.specs.Limits.{limits}
+use Rattle.words.specs.Lists.{take-more, blank}
+use Rattle.formula.specs.Limits.{limits, variables-are}
+use Rattle.formula.specs.Named.{all-named, known-up}
 use Rattle.rules.specs.Ready.{Bound}
-use Rattle.rules.specs.Tables.{Named}
-use Rattle.rules.proofs.Lists.{more}
-use Rattle.rules.proofs.Named.{named-at, named-wider}
-
--- the number of a table's places: one for each variable, and place 0
-abbrev pub places : ℕ
-places = 257
+use Rattle.rules.specs.Tables.{places, Known}
 
 pub enough : limits .variables < places
-unfolding limits
-enough = lit< tt
-
-pub blank : (n v : ℕ) → getD {A = ℕ} (replicate n 0) v 0 ≡ 0
-blank zero v = refl
-blank (suc n) zero = refl
-blank (suc n) (suc v) = blank n v
+enough = omega (arith, variables-are)
 
 -- one store, between what the table said before and what it says after
 pub stored : (t : List ℕ) (s a : ℕ) (f g : ℕ → ℕ) → s < length t → ((v : ℕ) → getD t v 0 ≡ f v) → a ≡ g s → ((v : ℕ) → (v ≡ s → ⊥) → g v ≡ f v) → (v : ℕ) → getD (set t s a) v 0 ≡ g v
@@ -43,7 +32,7 @@ pub record Filled (says : List ℤ → ℕ → ℕ) (ws : List ℤ) (n : ℕ) (t
 
 module _ (says : List ℤ → ℕ → ℕ) (ws : List ℤ) (n : ℕ) where
   pub begin : ((v : ℕ) → says [] v ≡ 0) → Filled says ws n (replicate places 0) 0
-  begin none = record { at = omega arith; long = length-replicate {A = ℕ} places 0; said = λ v. blank places v ∙ sym (none v) }
+  begin none = record { at = omega arith; long = length-replicate {A = ℕ} places 0; said = λ v. blank {A = ℕ} 0 places v ∙ sym (none v) }
 
   module _ (t : List ℕ) (i : ℕ) (f : Filled says ws n t i) where
     pub end : n ≤ i → (v : ℕ) → getD t v 0 ≡ says (take n ws) v
@@ -57,7 +46,7 @@ module _ (says : List ℤ → ℕ → ℕ) (ws : List ℤ) (n : ℕ) where
           → ((v : ℕ) → (v ≡ s → ⊥) → says (take i ws ++ getD ws i (pos 0) ∷ []) v ≡ says (take i ws) v)
           → Filled says ws n (set t s a) (i + 1)
       turn s a l new other =
-          let m = more ws i (pos 0) (omega arith) in
+          let m = take-more ws i (pos 0) (omega arith) in
           record {
             at = omega arith;
             long = length-set t s a ∙ f .long;
@@ -67,12 +56,12 @@ module _ (says : List ℤ → ℕ → ℕ) (ws : List ℤ) (n : ℕ) where
       -- a word that changes nothing
       pub pass : ((v : ℕ) → says (take i ws ++ getD ws i (pos 0) ∷ []) v ≡ says (take i ws) v) → Filled says ws n t (i + 1)
       pass same =
-          let m = more ws i (pos 0) (omega arith) in
+          let m = take-more ws i (pos 0) (omega arith) in
           record { at = omega arith; long = f .long; said = λ v. rw m (f .said v ∙ sym (same v)) }
 
 -- a word's place in a table
-pub placed : (ws : List ℤ) (i s : ℕ) → Named ws → i < length ws → s ≡ natAbs (getD ws i (pos 0)) → s < places
-placed ws i s h l is = let k = named-at (limits .variables) ws h i l in omega (arith, enough)
+pub placed : (ws : List ℤ) (i s : ℕ) → Known ws → i < length ws → s ≡ natAbs (getD ws i (pos 0)) → s < places
+placed ws i s h l is = let k = all-named (limits .variables) ws h .at i l in omega (arith, enough, k .most)
 
-pub bound-named : {p : List ℤ} → Bound p → Named p
-bound-named {p} b = named-wider (length p) p (b .named) (limits .variables) (b .room)
+pub bound-named : {p : List ℤ} → Bound p → Known p
+bound-named {p} b = known-up (length p) p (limits .variables) (b .room) (b .named)

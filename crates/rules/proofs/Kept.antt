@@ -7,14 +7,14 @@ use lib.IntN.{ℤ}
 use lib.ListN.{length, take}
 use Rattle.formula.specs.Limits.{limits}
 use Rattle.formula.specs.Formula.{clausesFrom}
+use Rattle.formula.specs.Named.{known-up}
 use Rattle.theory.specs.Record.{literals, among, trueIn}
 use Rattle.rules.specs.Apply.{recordOf}
 use Rattle.rules.specs.Ready.{Ready, Kept, Held}
-use Rattle.rules.specs.Tables.{Values, Named, Written, Spread}
+use Rattle.rules.specs.Tables.{Values, Known, Written, Spread}
 use Rattle.rules.specs.Records.{kept-good, kept-room, record-literals, last-kind}
 use Rattle.rules.specs.ClausesReady.{once-consistent}
 use Rattle.rules.specs.Told.{Told}
-use Rattle.rules.proofs.Named.{named-wider}
 use Rattle.rules.proofs.Occurs.{spread}
 
 -- ---- a checked record
@@ -27,7 +27,7 @@ module _ (p ls : List ℤ) (ks : List ℕ) (n : ℕ) (kept : Kept p ls ks n) whe
       let good = kept-good kept in
       record {
         room = kept-room kept .lits;
-        named = named-wider (length p) (take n ls) (rw (← kept-literals) (good .named)) (limits .variables) (kept .prefix .room);
+        named = known-up (length p) (take n ls) (limits .variables) (kept .prefix .room) (rw (← kept-literals) (good .named));
         once = rw (← kept-literals) (good .once);
       }
 
@@ -51,8 +51,8 @@ module _ (p ls : List ℤ) (ks : List ℕ) (n : ℕ) (kept : Kept p ls ks n) whe
 
 -- ---- a checked formula
 module _ (p es ls : List ℤ) (ready : Ready p es ls) where
-  pub ready-named : Named ls
-  ready-named = named-wider (length p) ls (ready .named) (limits .variables) (ready .prefix .room)
+  pub ready-named : Known ls
+  ready-named = known-up (length p) ls (limits .variables) (ready .prefix .room) (ready .named)
 
   pub ready-spread : Spread ls (clausesFrom ls 0 es)
   ready-spread = spread ls es (ready .ends)

@@ -8,14 +8,13 @@ use lib.IntN.{ℤ, pos, negsuc, negℤ, natAbs}
 use lib.ListN.{length, getD, drop}
 use Rattle.words.specs.Bools.{clash}
 use Rattle.words.specs.Lists.{next, ended}
-use Rattle.words.specs.Words.{negative, natAbs-neg, eqZ, eqZ-refl, mem}
+use Rattle.words.specs.Words.{negative, natAbs-neg, eqZ, eqZ-refl, mem, other-word}
 use Rattle.formula.specs.Formula.{universal}
+use Rattle.formula.specs.Named.{all-named}
 use Rattle.rules.specs.Due.{pick}
 use Rattle.rules.specs.Apply.{kindOf}
 use Rattle.rules.specs.Ready.{Bound}
-use Rattle.rules.proofs.Lists.{other-word}
 use Rattle.rules.proofs.Universals.{plus-word}
-use Rattle.rules.proofs.Named.{named-at}
 
 -- ---- one word q of the prefix, against the universal word of the variable v
 word-minus : (q : ℤ) (v : ℕ) → natAbs q ≡ v → negative q ≡ true → eqZ (negℤ (pos v)) q ≡ true
@@ -60,4 +59,4 @@ module _ (p : List ℤ) (v i : ℕ) (k : Looking p v i) (h : i < length p) where
   looking-other o = past (word-other (getD p i (pos 0)) v o)
 
   pub looking-plus : Bound p → negative (getD p i (pos 0)) ≡ false → Looking p v (i + 1)
-  looking-plus b g = past (plus-word (getD p i (pos 0)) (named-at (length p) p (b .named) i h .from) g v)
+  looking-plus b g = past (plus-word (getD p i (pos 0)) (all-named (length p) p (b .named) .at i h .some) g v)

@@ -1,8 +1,8 @@
 -- The table of levels: the words left begin at the level reached, and no word passed stands again.
 use mathlib.Core.Path.{_≡_, refl, sym, _∙_, ap}
-use mathlib.Core.Bool.{Bool, true, false, cond, Bool·beq, _||_}
+use mathlib.Core.Bool.{Bool, true, false, cond, Bool·beq, _||_, or-false}
 use mathlib.Core.List.{List, [], _∷_}
-use Prim.Native.Nat.{ℕ, suc, _+_, _≤_, _<_}
+use Prim.Native.Nat.{ℕ, _+_, _≤_, _<_}
 use native.Mathlib.Decide.{ℕ-discrete}
 use native.Mathlib.Omega.{arith}
 use lib.Dec.{eqb}
@@ -11,12 +11,12 @@ use lib.ListN.{length, getD, take, drop, set, replicate, length-set, length-repl
 use lib.Seq.{getD-set-same, getD-set-other, take-length}
 use borrow.Author.Tests.{eq-eqb, ne-eqb, eqb-false}
 use Rattle.words.specs.Bools.{clash, or-fl, or-fr}
-use Rattle.words.specs.Lists.{any, next, ended}
+use Rattle.words.specs.Lists.{any, next, ended, take-more, any-append}
 use Rattle.words.specs.Words.{negative}
 use Rattle.formula.specs.Formula.{change, levelOf}
 use Rattle.formula.specs.Block.{names}
-use Rattle.rules.proofs.Lists.{or-false, more, any-append}
-use Rattle.rules.proofs.Filled.{places}
+use Rattle.formula.specs.Prefix.{change-few}
+use Rattle.rules.specs.Tables.{places}
 
 -- ---- the change after a word
 pub change-last : (q : ℤ) (p : List ℤ) (i : ℕ) → length p ≤ i + 1 → change q (drop (i + 1) p) ≡ 0
@@ -26,24 +26,6 @@ change-last q p i h = rw (ended p (i + 1) h)
 pub change-next : (q : ℤ) (p : List ℤ) (i : ℕ) → i + 1 < length p → (a b t : Bool) → a ≡ negative q → b ≡ negative (getD p (i + 1) (pos 0)) → Bool·beq a b ≡ t → change q (drop (i + 1) p) ≡ cond t 0 1
 unfolding change
 change-next q p i h a b t one two flag = rw (next p (i + 1) (pos 0) h, ← one, ← two, flag)
-
-pub change-few : (q : ℤ) (p : List ℤ) → change q p ≤ 1
-unfolding change
-change-few q [] = omega arith
-change-few q (r ∷ p) = few (Bool·beq (negative q) (negative r))
-  where
-    few : (b : Bool) → cond b 0 1 ≤ 1
-    few true = omega arith
-    few false = omega arith
-
-pub level-few : (p : List ℤ) (v : ℕ) → levelOf p v ≤ length p
-unfolding levelOf
-level-few [] v = omega arith
-level-few (q ∷ p) v = few (eqb (natAbs q) v) (change q p + levelOf p v) (omega (arith, change-few q p, level-few p v))
-  where
-    few : (b : Bool) (n : ℕ) → n ≤ suc (length p) → cond b 0 n ≤ suc (length p)
-    few true n h = omega arith
-    few false n h = h
 
 -- ---- the levels of a prefix p, up to i
 pub record Levelled (p : List ℤ) (t : List ℕ) (level i : ℕ) : Type 0 where
@@ -70,7 +52,7 @@ module _ (p : List ℤ) (t : List ℕ) (level i : ℕ) (l : Levelled p t level i
     named-more : (v : ℕ) → any (names v) (take (i + 1) p) ≡ (any (names v) (take i p) || eqb v (natAbs word))
     unfolding any word
     named-more v =
-        rw (more p i (pos 0) h, any-append (names v) (take i p) (getD p i (pos 0) ∷ []))
+        rw (take-more p i (pos 0) h, any-append (names v) (take i p) (getD p i (pos 0) ∷ []))
         (ap (λ b. any (names v) (take i p) || b) (or-false (eqb v (natAbs (getD p i (pos 0))))))
 
     level-here : (v : ℕ) → v ≡ natAbs word → levelOf (drop i p) v ≡ 0

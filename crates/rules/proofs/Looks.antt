@@ -1,33 +1,25 @@
 -- What one literal more does to the look at a clause, and what the look says at the clause's end: each by the literal's status.
 use Prim.Native.Nat.{ℕ, zero, suc, _+_, _-_, _≤_, _<_, min}
 use mathlib.Core.Path.{_≡_, refl, sym, _∙_}
-use mathlib.Core.Bool.{Bool, true, false, _&&_, Bool·beq}
+use mathlib.Core.Bool.{Bool, true, false, _&&_}
 use mathlib.Core.List.{List, [], _∷_}
 use native.Mathlib.Numerals.{add-one}
 use native.Mathlib.Omega.{arith}
 use lib.Dec.{ltb, leb}
-use lib.IntN.{ℤ, pos, negsuc, natAbs}
+use lib.IntN.{ℤ, pos}
 use lib.ListN.{length, getD, take, drop}
-use borrow.Author.Tests.{lt-ltb, le-ltb, le-leb, leb-true, eq-eqb}
+use borrow.Author.Tests.{lt-ltb, le-ltb, le-leb, leb-true}
 use Rattle.words.specs.declared.Literal.{Literal}
 use Rattle.words.specs.Bools.{clash, and-l, and-r}
-use Rattle.words.specs.Words.{negative, eqZ}
-use Rattle.formula.specs.Limits.{variables-are}
+use Rattle.words.specs.Words.{eqZ}
 use Rattle.rules.specs.Due.{pick, literal}
-use Rattle.rules.specs.Clauses.{places, levelBy, staysUnit, unitFrom, unitAfter, unitWith, Shown, decidedBy, lowestUnitBy}
+use Rattle.rules.specs.Clauses.{levelBy, staysUnit, unitFrom, unitAfter, unitWith, Shown, decidedBy, lowestUnitBy}
 use Rattle.rules.specs.declared.clauses.Look.{Look}
 use Rattle.rules.specs.declared.Picked.{Picked}
 use Rattle.rules.specs.declared.Picked.the-variants.{Is, NoLiteral}
 use Rattle.rules.specs.declared.UnitFound.the-variants.{On, NoUnit}
 use Rattle.rules.proofs.Walk.{part-next, part-ended}
-
--- two words of one size are the same if their signs are
-pub same-sign : (x y : ℤ) → natAbs x ≡ natAbs y → Bool·beq (negative x) (negative y) ≡ eqZ x y
-unfolding eqZ
-same-sign (pos m) (pos n) e = sym (eq-eqb m n e)
-same-sign (pos m) (negsuc n) e = refl
-same-sign (negsuc m) (pos n) e = refl
-same-sign (negsuc m) (negsuc n) e = let z : m ≡ n = omega arith in sym (eq-eqb m n z)
+use Rattle.rules.specs.Tables.{places}
 
 -- none of the three lower ones
 above-two : (s : ℕ) → (s ≡ 0 → ⊥) → (s ≡ 1 → ⊥) → (s ≡ 2 → ⊥) → (n : ℕ) × (s ≡ suc (suc (suc n)))
@@ -120,9 +112,9 @@ module _ (st lev : ℤ → ℕ) (ls : List ℤ) (j end : ℕ) (k k′ : Look) {u
   clause-over o = sym clause-next ∙ (rw o)
 
 -- the look before the first literal
-pub look-start : (st lev : ℤ → ℕ) (ls : List ℤ) (end : ℕ) (C : List ℤ) → unitAfter st lev ls end end 257 false C ≡ unitFrom st lev places C
+pub look-start : (st lev : ℤ → ℕ) (ls : List ℤ) (end : ℕ) (C : List ℤ) → unitAfter st lev ls end end places false C ≡ unitFrom st lev places C
 unfolding unitAfter
-look-start st lev ls end C = let l : end ≤ end = omega arith in rw (le-ltb end end l, variables-are)
+look-start st lev ls end C = let l : end ≤ end = omega arith in rw (le-ltb end end l)
 
 -- one clause more
 module _ (st lev : ℤ → ℕ) (c : ℕ) (C : List ℤ) (m : List (List ℤ)) where

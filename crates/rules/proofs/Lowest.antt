@@ -1,7 +1,7 @@
 -- The lowest level of an unassigned variable: each variable of a level below k is assigned exactly if k is at most that level.
 use mathlib.Core.Path.{_≡_, sym, _∙_}
 use mathlib.Core.Logic.{⊎-elim}
-use mathlib.Core.Bool.{Bool, true, _&&_, _||_}
+use mathlib.Core.Bool.{Bool, true, _&&_, _||_, and-true, and-false}
 use mathlib.Core.List.{List}
 use Prim.Native.Nat.{ℕ, _+_, _≤_, _<_}
 use native.Mathlib.Nat.{le-trans, le-of-lt}
@@ -11,16 +11,14 @@ use lib.IntN.{ℤ, pos, natAbs}
 use lib.ListN.{length, getD, drop}
 use borrow.Author.Tests.{le-leb, leb-true, eq-eqb}
 use Rattle.words.specs.Bools.{look}
-use Rattle.words.specs.Lists.{all, any, any-i, next, ended}
+use Rattle.words.specs.Lists.{all, any, any-i, next, ended, in-at}
 use Rattle.formula.specs.Limits.{limits}
 use Rattle.formula.specs.Formula.{level}
 use Rattle.formula.specs.Block.{names}
 use Rattle.theory.specs.Record.{Assignment, assigned}
-use Rattle.rules.specs.Tables.{Values, Levels, Lowest}
-use Rattle.rules.proofs.Lists.{at-in}
-use Rattle.rules.proofs.Filled.{places, enough}
+use Rattle.rules.specs.Tables.{Values, Levels, Lowest, places}
+use Rattle.rules.proofs.Filled.{enough}
 use Rattle.rules.proofs.Unassigned.{unassigned, is-assigned}
-use Rattle.rules.proofs.Lists.{and-false, and-true}
 
 -- of two levels the lower one decides
 lower-first : (k a b : ℕ) (r : Bool) → a ≤ b → (leb k a && r) ≡ (leb k a && (leb k b && r))
@@ -57,7 +55,7 @@ module _ (p : List ℤ) (t : List ℕ) (low i : ℕ) (l : Lowering p t low i) wh
 
   module _ (h : i < length p) (levels : List ℕ) (levelled : Levels p levels) (s : ℕ) (is : s ≡ natAbs (getD p i (pos 0))) where
     named : any (names s) p ≡ true
-    named = any-i (names s) (at-in p i (pos 0) h) (eq-eqb s (natAbs (getD p i (pos 0))) is)
+    named = any-i (names s) (in-at p i (pos 0) h) (eq-eqb s (natAbs (getD p i (pos 0))) is)
 
     free : (ρ : Assignment) → Values ρ t → (k : ℕ) → getD t s 0 ≡ 0 → clear p ρ k (getD p i (pos 0)) ≡ leb k (getD levels s 0)
     unfolding level

@@ -1,18 +1,21 @@
 -- A variable of the prefix is monotone by its place in the table of signs: it has 1 where the prefix's own word is to be taken, 2 where
 -- that word's opposite is.
 use mathlib.Core.Path.{_≡_, refl, _∙_, ap}
-use mathlib.Core.Bool.{Bool, true, false, not, _&&_, _||_}
+use mathlib.Core.Bool.{Bool, true, false, not, _&&_, _||_, or-false, or-comm}
 use mathlib.Core.List.{List}
 use Prim.Native.Nat.{ℕ, zero, suc, _+_, _≤_, _<_}
 use native.Mathlib.Omega.{arith}
+use native.Mathlib.Nat.{le-trans}
 use lib.Dec.{eqb}
 use lib.IntN.{ℤ, pos, negsuc, negℤ, natAbs}
 use lib.ListN.{length, getD, drop}
 use borrow.Author.Tests.{eq-eqb, ne-eqb}
-use Rattle.words.specs.Lists.{In, next, ended}
+use Rattle.words.specs.Lists.{In, next, ended, in-at}
 use Rattle.words.specs.Words.{opposite, opposite-is, negneg, mem, mem-i}
-use Rattle.formula.specs.Limits.{limits}
+use Rattle.formula.specs.Limits.{limits, variables-small}
 use Rattle.formula.specs.Formula.{existential, universal}
+use Rattle.formula.specs.Named.{all-named, in-named}
+use Rattle.formula.specs.Prefix.{one-sign}
 use Rattle.theory.specs.Record.{Assignment, assigned}
 use Rattle.theory.specs.Tests.{unassignedE, unassignedU, oneSign, monotone}
 use Rattle.rules.specs.declared.Picked.{Picked}
@@ -20,11 +23,8 @@ use Rattle.rules.specs.declared.Picked.the-variants.{Is, NoLiteral}
 use Rattle.rules.specs.Due.{literal, pick, firstMonotone}
 use Rattle.rules.specs.Ready.{Bound}
 use Rattle.rules.specs.Tables.{Values, Signs, signsOf, Spread}
-use Rattle.rules.proofs.Lists.{at-in, or-false}
-use Rattle.rules.proofs.Named.{named-in, named-at}
 use Rattle.rules.proofs.Filled.{bound-named}
-use Rattle.rules.proofs.Bound.{bound-once}
-use Rattle.rules.proofs.Unassigned.{unassigned, is-assigned, small}
+use Rattle.rules.proofs.Unassigned.{unassigned, is-assigned}
 
 -- ---- signs
 one-plus : (a b : Bool) → (a && not b) ≡ eqb (pick a (pick b 3 1) (pick b 2 0)) 1
@@ -40,37 +40,31 @@ one-minus false true = refl
 one-minus false false = refl
 
 module _ (ls : List ℤ) (m : List (List ℤ)) (spread : Spread ls m) (v : ℕ) where
-  pub sign-plus : oneSign m (pos v) ≡ eqb (signsOf ls v) 1
+  pub only-plus : oneSign m (pos v) ≡ eqb (signsOf ls v) 1
   unfolding oneSign
-  sign-plus = rw (spread (pos v), spread (negℤ (pos v))) (one-plus (mem (pos v) ls) (mem (negℤ (pos v)) ls))
+  only-plus = rw (spread (pos v), spread (negℤ (pos v))) (one-plus (mem (pos v) ls) (mem (negℤ (pos v)) ls))
 
-  pub sign-minus : oneSign m (negℤ (pos v)) ≡ eqb (signsOf ls v) 2
+  pub only-minus : oneSign m (negℤ (pos v)) ≡ eqb (signsOf ls v) 2
   unfolding oneSign
-  sign-minus = rw (negneg (pos v), spread (pos v), spread (negℤ (pos v))) (one-minus (mem (pos v) ls) (mem (negℤ (pos v)) ls))
-
-or-swap : (a b : Bool) → (a || b) ≡ (b || a)
-or-swap true true = refl
-or-swap true false = refl
-or-swap false true = refl
-or-swap false false = refl
+  only-minus = rw (negneg (pos v), spread (pos v), spread (negℤ (pos v))) (one-minus (mem (pos v) ls) (mem (negℤ (pos v)) ls))
 
 -- ---- a word of the prefix and its opposite
 module _ (p : List ℤ) (b : Bound p) (m : List (List ℤ)) (ρ : Assignment) where
   pub monotone-own : (q : ℤ) → In q p → monotone p m ρ q ≡ (not (assigned ρ q) && oneSign m (pos (natAbs q)))
   unfolding monotone unassignedE unassignedU existential universal
-  monotone-own (pos zero) i = absurd (let k = named-in (length p) p (b .named) i in omega arith)
+  monotone-own (pos zero) i = absurd (let k = in-named (length p) p (b .named) i in omega (arith, k .some))
   monotone-own (pos (suc n)) i =
-      rw (mem-i i, bound-once p b (pos (suc n)) i)
+      rw (mem-i i, one-sign p (b .once) i (omega arith))
       (or-false (not (assigned ρ (pos (suc n))) && oneSign m (pos (suc n))))
-  monotone-own (negsuc n) i = rw (mem-i i, bound-once p b (negsuc n) i)
+  monotone-own (negsuc n) i = rw (mem-i i, one-sign p (b .once) i (omega arith))
 
   pub monotone-opposite : (q : ℤ) → In q p → monotone p m ρ (negℤ q) ≡ (not (assigned ρ q) && oneSign m (negℤ (pos (natAbs q))))
   unfolding monotone unassignedE unassignedU existential universal assigned
-  monotone-opposite (pos zero) i = absurd (let k = named-in (length p) p (b .named) i in omega arith)
+  monotone-opposite (pos zero) i = absurd (let k = in-named (length p) p (b .named) i in omega (arith, k .some))
   monotone-opposite (pos (suc n)) i =
-      rw (mem-i i, bound-once p b (pos (suc n)) i, or-swap (ρ (negsuc n)) (ρ (pos (suc n))))
+      rw (mem-i i, one-sign p (b .once) i (omega arith), or-comm (ρ (negsuc n)) (ρ (pos (suc n))))
       (or-false (not (ρ (pos (suc n)) || ρ (negsuc n)) && oneSign m (negsuc n)))
-  monotone-opposite (negsuc n) i = rw (mem-i i, bound-once p b (negsuc n) i, or-swap (ρ (negsuc n)) (ρ (pos (suc n))))
+  monotone-opposite (negsuc n) i = rw (mem-i i, one-sign p (b .once) i (omega arith), or-comm (ρ (negsuc n)) (ρ (pos (suc n))))
 
 -- ---- the word at i, by the tables
 module _ (p : List ℤ) (b : Bound p) (t signs : List ℕ) (i : ℕ) (h : i < length p) (s : ℕ) (is : s ≡ natAbs (getD p i (pos 0))) where
@@ -80,11 +74,11 @@ module _ (p : List ℤ) (b : Bound p) (t signs : List ℕ) (i : ℕ) (h : i < le
 
   own : (n : Bool) → Always (λ ρ m. assigned ρ (getD p i (pos 0)) ≡ n → monotone p m ρ (getD p i (pos 0)) ≡ (not n && eqb (getD signs s 0) 1))
   own n ρ ls m said signed spread e =
-      rw (monotone-own p b m ρ (getD p i (pos 0)) (at-in p i (pos 0) h), e, sign-plus ls m spread (natAbs (getD p i (pos 0))), signed s, is)
+      rw (monotone-own p b m ρ (getD p i (pos 0)) (in-at p i (pos 0) h), e, only-plus ls m spread (natAbs (getD p i (pos 0))), signed s, is)
 
   turned : (n : Bool) → Always (λ ρ m. assigned ρ (getD p i (pos 0)) ≡ n → monotone p m ρ (negℤ (getD p i (pos 0))) ≡ (not n && eqb (getD signs s 0) 2))
   turned n ρ ls m said signed spread e =
-      rw (monotone-opposite p b m ρ (getD p i (pos 0)) (at-in p i (pos 0) h), e, sign-minus ls m spread (natAbs (getD p i (pos 0))), signed s, is)
+      rw (monotone-opposite p b m ρ (getD p i (pos 0)) (in-at p i (pos 0) h), e, only-minus ls m spread (natAbs (getD p i (pos 0))), signed s, is)
 
   plus-here : getD t s 0 ≡ 0 → getD signs s 0 ≡ 1 → Always (λ ρ m. Is (literal (getD p i (pos 0))) ≡ firstMonotone p m ρ (drop i p))
   unfolding firstMonotone
@@ -96,7 +90,7 @@ module _ (p : List ℤ) (b : Bound p) (t signs : List ℕ) (i : ℕ) (h : i < le
   unfolding firstMonotone
   minus-here z k e ρ ls m said signed spread =
       let free = unassigned ρ t said (getD p i (pos 0)) s is z in
-      let fits = small (natAbs (getD p i (pos 0))) (named-at (limits .variables) p (bound-named b) i h .to) in
+      let fits = le-trans (all-named (limits .variables) p (bound-named b) .at i h .most) variables-small in
       rw (next p i (pos 0) h, own false ρ ls m said signed spread free, ne-eqb (getD signs s 0) 1 k, turned false ρ ls m said signed spread free, eq-eqb (getD signs s 0) 2 e)
       (ap (λ w. Is (literal w)) (opposite-is (getD p i (pos 0)) fits))
 

@@ -11,12 +11,11 @@ use lib.Seq.{drop-drop, drop-length}
 use borrow.Author.Tests.{ltb-false, eqb-true, not-false}
 use Rattle.words.specs.Bools.{or-fl, or-fr}
 use Rattle.words.specs.Lists.{any}
-use Rattle.words.specs.Words.{negative, mem}
+use Rattle.words.specs.Words.{negative, mem, mem-append}
 use Rattle.formula.specs.Formula.{clausesFrom}
 use Rattle.formula.specs.Block.{badEnds}
 use Rattle.theory.specs.Tests.{occurs}
 use Rattle.rules.specs.Tables.{Spread}
-use Rattle.rules.proofs.Lists.{mem-append}
 
 -- the words from one end to the next, and those after
 divided : (l : ℤ) (ls : List ℤ) (from to : ℕ) → from ≤ to → mem l (drop from ls) ≡ (mem l (take (to - from) (drop from ls)) || mem l (drop to ls))

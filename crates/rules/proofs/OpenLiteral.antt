@@ -1,6 +1,6 @@
 -- An open literal: its variable is bound and unassigned, and its level is at most the lowest of an unassigned variable.
 use mathlib.Core.Path.{_≡_, refl, _∙_, ap}
-use mathlib.Core.Bool.{Bool, true, false, not, _&&_, _||_}
+use mathlib.Core.Bool.{Bool, true, false, not, _&&_, _||_, and-false}
 use mathlib.Core.List.{List}
 use Prim.Native.Nat.{ℕ, _+_, _≤_, _<_}
 use native.Mathlib.Nat.{le-trans}
@@ -11,13 +11,11 @@ use Rattle.words.specs.Lists.{any, next, ended}
 use Rattle.formula.specs.Limits.{limits}
 use Rattle.formula.specs.Formula.{existential, universal, levelOf, level}
 use Rattle.formula.specs.Block.{names}
+use Rattle.formula.specs.Prefix.{stands, binds, level-few}
 use Rattle.theory.specs.Record.{Assignment, assigned}
 use Rattle.theory.specs.Tests.{unassignedE, unassignedU, isOpen}
 use Rattle.rules.specs.Preferred.{firstOpen}
 use Rattle.rules.specs.Tables.{Levels, Lowest}
-use Rattle.rules.proofs.Levels.{level-few}
-use Rattle.rules.proofs.Bound.{binds}
-use Rattle.rules.proofs.Lists.{and-false}
 
 both-under : (a b c : Bool) → ((a && c) || (b && c)) ≡ ((a || b) && c)
 both-under true true true = refl
@@ -29,7 +27,7 @@ both-under false b c = refl
 -- ---- an open literal
 module _ (p : List ℤ) (ρ : Assignment) (l : ℤ) where
   pub unassigned-is : (unassignedE p ρ l || unassignedU p ρ l) ≡ (any (names (natAbs l)) p && not (assigned ρ l))
-  unfolding unassignedE unassignedU
+  unfolding unassignedE unassignedU stands
   unassigned-is = both-under (existential p l) (universal p l) (not (assigned ρ l)) ∙ ap (λ b. b && not (assigned ρ l)) (binds p l)
 
   module _ (v : ℕ) (is : v ≡ natAbs l) where

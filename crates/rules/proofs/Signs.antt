@@ -7,13 +7,12 @@ use native.Mathlib.Nat.{le-refl}
 use native.Mathlib.Omega.{arith}
 use lib.IntN.{ℤ, pos, negsuc, natAbs}
 use lib.ListN.{length, getD, take, set, replicate}
-use Rattle.words.specs.Words.{eqZ, mem}
+use Rattle.words.specs.Words.{eqZ, mem, mem-here, mem-other, plus-other, minus-other}
 use Rattle.formula.specs.Limits.{limits}
+use Rattle.formula.specs.Named.{all-named, Named}
 use Rattle.rules.specs.Due.{pick}
-use Rattle.rules.specs.Tables.{signOf, signsOf, join, Named}
-use Rattle.rules.proofs.Lists.{mem-here, mem-other, plus-other, minus-other}
-use Rattle.rules.proofs.Named.{Names, named-at}
-use Rattle.rules.proofs.Filled.{Filled, places, begin, turn, placed}
+use Rattle.rules.specs.Tables.{signOf, signsOf, join, Known, places}
+use Rattle.rules.proofs.Filled.{Filled, begin, turn, placed}
 
 pub sign-other : (xs : List ℤ) (w : ℤ) (v : ℕ) → (v ≡ natAbs w → ⊥) → signsOf (xs ++ w ∷ []) v ≡ signsOf xs v
 sign-other xs w v k = rw (plus-other xs w v k, minus-other xs w v k)
@@ -30,7 +29,7 @@ join-minus true false = refl
 join-minus false true = refl
 join-minus false false = refl
 
-pub sign-new : (n : ℕ) (xs : List ℤ) (w : ℤ) → Names n w → join (signsOf xs (natAbs w)) (signOf w) ≡ signsOf (xs ++ w ∷ []) (natAbs w)
+pub sign-new : (n : ℕ) (xs : List ℤ) (w : ℤ) → Named n w → join (signsOf xs (natAbs w)) (signOf w) ≡ signsOf (xs ++ w ∷ []) (natAbs w)
 unfolding eqZ
 sign-new n xs (pos zero) h = absurd (omega arith)
 sign-new n xs (pos (suc k)) h =
@@ -45,9 +44,9 @@ pub signs-begin : (ls : List ℤ) → Filled signsOf ls (length ls) (replicate p
 unfolding mem
 signs-begin ls = begin signsOf ls (length ls) (λ v. refl)
 
-module _ (ls : List ℤ) (named : Named ls) (i : ℕ) (h : i < length ls) (t : List ℕ) where
+module _ (ls : List ℤ) (named : Known ls) (i : ℕ) (h : i < length ls) (t : List ℕ) where
   pub signs-turn : Filled signsOf ls (length ls) t i → (s b a : ℕ) → s ≡ natAbs (getD ls i (pos 0)) → b ≡ signOf (getD ls i (pos 0)) → a ≡ join (getD t s 0) b → Filled signsOf ls (length ls) (set t s a) (i + 1)
   signs-turn f s b a is sign new =
       turn signsOf ls (length ls) t i f h (le-refl (length ls)) s a (placed ls i s named h is)
-      (new ∙ rw (sign, f .said s, is) (sign-new (limits .variables) (take i ls) (getD ls i (pos 0)) (named-at (limits .variables) ls named i h)))
+      (new ∙ rw (sign, f .said s, is) (sign-new (limits .variables) (take i ls) (getD ls i (pos 0)) (all-named (limits .variables) ls named .at i h)))
       (λ v k. sign-other (take i ls) (getD ls i (pos 0)) v (λ e. k (e ∙ sym is)))

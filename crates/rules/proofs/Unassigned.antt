@@ -4,19 +4,19 @@ use mathlib.Core.Bool.{Bool, true, false, not, _||_}
 use mathlib.Core.List.{List}
 use Prim.Native.Nat.{ℕ, suc, _+_, _≤_, _<_}
 use native.Mathlib.Nat.{le-trans}
-use lib.Dec.{eqb, lit≤}
+use lib.Dec.{eqb}
 use lib.IntN.{ℤ, pos, negsuc, negℤ, natAbs}
 use lib.ListN.{length, getD, drop}
 use borrow.Author.Tests.{eq-eqb, ne-eqb, not-false}
 use Rattle.words.specs.Bools.{not-t}
 use Rattle.words.specs.Lists.{next, ended}
 use Rattle.words.specs.Words.{negative, opposite, opposite-is}
-use Rattle.formula.specs.Limits.{limits}
+use Rattle.formula.specs.Limits.{limits, variables-small}
+use Rattle.formula.specs.Named.{all-named}
 use Rattle.theory.specs.Record.{Assignment, assigned}
 use Rattle.rules.specs.declared.Picked.the-variants.{Is, NoLiteral}
 use Rattle.rules.specs.Due.{literal, pick, firstUnassigned}
-use Rattle.rules.specs.Tables.{valueOf, Values, Named}
-use Rattle.rules.proofs.Named.{named-at}
+use Rattle.rules.specs.Tables.{valueOf, Values, Known}
 
 -- ---- a variable's place in the table of values
 plus-zero : (a b : Bool) → eqb (pick a 1 (pick b 2 0)) 0 ≡ not (a || b)
@@ -45,14 +45,10 @@ module _ (ρ : Assignment) (t : List ℕ) (said : Values ρ t) (q : ℤ) (s : �
   pub is-assigned : (getD t s 0 ≡ 0 → ⊥) → assigned ρ q ≡ true
   is-assigned k = not-false (assigned ρ q) (sym zero-there ∙ ne-eqb (getD t s 0) 0 k)
 
--- ---- words that name variables are far from the least word
-pub small : (n : ℕ) → n ≤ limits .variables → n ≤ 2147483647
-unfolding limits
-small n h = le-trans h (lit≤ tt)
-
+-- ---- a variable made true
 pub true-word : (w : ℤ) → natAbs w ≤ limits .variables → pick (negative w) (opposite w) w ≡ pos (natAbs w)
 true-word (pos n) h = refl
-true-word (negsuc n) h = opposite-is (negsuc n) (small (suc n) h)
+true-word (negsuc n) h = opposite-is (negsuc n) (le-trans h variables-small)
 
 -- ---- the loop at i
 module _ (ρ : Assignment) (p : List ℤ) (i : ℕ) where
@@ -60,12 +56,12 @@ module _ (ρ : Assignment) (p : List ℤ) (i : ℕ) where
   unfolding firstUnassigned
   none-left h = rw (ended p i h)
 
-  module _ (named : Named p) (t : List ℕ) (said : Values ρ t) (h : i < length p) (s : ℕ) (is : s ≡ natAbs (getD p i (pos 0))) where
+  module _ (named : Known p) (t : List ℕ) (said : Values ρ t) (h : i < length p) (s : ℕ) (is : s ≡ natAbs (getD p i (pos 0))) where
     pub found : getD t s 0 ≡ 0 → Is (literal (pick (negative (getD p i (pos 0))) (opposite (getD p i (pos 0))) (getD p i (pos 0)))) ≡ firstUnassigned ρ (drop i p)
     unfolding firstUnassigned
     found e =
         rw (next p i (pos 0) h, unassigned ρ t said (getD p i (pos 0)) s is e)
-        (ap (λ z. Is (literal z)) (true-word (getD p i (pos 0)) (named-at (limits .variables) p named i h .to)))
+        (ap (λ z. Is (literal z)) (true-word (getD p i (pos 0)) (all-named (limits .variables) p named .at i h .most)))
 
     pub passed : (getD t s 0 ≡ 0 → ⊥) → firstUnassigned ρ (drop (i + 1) p) ≡ firstUnassigned ρ (drop i p)
     unfolding firstUnassigned

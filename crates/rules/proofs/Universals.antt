@@ -9,14 +9,13 @@ use lib.Dec.{eqb·zero-suc}
 use lib.IntN.{ℤ, pos, negsuc, negℤ, natAbs}
 use lib.ListN.{length, getD, take, set, replicate}
 use Rattle.words.specs.Bools.{clash}
-use Rattle.words.specs.Words.{negative, eqZ, mem}
+use Rattle.words.specs.Words.{negative, eqZ, mem, mem-here, mem-other, minus-other}
 use Rattle.formula.specs.Limits.{limits}
 use Rattle.formula.specs.Formula.{universal}
+use Rattle.formula.specs.Named.{all-named}
 use Rattle.rules.specs.Due.{pick}
-use Rattle.rules.specs.Tables.{Named}
-use Rattle.rules.proofs.Lists.{mem-here, mem-other, minus-other}
-use Rattle.rules.proofs.Named.{named-at}
-use Rattle.rules.proofs.Filled.{Filled, places, begin, turn, pass, placed}
+use Rattle.rules.specs.Tables.{Known, places}
+use Rattle.rules.proofs.Filled.{Filled, begin, turn, pass, placed}
 
 -- what the words say of a variable
 abbrev pub universally : List ℤ → ℕ → ℕ
@@ -48,7 +47,7 @@ pub universals-begin : (p : List ℤ) → Filled universally p (length p) (repli
 unfolding mem universal
 universals-begin p = begin universally p (length p) (λ v. refl)
 
-module _ (p : List ℤ) (named : Named p) (i : ℕ) (h : i < length p) (t : List ℕ) where
+module _ (p : List ℤ) (named : Known p) (i : ℕ) (h : i < length p) (t : List ℕ) where
   pub universals-turn : Filled universally p (length p) t i → (s : ℕ) → s ≡ natAbs (getD p i (pos 0)) → negative (getD p i (pos 0)) ≡ true → Filled universally p (length p) (set t s 1) (i + 1)
   universals-turn f s is g =
       turn universally p (length p) t i f h (le-refl (length p)) s 1 (placed p i s named h is)
@@ -56,4 +55,4 @@ module _ (p : List ℤ) (named : Named p) (i : ℕ) (h : i < length p) (t : List
       (λ v k. universal-other (take i p) (getD p i (pos 0)) v (λ e. k (e ∙ sym is)))
 
   pub universals-pass : Filled universally p (length p) t i → negative (getD p i (pos 0)) ≡ false → Filled universally p (length p) t (i + 1)
-  universals-pass f g = pass universally p (length p) t i f h (le-refl (length p)) (universal-same (take i p) (getD p i (pos 0)) (named-at (limits .variables) p named i h .from) g)
+  universals-pass f g = pass universally p (length p) t i f h (le-refl (length p)) (universal-same (take i p) (getD p i (pos 0)) (all-named (limits .variables) p named .at i h .some) g)

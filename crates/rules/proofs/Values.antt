@@ -9,14 +9,14 @@ use lib.ListN.{length, getD, take, set, replicate}
 use lib.Seq.{getD-take, take-take, length-take-le}
 use Rattle.words.specs.Bools.{clash}
 use Rattle.words.specs.Lists.{any}
-use Rattle.words.specs.Words.{negative, eqZ, mem}
+use Rattle.words.specs.Words.{negative, eqZ, mem, mem-here, mem-other, plus-other, minus-other}
 use Rattle.formula.specs.Limits.{limits}
 use Rattle.formula.specs.Block.{names}
+use Rattle.formula.specs.Named.{Named, all-named}
+use Rattle.formula.specs.Prefix.{fresh-word, fresh-at}
 use Rattle.theory.specs.Record.{among}
-use Rattle.rules.specs.Tables.{signOf, valueOf, Written}
-use Rattle.rules.proofs.Lists.{mem-here, mem-other, plus-other, minus-other}
-use Rattle.rules.proofs.Named.{Names, named-at, fresh-word, fresh-at}
-use Rattle.rules.proofs.Filled.{Filled, places, begin, turn, placed}
+use Rattle.rules.specs.Tables.{signOf, valueOf, Written, places}
+use Rattle.rules.proofs.Filled.{Filled, begin, turn, placed}
 
 pub sign-minus : (w : ℤ) → negative w ≡ true → 2 ≡ signOf w
 sign-minus (pos n) h = clash h refl
@@ -33,7 +33,7 @@ valued xs v = valueOf (among xs) v
 pub value-other : (xs : List ℤ) (w : ℤ) (v : ℕ) → (v ≡ natAbs w → ⊥) → valued (xs ++ w ∷ []) v ≡ valued xs v
 value-other xs w v k = rw (plus-other xs w v k, minus-other xs w v k)
 
-pub value-new : (n : ℕ) (xs : List ℤ) (w : ℤ) → Names n w → any (names (natAbs w)) xs ≡ false → signOf w ≡ valued (xs ++ w ∷ []) (natAbs w)
+pub value-new : (n : ℕ) (xs : List ℤ) (w : ℤ) → Named n w → any (names (natAbs w)) xs ≡ false → signOf w ≡ valued (xs ++ w ∷ []) (natAbs w)
 unfolding eqZ
 value-new n xs (pos zero) h f = absurd (omega arith)
 value-new n xs (pos (suc k)) h f = rw (mem-here xs (pos (suc k)))
@@ -57,7 +57,7 @@ module _ (ls : List ℤ) (n : ℕ) (w : Written ls n) (i : ℕ) (h : i < n) wher
   pub values-turn : (t : List ℕ) → Filled valued ls n t i → (s a : ℕ) → s ≡ natAbs (getD ls i (pos 0)) → a ≡ signOf (getD ls i (pos 0)) → Filled valued ls n (set t s a) (i + 1)
   values-turn t f s a is new =
       let l : i < length (take n ls) = rw short h in
-      let word = rw written-at at (named-at (limits .variables) (take n ls) (w .named) i l) in
+      let word = rw written-at at (all-named (limits .variables) (take n ls) (w .named) .at i l) in
       let fresh = rw (written-at, take-take i n ls (omega arith)) at (fresh-at (take n ls) (w .once) i l) in
       turn valued ls n t i f h (w .room) s a (written-placed s is)
       (rw is (new ∙ value-new (limits .variables) (take i ls) (getD ls i (pos 0)) word fresh))

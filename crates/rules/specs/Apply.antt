@@ -1,13 +1,12 @@
 -- One rule applied to the lent buffers.
 use Prim.Native.Nat.{ℕ, zero, suc, _+_, _-_}
-use mathlib.Core.Bool.{Bool, true, false, cond}
 use mathlib.Core.List.{List, [], _∷_}
 use lib.Dec.{eqb}
 use lib.IntN.{ℤ, pos, negℤ, natAbs}
 use lib.ListN.{length, getD, take, set, replicate}
 use lib.Seq.{sets}
-use Rattle.formula.specs.Formula.{Formula, universal}
-use Rattle.theory.specs.Record.{Entry, entry, Record}
+use Rattle.formula.specs.Formula.{universal}
+use Rattle.theory.specs.Record.{entry, Record}
 use Rattle.rules.specs.Due.{pick}
 use Rattle.rules.specs.declared.State.{State}
 use Rattle.rules.specs.declared.State.the-variants.{Open, Valid, Unsat}

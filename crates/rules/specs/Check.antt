@@ -1,8 +1,8 @@
 -- Row 12: "record length over V, or an entry in it: 0, size over V, variable twice, kind above 2, kind 1 on a universal or 2 on an
 -- existential variable".
 use Prim.Native.Nat.{ℕ}
-use mathlib.Core.Bool.{Bool, true, false, _&&_, _||_}
-use mathlib.Core.List.{List, [], _∷_}
+use mathlib.Core.Bool.{Bool, _&&_, _||_}
+use mathlib.Core.List.{List}
 use lib.Dec.{eqb, ltb}
 use lib.IntN.{ℤ}
 use lib.ListN.{length}

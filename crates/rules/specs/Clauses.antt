@@ -11,16 +11,12 @@ use Rattle.words.specs.Words.{eqZ}
 use Rattle.formula.specs.Limits.{limits}
 use Rattle.formula.specs.Block.{badEnds}
 use Rattle.rules.specs.Due.{pick, onPicked, literal}
-use Rattle.rules.specs.Tables.{signOf}
+use Rattle.rules.specs.Tables.{places, signOf}
 use Rattle.rules.specs.declared.clauses.Look.{Look}
 use Rattle.rules.specs.declared.Picked.{Picked}
 use Rattle.rules.specs.declared.Picked.the-variants.{Is, NoLiteral}
 use Rattle.rules.specs.declared.UnitFound.{UnitFound}
 use Rattle.rules.specs.declared.UnitFound.the-variants.{On, NoUnit}
-
--- a table has a place for each variable, and place 0
-abbrev pub places : ℕ
-places = suc (limits .variables)
 
 -- every word's size is a place
 abbrev pub Placed : List ℤ → Type 0

@@ -17,11 +17,12 @@ use Rattle.formula.specs.Formula.{existential, universal, level}
 use Rattle.theory.specs.Record.{Assignment}
 use Rattle.theory.specs.Tests.{unassignedE, unassignedU, inConflict, unitOn}
 use Rattle.rules.specs.Due.{pick, onFound, onPicked, literal, lowest, candidate, isUnit, lowestUnit}
-use Rattle.rules.specs.Clauses.{places, conflictBy, staysUnit, unitFrom, lowestUnitBy}
+use Rattle.rules.specs.Clauses.{conflictBy, staysUnit, unitFrom, lowestUnitBy}
 use Rattle.rules.specs.declared.Picked.{Picked}
 use Rattle.rules.specs.declared.Picked.the-variants.{Is, NoLiteral}
 use Rattle.rules.specs.declared.Found.the-variants.{At}
 use Rattle.rules.specs.declared.UnitFound.the-variants.{On, NoUnit}
+use Rattle.rules.specs.Tables.{places}
 
 ltb-min : (a b c : ℕ) → ltb a (min b c) ≡ (ltb a b && ltb a c)
 ltb-min a b c = go (look (ltb a b)) (look (ltb a c))

@@ -1,23 +1,24 @@
 -- Over checked input and its tables the tests of a clause are the rules' own: a literal's variable is bound once, so its value and its
 -- quantifier, which the tables hold, decide what the literal is to its clause.
-use Prim.Native.Nat.{ℕ, zero, suc, _+_, _≤_, _<_, zero-le}
+use Prim.Native.Nat.{ℕ, zero, suc, _≤_, _<_, zero-le}
 use mathlib.Core.Path.{_≡_, refl, sym, _∙_, ap}
 use mathlib.Core.Logic.{_⊎_, inl, inr}
-use mathlib.Core.Bool.{Bool, true, false, not, cond, and-true, and-false, Bool·beq}
-use mathlib.Core.List.{List, [], _∷_}
+use mathlib.Core.Bool.{true, false, not, and-true, and-false}
+use mathlib.Core.List.{List}
 use native.Mathlib.Omega.{arith}
-use lib.Dec.{eqb, ltb}
+use lib.Dec.{ltb}
 use lib.IntN.{ℤ, pos, negsuc, negℤ, natAbs}
 use lib.ListN.{length, getD, List·getD-eq-default}
 use borrow.Author.Tests.{ltb-true, ltb-false}
 use Rattle.words.specs.Bools.{clash, look, to-false}
 use Rattle.words.specs.Lists.{In, in-at}
-use Rattle.words.specs.Words.{negative, mem-e}
-use Rattle.formula.specs.Limits.{limits}
-use Rattle.formula.specs.Formula.{existential, universal, change, levelOf, level, clausesFrom}
+use Rattle.words.specs.Words.{mem-e}
+use Rattle.formula.specs.Limits.{limits, variables-are}
+use Rattle.formula.specs.Formula.{existential, universal, level, clausesFrom}
 use Rattle.formula.specs.Block.{twice}
 use Rattle.formula.specs.Named.{Named, in-named}
-use Rattle.formula.specs.Permuted.{once-in, all-bound, quantifier}
+use Rattle.formula.specs.Prefix.{once-in, level-few}
+use Rattle.formula.specs.Permuted.{all-bound, quantifier}
 use Rattle.formula.specs.Clauses.{clauses-in}
 use Rattle.theory.specs.Record.{Assignment, among, assigned}
 use Rattle.theory.specs.Tests.{unassignedE, unassignedU, inConflict}
@@ -100,24 +101,6 @@ once-consistent ls h (suc n) z e = to-false _ (λ f. opposite (once-in ls h (mem
     opposite : pos (suc n) ≡ negsuc n → ⊥
     opposite q = let k : _≡_ {A = ℕ} 0 1 = cc in omega arith
 
--- "a variable's level is the number of changes of quantifier before it": of at most as many as there are words
-pub level-few : (p : List ℤ) (v : ℕ) → levelOf p v ≤ length p
-unfolding levelOf change
-level-few [] v = omega arith
-level-few (q ∷ p) v = few (eqb (natAbs q) v) (one p) (level-few p v)
-  where
-    few : (b : Bool) → change q p ≤ 1 → levelOf p v ≤ length p → cond b 0 (change q p + levelOf p v) ≤ suc (length p)
-    few true h k = omega arith
-    few false h k = omega arith
-
-    bit : (b : Bool) → cond b 0 1 ≤ 1
-    bit true = omega arith
-    bit false = omega arith
-
-    one : (r : List ℤ) → change q r ≤ 1
-    one [] = omega arith
-    one (w ∷ r) = bit (Bool·beq (negative q) (negative w))
-
 -- ---- checked input
 module _ (p es ls : List ℤ) (ready : Ready p es ls) where
   -- every literal names a variable, and so has a place
@@ -141,7 +124,7 @@ module _ (p es ls : List ℤ) (ready : Ready p es ls) where
     literal-sorted : (x : ℤ) → In x ls → Sorted p ρ (statusBy values universals) x
     literal-sorted x i =
         let n = literal-named i in
-        sorted p ρ values universals vals unis con x (n .some) (quantifier (length p) p (ready .prefix .once) (ready .prefix .named) refl x n)
+        sorted p ρ values universals vals unis con x (n .some) (quantifier (length p) p (ready .prefix .named) (ready .prefix .once) refl x n)
 
     -- 1: "Some clause in conflict"
     pub conflict-ready : lowest (conflictBy (statusBy values universals)) 0 (clausesFrom ls 0 es) ≡ lowest (inConflict p ρ) 0 (clausesFrom ls 0 es)
@@ -155,6 +138,6 @@ module _ (p es ls : List ℤ) (ready : Ready p es ls) where
         meant : (x : ℤ) → In x ls → Meant p ρ (statusBy values universals) (levelBy levels) x
         meant x i = let n = literal-named i in record {
           sorted = literal-sorted x i;
-          at = lvls (natAbs x) (all-bound (length p) p (ready .prefix .once) (ready .prefix .named) refl (natAbs x) (n .some) (n .most));
-          low = omega (arith, level-few p (natAbs x), ready .prefix .room);
+          at = lvls (natAbs x) (all-bound (length p) p (ready .prefix .named) (ready .prefix .once) refl (natAbs x) (n .some) (n .most));
+          low = omega (arith, level-few p (natAbs x), ready .prefix .room, variables-are);
         }

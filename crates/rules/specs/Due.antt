@@ -7,7 +7,7 @@ use lib.IntN.{ℤ, pos, negℤ, natAbs}
 use lib.ListN.{getD}
 use Rattle.words.specs.declared.Literal.{Literal}
 use Rattle.formula.specs.Formula.{Formula}
-use Rattle.theory.specs.Record.{Entry, Record, Assignment, trueIn, assigned}
+use Rattle.theory.specs.Record.{Record, Assignment, trueIn, assigned}
 use Rattle.theory.specs.Tests.{unassignedE, inConflict, unitOn, monotone}
 use Rattle.rules.specs.declared.Rule.{Rule}
 use Rattle.rules.specs.declared.Rule.the-variants.{BacktrackExists, Fail, Unit, Monotone, Decide, BacktrackForall, Succeed}

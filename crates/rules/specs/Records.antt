@@ -11,11 +11,12 @@ use lib.Dec.{eqb, ltb}
 use lib.IntN.{ℤ, pos, negℤ, natAbs}
 use lib.ListN.{length, getD, take, drop, set, replicate}
 use lib.Seq.{sets, length-sets, take-set-le}
-use borrow.Author.Tests.{eqb-true, eqb-false, ltb-false, le-ltb, eq-eqb}
+use borrow.Author.Tests.{eqb-true, ltb-false, le-ltb, eq-eqb}
 use Rattle.words.specs.Bools.{or-fl, or-fr, and-i, not-f}
 use Rattle.words.specs.Lists.{In, here, there, all, any, any-none, next}
 use Rattle.formula.specs.Formula.{existential, universal}
 use Rattle.formula.specs.Block.{noVariable, twice}
+use Rattle.formula.specs.Named.{named}
 use Rattle.theory.specs.Record.{Entry, entry, Record, literals, without}
 use Rattle.rules.specs.Due.{pick, onFound, last}
 use Rattle.rules.specs.Apply.{recordOf, wiped, search, turn}
@@ -203,13 +204,13 @@ last-kind ls ks k (suc n) r =
     rw (e, last-more k 0 (recordOf ls ks n) (entryAt ls ks n), record-length ls ks n r′, y, last-kind ls ks k n r′)
 
 -- ---- what row 12 leaves: of the record, and of each of its entries
-pub record Good (p ls : List ℤ) (ks : List ℕ) (n : ℕ) : Type 0 where
+pub record Passing (p ls : List ℤ) (ks : List ℕ) (n : ℕ) : Type 0 where
   pub few : n ≤ length p
   pub named : any (noVariable (length p)) (literals (recordOf ls ks n)) ≡ false
   pub once : twice (literals (recordOf ls ks n)) ≡ false
   pub kinds : any (badKind p) (recordOf ls ks n) ≡ false
 
-pub record GoodEntry (p : List ℤ) (e : Entry) : Type 0 where
+pub record PassingEntry (p : List ℤ) (e : Entry) : Type 0 where
   pub some : 0 < natAbs (e .literal)
   pub most : natAbs (e .literal) ≤ length p
   pub low : e .kind ≤ 2
@@ -217,7 +218,7 @@ pub record GoodEntry (p : List ℤ) (e : Entry) : Type 0 where
   pub two : e .kind ≡ 2 → existential p (e .literal) ≡ false
 
 module _ (p ls : List ℤ) (ks : List ℕ) (n : ℕ) where
-  pub good : badRecord p ls ks n ≡ false → Good p ls ks n
+  pub good : badRecord p ls ks n ≡ false → Passing p ls ks n
   unfolding badRecord badEntries
   good h =
       let r = recordOf ls ks n in
@@ -232,7 +233,7 @@ module _ (p ls : List ℤ) (ks : List ℕ) (n : ℕ) where
         kinds = or-fr (a || b) c h′;
       }
 
-  pub good-passes : Good p ls ks n → badRecord p ls ks n ≡ false
+  pub good-passes : Passing p ls ks n → badRecord p ls ks n ≡ false
   unfolding badRecord badEntries
   good-passes g = rw (le-ltb (length p) n (g .few), g .named, g .once, g .kinds)
 
@@ -241,22 +242,21 @@ unfolding literals
 in-literals (here e) = here (ap (λ x. x .literal) e)
 in-literals (there i) = there (in-literals i)
 
-good-entry : (p : List ℤ) (e : Entry) → noVariable (length p) (e .literal) ≡ false → badKind p e ≡ false → GoodEntry p e
+good-entry : (p : List ℤ) (e : Entry) → noVariable (length p) (e .literal) ≡ false → badKind p e ≡ false → PassingEntry p e
 good-entry p e h k =
-    let v = natAbs (e .literal) in
-    let z : v ≡ 0 → ⊥ = eqb-false v 0 (or-fl (eqb v 0) (ltb (length p) v) h) in
+    let n = named (length p) (e .literal) h in
     let a = ltb 2 (e .kind) in
     let b = eqb (e .kind) 1 && universal p (e .literal) in
     let c = eqb (e .kind) 2 && existential p (e .literal) in
     record {
-      some = omega arith;
-      most = ltb-false (length p) v (or-fr (eqb v 0) (ltb (length p) v) h);
+      some = n .some;
+      most = n .most;
       low = ltb-false 2 (e .kind) (or-fl a b (or-fl (a || b) c k));
       one = λ q. rw (eq-eqb (e .kind) 1 q) at (or-fr a b (or-fl (a || b) c k));
       two = λ q. rw (eq-eqb (e .kind) 2 q) at (or-fr (a || b) c k);
     }
 
-pub good-in : {p ls : List ℤ} {ks : List ℕ} {n : ℕ} → Good p ls ks n → {e : Entry} → In e (recordOf ls ks n) → GoodEntry p e
+pub good-in : {p ls : List ℤ} {ks : List ℕ} {n : ℕ} → Passing p ls ks n → {e : Entry} → In e (recordOf ls ks n) → PassingEntry p e
 good-in {p} {ls} {ks} {n} g {e} i =
     good-entry p e
     (any-none (noVariable (length p)) (literals (recordOf ls ks n)) (g .named) (in-literals i))
@@ -270,7 +270,7 @@ module _ {p ls : List ℤ} {ks : List ℕ} {n : ℕ} where
   pub kept-lent : Kept p ls ks n → Lent p ls ks
   kept-lent k = record { prefix = k .prefix; room = record { lits = k .lits-room; kinds = k .kinds-room } }
 
-  pub kept-good : Kept p ls ks n → Good p ls ks n
+  pub kept-good : Kept p ls ks n → Passing p ls ks n
   kept-good k = good p ls ks n (k .good)
 
   pub kept-room : Kept p ls ks n → Room n ls ks
@@ -279,5 +279,5 @@ module _ {p ls : List ℤ} {ks : List ℕ} {n : ℕ} where
   pub kept-more : Kept p ls ks n → n < length p → Room (n + 1) ls ks
   kept-more k h = let m : n + 1 ≤ length p = omega arith in room-less m (kept-lent k .room)
 
-  pub kept-at : Kept p ls ks n → {i : ℕ} → i < n → GoodEntry p (entryAt ls ks i)
+  pub kept-at : Kept p ls ks n → {i : ℕ} → i < n → PassingEntry p (entryAt ls ks i)
   kept-at k {i} h = good-in (kept-good k) (in-record ls ks n i h (kept-room k))

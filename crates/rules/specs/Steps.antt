@@ -27,7 +27,7 @@ use Rattle.rules.specs.Buffers.{Room}
 use Rattle.rules.specs.Records.{restAt, kept-room, kept-more, record-length, record-at, record-append, record-turn, wiped-length, Last, last-none, last-at, good}
 use Rattle.rules.specs.Searches.{UnitOf}
 use Rattle.rules.specs.Reasons.{Reason, backtrack-exists, fail, unit, monotone, decide, backtrack-forall, succeed, reason}
-use Rattle.rules.specs.Passed.{kept-good, good-kept}
+use Rattle.rules.specs.Passed.{passed-good, good-kept}
 use Rattle.rules.specs.declared.State.{State}
 use Rattle.rules.specs.declared.State.the-variants.{Open, Valid, Unsat}
 use Rattle.rules.specs.declared.Rule.{Rule}
@@ -83,7 +83,7 @@ module _ (F : Formula) (ls : List ℤ) (ks : List ℕ) (n : ℕ) (st : State) (k
   -- an entry more has a place: with it the record has distinct variables of the prefix still
   grow-fits : (e : Entry) → Step F (recordOf ls ks n) (going (recordOf ls ks n ++ e ∷ [])) → n < length (F .prefix)
   grow-fits e s =
-      let t = good-taken F (recordOf ls ks n ++ e ∷ []) (good-step F (kept-good F ls ks n k) s) in
+      let t = good-taken F (recordOf ls ks n ++ e ∷ []) (good-step F (passed-good F ls ks n k) s) in
       let a = length-append (recordOf ls ks n) (e ∷ []) in
       let b = record-length ls ks n room in
       omega arith
@@ -136,7 +136,7 @@ module _ (F : Formula) (ls : List ℤ) (ks : List ℕ) (n : ℕ) (st : State) (k
       → KeptIn (F .prefix) (append kind x (search ls ks n st))
   append-keeps kind x s =
       let h = grow-fits _ s in
-      let g = good-step F (kept-good F ls ks n k) s in
+      let g = good-step F (passed-good F ls ks n k) s in
       record {
         prefix = k .prefix;
         lits-room = rw length-set (k .lits-room);
@@ -152,7 +152,7 @@ module _ (F : Formula) (ls : List ℤ) (ks : List ℕ) (n : ℕ) (st : State) (k
         prefix = k .prefix;
         lits-room = rw (length-set, wiped-length) (k .lits-room);
         kinds-room = rw (length-set, wiped-length) (k .kinds-room);
-        good = good-kept F _ _ (i + 1) (k .prefix) (omega arith) (good-step F (kept-good F ls ks n k) s);
+        good = good-kept F _ _ (i + 1) (k .prefix) (omega arith) (good-step F (passed-good F ls ks n k) s);
       }
 
   keeps : {rule : Rule} → Reason F (recordOf ls ks n) rule → (l : ℤ) → Permitted (F .prefix) (trueIn (recordOf ls ks n)) l

@@ -1,5 +1,5 @@
 -- Tables by variable: what each place of a table says.
-use Prim.Native.Nat.{ℕ, _≤_}
+use Prim.Native.Nat.{ℕ, suc, _≤_}
 use mathlib.Core.Path.{_≡_}
 use mathlib.Core.Bool.{_||_, true, false}
 use mathlib.Core.List.{List}
@@ -9,11 +9,15 @@ use lib.ListN.{length, getD, take}
 use Rattle.words.specs.Lists.{any, all}
 use Rattle.words.specs.Words.{mem}
 use Rattle.formula.specs.Formula.{universal, levelOf, level}
-use Rattle.formula.specs.Limits.{limits}
+use Rattle.formula.specs.Limits.{limits, maxVariables}
 use Rattle.formula.specs.Block.{noVariable, names, twice}
 use Rattle.theory.specs.Record.{Assignment, assigned}
 use Rattle.theory.specs.Tests.{occurs}
 use Rattle.rules.specs.Due.{pick}
+
+-- a table has a place for each variable, and place 0
+abbrev pub places : ℕ
+places = suc maxVariables
 
 -- 1 for a positive word, 2 for a negative one
 abbrev pub signOf : ℤ → ℕ
@@ -47,13 +51,13 @@ abbrev pub Signs : List ℤ → List ℕ → Type 0
 Signs ls t = (v : ℕ) → getD t v 0 ≡ signsOf ls v
 
 -- every word names a variable for which a table has a place
-abbrev pub Named : List ℤ → Type 0
-Named ls = any (noVariable (limits .variables)) ls ≡ false
+abbrev pub Known : List ℤ → Type 0
+Known ls = any (noVariable (limits .variables)) ls ≡ false
 
 -- the first n words of a buffer, which name different variables
 pub record Written (ls : List ℤ) (n : ℕ) : Type 0 where
   pub room : n ≤ length ls
-  pub named : Named (take n ls)
+  pub named : Known (take n ls)
   pub once : twice (take n ls) ≡ false
 
 -- a literal occurs in the clauses m exactly if it is one of their literal words ls

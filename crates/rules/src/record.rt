@@ -1,46 +1,10 @@
 // Row 12, over the whole record: linear in the record and the prefix.
 ghost use mathlib.Core.Path.{_≡_};
 ghost use Rattle.words.specs.Lists.{any};
-ghost use Rattle.formula.specs.Block.{noVariable, twice};
 ghost use Rattle.rules.specs.Apply.{recordOf};
 ghost use Rattle.rules.specs.Check.{badKind, badRecord};
-ghost use Rattle.rules.specs.Tables.{Named};
 ghost use Rattle.rules.specs.Buffers.{Lent, KindsLent, wrongKind};
-use crate::tables::PLACES;
 use crate::tables::signs_of;
-
-// Whether some word is 0 or of size over n.
-fn unnamed(ws: &[i32], n: usize) -> bool
-    ensures { λ r. ⌜ r ≡ any (noVariable n) (now (ws .entry)) ⌝ }
-{
-    let mut i = 0;
-    while i < ws.len() {
-        let v = words::size_at(ws, i);
-        if v == 0 || n < v {
-            return true;
-        }
-        i += 1;
-    }
-    false
-}
-
-// Whether some variable stands twice. It goes from the last word to the first, so that the marks are those of the rest of the list.
-fn repeated(ws: &[i32]) -> bool
-    requires { ⌜ Named (now ws) ⌝ }
-    ensures { λ r. ⌜ r ≡ twice (now (ws .entry)) ⌝ }
-{
-    let mut seen = [false; PLACES];
-    let mut i = ws.len();
-    while 0 < i {
-        i -= 1;
-        let v = words::size_at(ws, i);
-        if seen[v] {
-            return true;
-        }
-        seen[v] = true;
-    }
-    false
-}
 
 // Whether a kind is above 2, or 1 on a universal or 2 on an existential variable: the sign of its word in the prefix tells which.
 fn wrong_kind(kind: u8, sign: u8) -> bool
@@ -81,10 +45,10 @@ pub fn bad_record(prefix: &[i32], lits: &[i32], kinds: &[u8], count: usize) -> b
     if n < count {
         return true;
     }
-    if unnamed(&lits[..count], n) {
+    if formula::some_stranger(&lits[..count], n) {
         return true;
     }
-    if repeated(&lits[..count]) {
+    if formula::variable_twice(&lits[..count]) {
         return true;
     }
     bad_kinds(prefix, lits, kinds, count)

@@ -6,10 +6,10 @@ ghost use lib.ListN.{length, getD, take, drop};
 ghost use Rattle.formula.specs.Formula.{change};
 ghost use Rattle.theory.specs.Record.{among};
 ghost use Rattle.rules.specs.Ready.{Bound};
-ghost use Rattle.rules.specs.Tables.{signOf, Values, Universals, Levels, join, Signs, Written, Named};
+ghost use Rattle.rules.specs.Tables.{signOf, Values, Universals, Levels, join, Signs, Written, Known};
 
 // A place for each variable, and place 0, which is no variable's.
-pub const PLACES: usize = 257;
+pub const PLACES: usize = formula::MAX_VARIABLES + 1;
 
 // 1 for a positive word, 2 for a negative one.
 pub fn sign_at(ws: &[i32], i: usize) -> u8
@@ -98,7 +98,7 @@ fn joined(a: u8, b: u8) -> u8
 
 // The signs with which each variable occurs in the literal words.
 pub fn signs_of(literals: &[i32]) -> [u8; PLACES]
-    requires { ⌜ Named (now literals) ⌝ }
+    requires { ⌜ Known (now literals) ⌝ }
     ensures { λ r. ⌜ Signs (now (literals .entry)) r ⌝ }
 {
     let mut signs = [0u8; PLACES];

@@ -80,13 +80,13 @@ pub record Guarded (s : Session) (b ls : List ℤ) (ks : List ℕ) (seen : Revis
   pub live : s .state ≡ Open
   pub current : seen .0 ≡ s .revision .0
 
-over-open : (t : State) → over t ≡ false → t ≡ Open
+pub over-open : (t : State) → over t ≡ false → t ≡ Open
 over-open Open h = refl
 over-open Valid h = clash refl h
 over-open Unsat h = clash refl h
 
 module _ (s : Session) (b ls : List ℤ) (ks : List ℕ) (seen : Revision) where
-  guarded : refusal limits b ≡ 0 → short b ls ks ≡ false → badRecord (prefixOf b) ls ks (s .length) ≡ false → over (s .state) ≡ false → stale s seen ≡ false → Guarded s b ls ks seen
+  pub guarded : refusal limits b ≡ 0 → short b ls ks ≡ false → badRecord (prefixOf b) ls ks (s .length) ≡ false → over (s .state) ≡ false → stale s seen ≡ false → Guarded s b ls ks seen
   guarded h r11 r12 r13 r14 =
       let e = prefix-length b h in
       record {

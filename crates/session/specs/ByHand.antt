@@ -24,6 +24,7 @@ use Rattle.session.specs.declared.Ran.the-variants.{Until, Stopped}
 use Rattle.session.specs.Refusals.{lastRevision, decides, runRefusal}
 use Rattle.session.specs.Accepted.{Guarded, run-guarded, step-passes}
 use Rattle.session.specs.Outcome.{moved, searchOf}
+use Rattle.session.specs.Checked.{proposalOf}
 use Rattle.session.specs.Run.{trip, advance, ran, runOf}
 use Rattle.session.specs.Advance.{apply-proposal, advance-keeps}
 use Rattle.session.specs.Trips.{goOn, Went, went}
@@ -33,7 +34,7 @@ use Rattle.session.specs.Follows.{accepted-is}
 
 -- "At Decide it proposes the first open one in the list, else 0."
 abbrev pub proposalAt : Formula → Record → List ℤ → ℤ
-proposalAt F r preferred = pick (decides (due F r)) (firstOpen (F .prefix) (trueIn r) preferred) (pos 0)
+proposalAt F r preferred = proposalOf (F .prefix) (trueIn r) preferred (due F r)
 
 -- one step by hand with that proposal, at the revision of the moment; and n of them
 unfoldable pub handed : List ℤ → List ℤ → Desk → Desk

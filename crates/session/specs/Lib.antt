@@ -3,6 +3,7 @@ pub mod Refusals
 pub mod Rows
 pub mod Outcome
 pub mod Run
+pub mod Checked
 pub mod Play
 pub mod Advance
 pub mod Trips

@@ -1,6 +1,6 @@
 -- Which number a refused call is given: the place of the first row that applies, counted over all rows of the call. One law for every list
 -- of rows, by induction on the list.
-use mathlib.Core.Path.{_≡_, refl, _∙_}
+use mathlib.Core.Path.{_≡_, refl, sym, _∙_, ap}
 use mathlib.Core.Logic.{_↔_, _⊎_, inl, inr}
 use mathlib.Core.Bool.{Bool, true, false}
 use mathlib.Core.List.{List, [], _∷_, _++_}
@@ -113,6 +113,28 @@ module _ (s : Session) (b ls : List ℤ) (ks : List ℕ) (seen : Revision) where
   pub run-numbered : (budget : ℕ) → Numbered (rows limits b ++ runRows s b ls ks seen budget) (runRefusal s b ls ks seen budget)
   unfolding runRefusal
   run-numbered budget = after-numbered b (runRows s b ls ks seen budget)
+
+-- ---- the rows from 11 on in two parts: the first part stops the call, or the second decides
+module _ (n : ℕ) (ts us : List Bool) where
+  after-more : after n (ts ++ us) ≡ join (after n ts) (first (11 + length ts) us)
+  unfolding join
+  after-more = after-join n (ts ++ us) ∙ go n
+    where
+      go : (k : ℕ) → join k (first 11 (ts ++ us)) ≡ join (after k ts) (first (11 + length ts) us)
+      go zero = sym (first-join 10 ts us)
+      go (suc k) = refl
+
+  pub after-passed : after n ts ≡ 0 → after n (ts ++ us) ≡ first (11 + length ts) us
+  unfolding join
+  after-passed e = after-more ∙ rw e
+
+  pub after-stopped : {m : ℕ} → after n ts ≡ m → (m ≡ 0 → ⊥) → after n (ts ++ us) ≡ m
+  unfolding join
+  after-stopped {m} e f = after-more ∙ ap (λ (k : ℕ). join k (first (11 + length ts) us)) e ∙ stays m f
+    where
+      stays : (k : ℕ) → (k ≡ 0 → ⊥) → join k (first (11 + length ts) us) ≡ k
+      stays zero f = absurd (f refl)
+      stays (suc k) f = refl
 
 -- an accepted call has passed the block's rows and its own
 pub after-zero : (n : ℕ) (us : List Bool) → after n us ≡ 0 → (n ≡ 0) × NoRow us

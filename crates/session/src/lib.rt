@@ -1,8 +1,23 @@
 // A session that goes step by step, and the run with a budget.
+ghost use mathlib.Core.Path.{_≡_};
+ghost use Rattle.session.specs.Outcome.{session, outcome, openOutcome, stepOutcome};
+ghost use Rattle.session.specs.Run.{runOutcome, runOf};
+
+mod guard; // which row of the table turns a call away
+mod parts; // the block's parts, lent to the rules
+mod searches; // rule after rule
+
+use rules::Reached;
 use rules::State;
+pub use searches::Searched;
+pub use searches::search;
+use words::Literal;
 
 // "A revision and a literal are numbers of different types and can't be mixed up."
 pub struct Revision(pub u64);
+
+// 2^64 - 1: no step goes past it.
+const LAST_REVISION: u64 = 18446744073709551615;
 
 // Record length, revision, and open, Valid or Unsat. Any words may be handed in.
 pub struct Session {
@@ -21,4 +36,101 @@ pub enum Answer {
 pub enum Ran {
     Until { session: Session, steps: u32 },
     Stopped(u32),
+}
+
+// A fresh session at the given revision. The first V places of the record are set to 0.
+pub fn open(block: &[i32], literals: &mut [i32], kinds: &mut [u8], first: Revision) -> Answer
+    ensures { λ r. ⌜ outcome r (now (literals .exit)) (now (kinds .exit)) ≡ openOutcome (now (block .entry)) (now (literals .entry)) (now (kinds .entry)) first ⌝ }
+{
+    let refused = guard::of_buffers(block, literals, kinds);
+    if refused != 0 {
+        return Answer::Refused(refused);
+    }
+    rules::clear(literals, kinds, words::size_at(block, 0));
+    Answer::To(Session {
+        length: 0,
+        revision: first,
+        state: State::Open,
+    })
+}
+
+impl Session {
+    // The one due rule, with the proposal that Decide is to take.
+    pub fn step(
+        self,
+        block: &[i32],
+        literals: &mut [i32],
+        kinds: &mut [u8],
+        seen: Revision,
+        proposal: Literal,
+    ) -> Answer
+        ensures { λ r. ⌜ outcome r (now (literals .exit)) (now (kinds .exit)) ≡ stepOutcome self (now (block .entry)) (now (literals .entry)) (now (kinds .entry)) seen proposal ⌝ }
+    {
+        let refused = guard::of_session(self, block, literals, kinds, seen);
+        if refused != 0 {
+            return Answer::Refused(refused);
+        }
+        let revision = self.revision.0;
+        if revision == LAST_REVISION {
+            return Answer::Refused(15);
+        }
+        let count = self.length;
+        let rule = parts::due(block, literals, kinds, count);
+        let improper = guard::of_proposal(block, literals, count, rule, proposal);
+        if improper != 0 {
+            return Answer::Refused(improper);
+        }
+        let reached = parts::apply(block, literals, kinds, count, rule, proposal);
+        Answer::To(moved(reached, revision + 1))
+    }
+
+    // At most `budget` steps, with the preferred literals proposed.
+    pub fn run(
+        self,
+        block: &[i32],
+        literals: &mut [i32],
+        kinds: &mut [u8],
+        seen: Revision,
+        budget: u32,
+        preferred: &[i32],
+    ) -> Ran
+        ensures { λ r. ⌜ runOutcome r (now (literals .exit)) (now (kinds .exit)) ≡ runOf self (now (block .entry)) (now (literals .entry)) (now (kinds .entry)) seen budget (now (preferred .entry)) ⌝ }
+    {
+        let refused = guard::of_session(self, block, literals, kinds, seen);
+        if refused != 0 {
+            return Ran::Stopped(refused);
+        }
+        let revision = self.revision.0;
+        let most = LAST_REVISION - revision;
+        if most < wide(budget) {
+            return Ran::Stopped(15);
+        }
+        let count = self.length;
+        let found = search(block, literals, kinds, count, budget, preferred);
+        let reached = found.reached;
+        let steps = found.steps;
+        Ran::Until {
+            session: moved(reached, revision + wide(steps)),
+            steps: steps,
+        }
+    }
+}
+
+// The session of a search that has gone on to a revision.
+fn moved(reached: Reached, revision: u64) -> Session
+    ensures { λ r. ⌜ r ≡ session (reached .count) revision (reached .state) ⌝ }
+{
+    let count = reached.count;
+    let state = reached.state;
+    Session {
+        length: count,
+        revision: Revision(revision),
+        state: state,
+    }
+}
+
+fn wide(n: u32) -> u64
+    ensures { λ r. ⌜ r ≡ n ⌝ }
+{
+    n as u64
 }

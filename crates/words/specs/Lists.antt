@@ -6,8 +6,8 @@ use mathlib.Core.List.{List, [], _∷_, _++_, head-eq-of-cons-eq, tail-eq-of-con
 use Prim.Native.Nat.{ℕ, _+_, _≤_, _<_, zero, suc, zero-le, suc-le-suc}
 use native.Mathlib.Nat.{not-suc-le-zero, le-of-suc-le-suc}
 use native.Mathlib.Numerals.{add-one}
-use lib.ListN.{length, getD, take, drop, drop-of-length-le}
-use lib.Seq.{drop-cons}
+use lib.ListN.{length, getD, take, drop, replicate, drop-of-length-le}
+use lib.Seq.{drop-cons, take-suc}
 use Rattle.words.specs.Bools.{clash, and-l, and-r, and-i, or-e, or-l, or-r, to-false}
 
 -- x stands in the list
@@ -93,6 +93,16 @@ module _ {A : Type 0} where
 
   pub ended : (xs : List A) (i : ℕ) → length xs ≤ i → drop i xs ≡ []
   ended xs i h = drop-of-length-le xs h
+
+  -- and what it has behind it: one element more
+  pub take-more : (xs : List A) (i : ℕ) (d : A) → i < length xs → take (i + 1) xs ≡ take i xs ++ getD xs i d ∷ []
+  take-more xs i d h = rw add-one (take-suc xs i d h)
+
+  -- a fresh table has the same at every place, and past its end
+  pub blank : (a : A) (n i : ℕ) → getD (replicate n a) i a ≡ a
+  blank a zero i = refl
+  blank a (suc n) zero = refl
+  blank a (suc n) (suc i) = blank a n i
 
   -- a loop's test of some element: it is found at i, it is looked for further on, it is not there
   module _ (f : A → Bool) (xs : List A) (i : ℕ) where

@@ -1,7 +1,7 @@
 -- A signed word as a literal: "A literal is +v or -v; its opposite is its negation." Its variable is its size, `natAbs`; its opposite its negation, `negℤ`.
 use mathlib.Core.Path.{_≡_, refl, sym, _∙_, ap}
 use mathlib.Core.Logic.{_⊎_, inl, inr}
-use mathlib.Core.Bool.{Bool, true, false, cond, _||_, or-assoc, not}
+use mathlib.Core.Bool.{Bool, true, false, cond, not, _||_, or-assoc, or-false, or-true, Bool·beq}
 use mathlib.Core.List.{List, [], _∷_, _++_}
 use Prim.Native.Nat.{ℕ, zero, suc, _≤_, _<_}
 use native.Mathlib.Omega.{arith}
@@ -50,6 +50,17 @@ eqZ-ne {x} {y} f = to-false _ (λ e. f (eqZ-eq x y e))
 
 pub neq : {x y : ℤ} → eqZ x y ≡ false → x ≡ y → ⊥
 neq {x} {y} h e = clash (rw e (eqZ-refl y)) h
+
+-- words of different variables differ; two words of one size are the same if their signs are
+pub other-word : (x w : ℤ) → (natAbs x ≡ natAbs w → ⊥) → eqZ x w ≡ false
+other-word x w k = eqZ-ne (λ e. k (ap natAbs e))
+
+pub same-sign : (x y : ℤ) → natAbs x ≡ natAbs y → Bool·beq (negative x) (negative y) ≡ eqZ x y
+unfolding eqZ
+same-sign (pos m) (pos n) e = sym (eqb-i e)
+same-sign (pos m) (negsuc n) e = refl
+same-sign (negsuc m) (pos n) e = refl
+same-sign (negsuc m) (negsuc n) e = let z : m ≡ n = omega arith in sym (eqb-i z)
 
 -- the opposite of every word but the least is its negation
 pub opposite-is : (x : ℤ) → natAbs x ≤ 2147483647 → opposite x ≡ negℤ x
@@ -138,3 +149,22 @@ pub mem-append : (x : ℤ) (xs ys : List ℤ) → mem x (xs ++ ys) ≡ (mem x xs
 unfolding mem
 mem-append x [] ys = refl
 mem-append x (z ∷ xs) ys = rw (mem-append x xs ys) (sym (or-assoc (eqZ x z) (mem x xs) (mem x ys)))
+
+-- ---- a list grown by one word
+pub mem-more : (x : ℤ) (xs : List ℤ) (w : ℤ) → mem x (xs ++ w ∷ []) ≡ (mem x xs || eqZ x w)
+unfolding mem
+mem-more x xs w = mem-append x xs (w ∷ []) ∙ ap (λ b. mem x xs || b) (or-false (eqZ x w))
+
+pub mem-here : (xs : List ℤ) (w : ℤ) → mem w (xs ++ w ∷ []) ≡ true
+mem-here xs w = rw (mem-more w xs w, eqZ-refl w) (or-true (mem w xs))
+
+pub mem-other : (x : ℤ) (xs : List ℤ) (w : ℤ) → eqZ x w ≡ false → mem x (xs ++ w ∷ []) ≡ mem x xs
+mem-other x xs w h = rw (mem-more x xs w, h) (or-false (mem x xs))
+
+-- the words of a variable other than w's
+module _ (xs : List ℤ) (w : ℤ) (v : ℕ) (k : v ≡ natAbs w → ⊥) where
+  pub plus-other : mem (pos v) (xs ++ w ∷ []) ≡ mem (pos v) xs
+  plus-other = mem-other (pos v) xs w (other-word (pos v) w k)
+
+  pub minus-other : mem (negℤ (pos v)) (xs ++ w ∷ []) ≡ mem (negℤ (pos v)) xs
+  minus-other = mem-other (negℤ (pos v)) xs w (other-word (negℤ (pos v)) w (λ e. k (sym (natAbs-neg (pos v)) ∙ e)))

@@ -4,7 +4,7 @@ use native.Mathlib.Omega.{arith}
 use lib.Seq.{length-take-le}
 use borrow.Author.Needs.{needs}
 use Rattle.formula.specs.Limits.{limits}
-use Rattle.rules.proofs.Named.{named-wider}
+use Rattle.formula.specs.Named.{all-named, known-up}
 use Rattle.rules.proofs.Row12.{row-over, row-room, row-unnamed, row-twice, row-kinds}
 use Rattle.rules.proofs.record.bad_record.Statement.{statement}
 use Rattle.rules.proofs.record.bad_record.Tie as tie
@@ -12,30 +12,30 @@ use Rattle.rules.proofs.record.bad_record.Tie as tie
 returns : tie.Need-returns
 returns c = row-over _ _ _ _ (c .if1 .taken)
 
-slice-aggregate-unnamed : tie.Need-slice-aggregate-unnamed
-slice-aggregate-unnamed c =
+slice-aggregate-some-stranger : tie.Need-slice-aggregate-some-stranger
+slice-aggregate-some-stranger c =
     let start = c .before .before .before in
     sym (length-take-le (start .args .count) (start .args .lits .now) (omega arith))
 
-unnamed-requires : tie.Need-unnamed-requires
-unnamed-requires c κs = search needs
+some-stranger-requires : tie.Need-some-stranger-requires
+some-stranger-requires c κs = search needs
 
 returns-2 : tie.Need-returns-2
 returns-2 c =
     let call = c .before in
     let few = call .before .before in
-    row-unnamed _ _ _ _ (few .if1 .left) (few .before .before .pre .room) (sym (call .unnamed .ensures) ∙ c .if2 .taken)
+    row-unnamed _ _ _ _ (few .if1 .left) (few .before .before .pre .room) (sym (call .some-stranger .ensures) ∙ c .if2 .taken)
 
-slice-aggregate-repeated : tie.Need-slice-aggregate-repeated
-slice-aggregate-repeated c =
+slice-aggregate-variable-twice : tie.Need-slice-aggregate-variable-twice
+slice-aggregate-variable-twice c =
     let start = c .before .before .before .before .before .before in
     sym (length-take-le (start .args .count) (start .args .lits .now) (omega arith))
 
-repeated-requires : tie.Need-repeated-requires
-repeated-requires c κs =
+variable-twice-requires : tie.Need-variable-twice-requires
+variable-twice-requires c κs =
     let named = c .before in
     let start = named .before .before .before .before .before in
-    named-wider _ _ (sym (named .before .unnamed .ensures) ∙ named .if2 .left) (limits .variables) (start .pre .prefix .room)
+    all-named (limits .variables) _ (known-up _ _ (limits .variables) (start .pre .prefix .room) (sym (named .before .some-stranger .ensures) ∙ named .if2 .left))
 
 returns-3 : tie.Need-returns-3
 returns-3 c =
@@ -43,8 +43,8 @@ returns-3 c =
     let named = call .before .before in
     let few = named .before .before .before in
     row-twice _ _ _ _ (few .if1 .left) (few .before .before .pre .room)
-    (sym (named .before .unnamed .ensures) ∙ named .if2 .left)
-    (sym (call .repeated .ensures) ∙ c .if3 .taken)
+    (sym (named .before .some-stranger .ensures) ∙ named .if2 .left)
+    (sym (call .variable-twice .ensures) ∙ c .if3 .taken)
 
 bad-kinds-requires : tie.Need-bad-kinds-requires
 bad-kinds-requires c κs =
@@ -54,7 +54,7 @@ bad-kinds-requires c κs =
     record {
       prefix = start .pre .prefix;
       room = row-room (start .args .prefix .now) _ _ _ (few .if1 .left) (start .pre .room);
-      named = sym (named .before .unnamed .ensures) ∙ named .if2 .left;
+      named = sym (named .before .some-stranger .ensures) ∙ named .if2 .left;
     }
 
 returns-4 : tie.Need-returns-4
@@ -63,8 +63,8 @@ returns-4 c =
     let named = once .before .before .before in
     let few = named .before .before .before in
     row-kinds _ _ _ _ (few .if1 .left) (few .before .before .pre .room)
-    (sym (named .before .unnamed .ensures) ∙ named .if2 .left)
-    (sym (once .before .repeated .ensures) ∙ once .if3 .left)
+    (sym (named .before .some-stranger .ensures) ∙ named .if2 .left)
+    (sym (once .before .variable-twice .ensures) ∙ once .if3 .left)
     _
     (c .bad-kinds .ensures)
 
@@ -73,11 +73,11 @@ bad-record-spec =
     tie.close
     (tie.spec
     returns
-    slice-aggregate-unnamed
-    unnamed-requires
+    slice-aggregate-some-stranger
+    some-stranger-requires
     returns-2
-    slice-aggregate-repeated
-    repeated-requires
+    slice-aggregate-variable-twice
+    variable-twice-requires
     returns-3
     bad-kinds-requires
     returns-4)

@@ -4,9 +4,9 @@ use borrow.Author.Needs.{needs}
 use native.Mathlib.Omega.{arith}
 use lib.IntN.{pos}
 use lib.ListN.{length, getD, drop}
-use Rattle.rules.proofs.Named.{fresh-at}
+use Rattle.formula.specs.Prefix.{change-few, fresh-at}
 use Rattle.rules.proofs.Filled.{placed, bound-named}
-use Rattle.rules.proofs.Levels.{Levelled, begin, turn, end, change-few}
+use Rattle.rules.proofs.Levels.{Levelled, begin, turn, end}
 use Rattle.rules.proofs.tables.levels_of.Statement.{statement}
 use Rattle.rules.proofs.tables.levels_of.Tie as tie
 

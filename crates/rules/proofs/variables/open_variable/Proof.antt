@@ -1,22 +1,25 @@
 -- A checked prefix binds exactly the variables from 1 to its length; of these an unassigned one is open by its level.
 use Prim.Native.Nat.{_<_}
+use mathlib.Core.Path.{refl}
 use native.Mathlib.Omega.{arith}
-use Rattle.rules.proofs.Filled.{places, enough}
-use Rattle.rules.proofs.Bound.{binds-all, binds-no-more}
+use lib.ListN.{length}
+use Rattle.formula.specs.Permuted.{all-bound, no-other}
+use Rattle.rules.proofs.Filled.{enough}
 use Rattle.rules.proofs.Unassigned.{unassigned, is-assigned}
 use Rattle.rules.proofs.OpenLiteral.{open-unbound, open-assigned, open-by}
 use Rattle.rules.proofs.variables.open_variable.Statement.{statement}
 use Rattle.rules.proofs.variables.open_variable.Tie as tie
+use Rattle.rules.specs.Tables.{places}
 
 returns : tie.Need-returns
 returns c ρ said lowest l is =
     let start = c .before in
-    open-unbound _ ρ l _ is (binds-no-more (start .args .prefix .now) (start .pre .0) _ (λ a b. omega arith))
+    open-unbound _ ρ l _ is (no-other (length (start .args .prefix .now)) _ (start .pre .0 .named) _ (λ a b. omega arith))
 
 returns-2 : tie.Need-returns-2
 returns-2 c ρ said lowest l is =
     let start = c .before .before in
-    open-unbound _ ρ l _ is (binds-no-more (start .args .prefix .now) (start .pre .0) _ (λ a b. omega arith))
+    open-unbound _ ρ l _ is (no-other (length (start .args .prefix .now)) _ (start .pre .0 .named) _ (λ a b. omega arith))
 
 -- a variable of the prefix has a place
 room : (c : tie.Else2) → c .before .before .args .v < places
@@ -42,7 +45,7 @@ returns-4 c ρ said lowest l is =
     let start = in-prefix .before .before in
     let from : 0 < start .args .v = omega arith in
     open-by _ ρ l _ is (start .args .levels .now) (start .args .lowest) (start .pre .0 .room) (start .pre .1) lowest
-    (binds-all (start .args .prefix .now) (start .pre .0) _ from (in-prefix .if2 .left))
+    (all-bound (length (start .args .prefix .now)) _ (start .pre .0 .named) (start .pre .0 .once) refl _ from (in-prefix .if2 .left))
     (unassigned ρ (start .args .values .now) said l _ is (c .before .if3 .left))
 
 pub open-variable-spec : {M : Type 1} → statement M

@@ -1,0 +1,110 @@
+// The rows of the table that speak of buffers, of a session and of a proposal, in its order.
+ghost use mathlib.Core.Path.{_≡_};
+ghost use lib.ListN.{take};
+ghost use Rattle.formula.specs.Formula.{prefixOf};
+ghost use Rattle.theory.specs.Record.{among};
+ghost use Rattle.session.specs.Refusals.{short, over, decides, openRefusal};
+ghost use Rattle.session.specs.Checked.{sessionRefusal, proposalRefusal, HeldOn};
+use crate::Revision;
+use crate::Session;
+use crate::parts;
+use formula::Checked;
+use rules::Rule;
+use rules::State;
+use words::Literal;
+
+// Whether a buffer has fewer than V places.
+fn is_short(block: &[i32], lits: &[i32], kinds: &[u8]) -> bool
+    ensures { λ r. ⌜ r ≡ short (now (block .entry)) (now (lits .entry)) (now (kinds .entry)) ⌝ }
+{
+    let n = words::size_at(block, 0);
+    if lits.len() < n {
+        return true;
+    }
+    kinds.len() < n
+}
+
+// Rows 1 to 11: the number of the first that applies, 0 if none does.
+pub fn of_buffers(block: &[i32], lits: &[i32], kinds: &[u8]) -> u32
+    ensures { λ r. ⌜ r ≡ openRefusal (now (block .entry)) (now (lits .entry)) (now (kinds .entry)) ⌝ }
+{
+    match formula::check(block) {
+        Checked::Refused(number) => number,
+        Checked::Accepted => if is_short(block, lits, kinds) { 11 } else { 0 },
+    }
+}
+
+// Whether a session has ended.
+pub fn is_over(state: State) -> bool
+    ensures { λ r. ⌜ r ≡ over state ⌝ }
+{
+    match state {
+        State::Open => false,
+        State::Valid => true,
+        State::Unsat => true,
+    }
+}
+
+// Whether a rule takes a proposal.
+pub fn is_decide(rule: Rule) -> bool
+    ensures { λ r. ⌜ r ≡ decides rule ⌝ }
+{
+    match rule {
+        Rule::BacktrackExists { at: _, clause: _ } => false,
+        Rule::Fail { clause: _ } => false,
+        Rule::Unit {
+            literal: _,
+            clause: _,
+        } => false,
+        Rule::Monotone { literal: _ } => false,
+        Rule::Decide { first: _ } => true,
+        Rule::BacktrackForall { at: _ } => false,
+        Rule::Succeed => false,
+    }
+}
+
+// Rows 1 to 14, which a step and a run share.
+pub fn of_session(
+    session: Session,
+    block: &[i32],
+    lits: &[i32],
+    kinds: &[u8],
+    seen: Revision,
+) -> u32
+    ensures { λ r. ⌜ r ≡ sessionRefusal session (now (block .entry)) (now (lits .entry)) (now (kinds .entry)) seen ⌝ }
+{
+    let refused = of_buffers(block, lits, kinds);
+    if refused != 0 {
+        return refused;
+    }
+    let count = session.length;
+    if parts::bad_record(block, lits, kinds, count) {
+        return 12;
+    }
+    let state = session.state;
+    if is_over(state) {
+        return 13;
+    }
+    let mine = session.revision.0;
+    if seen.0 != mine {
+        return 14;
+    }
+    0
+}
+
+// Rows 16 and 17, where a rule is due.
+pub fn of_proposal(block: &[i32], lits: &[i32], count: usize, rule: Rule, proposal: Literal) -> u32
+    requires { ⌜ HeldOn (now block) (now lits) count ⌝ }
+    ensures { λ r. ⌜ r ≡ proposalRefusal (prefixOf (now (block .entry))) (among (take count (now (lits .entry)))) rule proposal ⌝ }
+{
+    if words::size(proposal.0) == 0 {
+        return 0;
+    }
+    if !is_decide(rule) {
+        return 16;
+    }
+    if !parts::open(block, lits, count, proposal) {
+        return 17;
+    }
+    0
+}

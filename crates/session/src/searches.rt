@@ -1,0 +1,85 @@
+// A search: rule after rule on checked input.
+ghost use mathlib.Core.Path.{_≡_};
+ghost use lib.ListN.{take};
+ghost use Rattle.formula.specs.Formula.{prefixOf, formulaOf};
+ghost use Rattle.theory.specs.Record.{among};
+ghost use Rattle.rules.specs.Due.{literal};
+ghost use Rattle.rules.specs.Apply as rules;
+ghost use Rattle.rules.specs.declared.State.the-variants.{Open};
+ghost use Rattle.session.specs.Checked.{OnBlock, HeldOn, proposalOf};
+ghost use Rattle.session.specs.Run as spec;
+use crate::guard;
+use crate::parts;
+use rules::Reached;
+use rules::Rule;
+use rules::State;
+use words::Literal;
+
+// Where a number of steps lead, and how many they are.
+pub struct Searched {
+    pub reached: Reached,
+    pub steps: u32,
+}
+
+// What is proposed to a rule: at Decide the first open preferred literal, else 0.
+fn proposal(block: &[i32], lits: &[i32], count: usize, rule: Rule, preferred: &[i32]) -> Literal
+    requires { ⌜ HeldOn (now block) (now lits) count ⌝ }
+    ensures { λ r. ⌜ r ≡ literal (proposalOf (prefixOf (now (block .entry))) (among (take count (now (lits .entry)))) (now (preferred .entry)) rule) ⌝ }
+{
+    if guard::is_decide(rule) {
+        parts::preferred(block, lits, count, preferred)
+    } else {
+        Literal(0)
+    }
+}
+
+// One accepted step.
+fn advance(
+    block: &[i32],
+    lits: &mut [i32],
+    kinds: &mut [u8],
+    count: usize,
+    preferred: &[i32],
+) -> Reached
+    requires { ⌜ OnBlock (now block) (now lits) (now kinds) count ⌝ }
+    ensures { λ r. ⌜ rules.reached r (now (lits .exit)) (now (kinds .exit)) ≡ spec.advance (formulaOf (now (block .entry))) (now (preferred .entry)) (rules.search (now (lits .entry)) (now (kinds .entry)) count Open) ⌝ }
+{
+    let rule = parts::due(block, lits, kinds, count);
+    let literal = proposal(block, lits, count, rule, preferred);
+    parts::apply(block, lits, kinds, count, rule, literal)
+}
+
+// At most `budget` steps from an open search. A page asks it for each opening.
+pub fn search(
+    block: &[i32],
+    lits: &mut [i32],
+    kinds: &mut [u8],
+    count: usize,
+    budget: u32,
+    preferred: &[i32],
+) -> Searched
+    requires { ⌜ OnBlock (now block) (now lits) (now kinds) count ⌝ }
+    ensures { λ r. ⌜ spec.trip (rules.reached (r .reached) (now (lits .exit)) (now (kinds .exit))) (r .steps) ≡ spec.runFrom (formulaOf (now (block .entry))) (now (preferred .entry)) budget (rules.search (now (lits .entry)) (now (kinds .entry)) count Open) 0 ⌝ }
+{
+    let mut at = Reached {
+        count: count,
+        state: State::Open,
+    };
+    let mut steps: u32 = 0;
+    while steps < budget {
+        let state = at.state;
+        if guard::is_over(state) {
+            return Searched {
+                reached: at,
+                steps: steps,
+            };
+        }
+        let here = at.count;
+        at = advance(block, lits, kinds, here, preferred);
+        steps += 1;
+    }
+    Searched {
+        reached: at,
+        steps: steps,
+    }
+}
