@@ -7,8 +7,11 @@ function row(name, verdict, steps, proved, plain, time, plain_time) {
 }
 BEGIN {
     split("paused Valid Unsat", verdicts, " ")
-    print "                                million instructions       milliseconds"
-    print "formula         verdict  steps   proved    plain  ratio   proved    plain  ratio"
+}
+NR == 1 {
+    timed = $6 > 0
+    print "                                million instructions  " (timed ? "     milliseconds" : "")
+    print "formula         verdict  steps   proved    plain  ratio" (timed ? "   proved    plain  ratio" : "")
 }
 {
     row($1, verdicts[$2 + 1], $3, $7, $8, $5, $6)
