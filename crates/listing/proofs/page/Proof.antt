@@ -3,8 +3,9 @@ use Prim.Native.Nat.{_+_}
 use mathlib.Core.Path.{ap}
 use native.Mathlib.Omega.{arith}
 use borrow.Author.Needs.{needs}
-use Rattle.formula.specs.Limits.{variables-are}
-use Rattle.session.proofs.Lent.{few, prefix-within}
+use Rattle.formula.specs.Limits.{limits, variables-are}
+use Rattle.formula.specs.Accepted.{accepted, variables-most}
+use Rattle.session.proofs.Lent.{prefix-within}
 use Rattle.listing.proofs.Exits.{refuses, passed, on-page, still-room, cleans}
 use Rattle.listing.proofs.page.Statement.{statement}
 use Rattle.listing.proofs.page.Tie as tie
@@ -30,7 +31,7 @@ size-at-requires c κs = search needs
 add-end : tie.Need-add-end
 add-end c =
     let h = passed _ _ _ _ _ (c .before .before .of-page .ensures) (c .before .if1 .left) .block in
-    omega (arith, few _ h, variables-are, c .size-at .ensures)
+    omega (arith, variables-most (accepted limits _ h), variables-are, c .size-at .ensures)
 
 sub-first-group : tie.Need-sub-first-group
 sub-first-group c = search needs

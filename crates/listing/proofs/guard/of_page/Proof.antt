@@ -2,8 +2,9 @@
 use Prim.Native.Nat.{_+_}
 use mathlib.Core.Path.{ap}
 use native.Mathlib.Omega.{arith}
-use Rattle.formula.specs.Limits.{variables-are}
-use Rattle.session.proofs.Lent.{opened, few, prefix-within}
+use Rattle.formula.specs.Limits.{limits, variables-are}
+use Rattle.formula.specs.Accepted.{accepted, variables-most}
+use Rattle.session.proofs.Lent.{opened, prefix-within}
 use Rattle.listing.proofs.Guards.{page-buffers, page-openings}
 use borrow.Author.Needs.{needs}
 use Rattle.listing.proofs.guard.of_page.Statement.{statement}
@@ -22,7 +23,7 @@ add-end : tie.Need-add-end
 add-end c =
     let o = c .before in
     let h = opened _ _ _ (o .before .of-buffers .ensures) (o .if1 .left) .block in
-    omega (arith, few _ h, variables-are, c .size-at .ensures)
+    omega (arith, variables-most (accepted limits _ h), variables-are, c .size-at .ensures)
 
 sub-of-openings : tie.Need-sub-of-openings
 sub-of-openings c = search needs
