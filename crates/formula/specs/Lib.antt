@@ -14,4 +14,3 @@ pub mod Check
 pub mod Tables
 pub mod Accepted
 pub mod Truth
-pub mod Cases

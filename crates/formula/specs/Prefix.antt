@@ -104,7 +104,7 @@ twice-snoc (x ∷ xs) l h s =
 pub other : (q : ℤ) {x : ℤ} {p : List ℤ} → stands p q ≡ false → In x p → natAbs q ≡ natAbs x → ⊥
 other q s i e = clash (stands-i q i e) s
 
--- so it stands at one place, and with one sign
+-- with no variable twice a variable has one word, at one place and with one sign
 pub once-in : (p : List ℤ) → twice p ≡ false → {x y : ℤ} → In x p → In y p → natAbs x ≡ natAbs y → x ≡ y
 once-in (q ∷ p) h (here e) (here f) s = e ∙ sym f
 once-in (q ∷ p) h (here e) (there j) s = absurd (other q (twice-head q p h) j (ap natAbs (sym e) ∙ s))
@@ -121,7 +121,7 @@ once-at (q ∷ p) h (suc i) (suc j) k l s = ap suc (once-at p (twice-tail q p h)
 pub one-sign : (p : List ℤ) → twice p ≡ false → {q : ℤ} → In q p → 0 < natAbs q → mem (negℤ q) p ≡ false
 one-sign p h {q} i z = to-false (mem (negℤ q) p) (λ e. let w = own-opposite q (once-in p h i (mem-e (negℤ q) p e) (sym (natAbs-neg q))) in omega arith)
 
--- and its variable is not among those before it
+-- and a word's variable is not among those before it
 pub fresh-at : (p : List ℤ) → twice p ≡ false → (i : ℕ) → i < length p → any (names (natAbs (getD p i (pos 0)))) (take i p) ≡ false
 unfolding stands
 fresh-at p h i l = twice-before (take i p) (getD p i (pos 0)) (drop (suc i) p) (rw (← split-at p i (pos 0) l) h) .1

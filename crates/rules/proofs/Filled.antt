@@ -13,6 +13,7 @@ use Rattle.formula.specs.Named.{all-named, known-up}
 use Rattle.rules.specs.Ready.{Bound}
 use Rattle.rules.specs.Tables.{places, Known}
 
+-- a variable's number is a place of a table
 pub enough : limits .variables < places
 enough = omega (arith, variables-are)
 

@@ -11,7 +11,7 @@ use Rattle.words.specs.Bools.{or-fl, or-fr}
 use Rattle.formula.specs.Limits.{limits}
 use Rattle.formula.specs.Formula.{variablesOf, clauseCountOf, literalCountOf, prefixOf, endsOf, literalsOf, formulaOf}
 use Rattle.formula.specs.Block.{refusal}
-use Rattle.formula.specs.Accepted.{accepted, variables-most, clauses-most}
+use Rattle.formula.specs.Accepted.{accepted}
 use Rattle.rules.specs.declared.State.the-variants.{Open}
 use Rattle.rules.specs.Due.{due}
 use Rattle.rules.specs.Apply.{search, recordOf}
@@ -28,12 +28,6 @@ use Rattle.session.specs.Checked.{sessionRows, sessionRefusal, BuffersOn
 use Rattle.session.specs.Accepted.{prefix-length, accepted-bound, Guarded, guarded}
 
 module _ (b : List ℤ) (h : refusal limits b ≡ 0) where
-  pub few : variablesOf b ≤ limits .variables
-  few = variables-most (accepted limits b h)
-
-  pub few-clauses : clauseCountOf b ≤ limits .clauses
-  few-clauses = clauses-most (accepted limits b h)
-
   -- the prefix, up to where it ends
   module _ {e : ℕ} (is : e ≡ 6 + variablesOf b) where
     pub prefix-within : e ≤ length b

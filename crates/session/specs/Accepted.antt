@@ -4,19 +4,17 @@ use mathlib.Core.Path.{_≡_, refl}
 use mathlib.Core.Logic.{_⊎_, inl, inr}
 use mathlib.Core.Bool.{Bool, true, false, not, _&&_, and-false}
 use mathlib.Core.List.{List}
-use native.Mathlib.Omega.{arith}
 use lib.Dec.{eqb, ltb}
-use lib.IntN.{ℤ, pos, natAbs}
-use lib.ListN.{length, length-take, length-drop}
+use lib.IntN.{ℤ, natAbs}
+use lib.ListN.{length}
 use borrow.Author.Tests.{eqb-true, eqb-false, ltb-false, not-false, le-ltb, eq-eqb, ne-eqb}
-use Rattle.words.specs.Bools.{clash, look, or-fl, or-fr, not-f, to-false}
+use Rattle.words.specs.Bools.{clash, look, or-fl, or-fr, not-f}
 use Rattle.words.specs.declared.Literal.{Literal}
-use Rattle.words.specs.Lists.{any, any-none}
-use Rattle.words.specs.Words.{negative, mem, mem-e}
 use Rattle.formula.specs.Limits.{limits}
-use Rattle.formula.specs.Formula.{word, variablesOf, clauseCountOf, literalCountOf, prefixOf, endsOf, literalsOf, formulaOf}
-use Rattle.formula.specs.Block.{noVariable, rows, refusal}
+use Rattle.formula.specs.Formula.{variablesOf, prefixOf, endsOf, literalsOf, formulaOf}
+use Rattle.formula.specs.Block.{rows, refusal}
 use Rattle.formula.specs.Proper.{Proper}
+use Rattle.formula.specs.Accepted as block
 use Rattle.theory.specs.Record.{trueIn}
 use Rattle.theory.specs.Tests.{isOpen}
 use Rattle.rules.specs.declared.State.{State}
@@ -29,44 +27,27 @@ use Rattle.rules.specs.Steps.{KeptIn, Permitted}
 use Rattle.session.specs.declared.Revision.{Revision}
 use Rattle.session.specs.declared.Session.{Session}
 use Rattle.session.specs.Refusals.{lastRevision, short, over, stale, decides, proposed, stepRows, stepRefusal, runRows, runRefusal}
-use Rattle.session.specs.Rows.{NoRow, check-numbered, after-zero}
+use Rattle.session.specs.Rows.{after-zero}
 use Rattle.session.specs.Outcome.{searchOf}
 
 module _ (b : List ℤ) (h : refusal limits b ≡ 0) where
-  row : NoRow (rows limits b)
-  row = check-numbered b .none .0 h
-
   -- the prefix has V words
   pub prefix-length : length (prefixOf b) ≡ variablesOf b
-  prefix-length =
-      let e = eqb-true (length b) (6 + variablesOf b + clauseCountOf b + literalCountOf b) (not-false _ (row 3)) in
-      simp (length-take, length-drop) (omega arith)
-
-  few : variablesOf b ≤ limits .variables
-  few = ltb-false (limits .variables) (variablesOf b) (or-fr (negative (word b 0)) (ltb (limits .variables) (variablesOf b)) (or-fl _ _ (or-fl _ _ (row 1))))
-
-  named : any (noVariable (variablesOf b)) (prefixOf b) ≡ false
-  named = row 4
+  prefix-length = block.prefix-length (block.accepted limits b h)
 
   pub accepted-bound : Bound (prefixOf b)
-  accepted-bound = record { room = rw prefix-length few; named = rw prefix-length named; once = row 5 }
+  accepted-bound =
+      let a = block.accepted limits b h in
+      record { room = rw prefix-length (block.variables-most a); named = rw prefix-length (a .known); once = a .once }
 
   -- what the rules' code asks of the parts
-  literals-length : length (literalsOf b) ≡ literalCountOf b
-  literals-length =
-      let e = eqb-true (length b) (6 + variablesOf b + clauseCountOf b + literalCountOf b) (not-false _ (row 3)) in
-      simp (length-take, length-drop) (omega arith)
-
   pub accepted-ready : Ready (prefixOf b) (endsOf b) (literalsOf b)
-  accepted-ready = record { prefix = accepted-bound; ends = rw literals-length (row 7); named = rw prefix-length (row 8) }
+  accepted-ready =
+      let a = block.accepted limits b h in
+      record { prefix = accepted-bound; ends = rw (block.literals-length a) (a .ends); named = rw prefix-length (a .literals) }
 
   pub accepted-proper : Proper (formulaOf b)
-  unfolding formulaOf
-  accepted-proper = record {
-    named = to-false (mem (pos 0) (prefixOf b)) (λ e. clash refl (any-none (noVariable (variablesOf b)) (prefixOf b) named (mem-e (pos 0) (prefixOf b) e)));
-    once = row 5;
-    plain = row 9;
-  }
+  accepted-proper = block.proper limits b h
 
 -- the formula is that of the parts
 pub formula-is : (b : List ℤ) → formulaOf b ≡ formula (prefixOf b) (endsOf b) (literalsOf b)

@@ -2,4 +2,5 @@
 pub mod Bools
 pub mod Lists
 pub mod Words
+pub mod Only
 pub mod Counts

@@ -3,10 +3,11 @@ use Prim.Native.Nat.{_+_}
 use mathlib.Core.Path.{_≡_}
 use native.Mathlib.Omega.{arith}
 use borrow.Author.Needs.{needs}
-use Rattle.formula.specs.Limits.{variables-are, clauses-are}
+use Rattle.formula.specs.Limits.{limits, variables-are, clauses-are}
 use Rattle.formula.specs.Formula.{variablesOf, clauseCountOf}
+use Rattle.formula.specs.Accepted.{accepted, variables-most, clauses-most}
 use Rattle.session.specs.Accepted.{accepted-ready, formula-is}
-use Rattle.session.proofs.Lent.{few, few-clauses, prefix-within, prefix-lent, ends-within, ends-lent, literals-lent}
+use Rattle.session.proofs.Lent.{prefix-within, prefix-lent, ends-within, ends-lent, literals-lent}
 use Rattle.session.proofs.parts.due.Statement.{statement}
 use Rattle.session.proofs.parts.due.Tie as tie
 
@@ -23,7 +24,8 @@ size-at-requires c κs = search needs
 add-literals : tie.Need-add-literals
 add-literals c =
     let start = c .before .before .before in
-    omega (arith, variables-are, clauses-are, ends-at c, few (start .args .block .now) (start .pre .block), few-clauses (start .args .block .now) (start .pre .block))
+    let a = accepted limits (start .args .block .now) (start .pre .block) in
+    omega (arith, variables-are, clauses-are, ends-at c, variables-most a, clauses-most a)
 
 sub-due : tie.Need-sub-due
 sub-due c = search needs

@@ -1,8 +1,8 @@
 -- There are at most as many variables as the limit says.
 use native.Mathlib.Omega.{arith}
 use borrow.Author.Needs.{needs}
-use Rattle.formula.specs.Limits.{variables-are}
-use Rattle.session.proofs.Lent.{few}
+use Rattle.formula.specs.Limits.{limits, variables-are}
+use Rattle.formula.specs.Accepted.{accepted, variables-most}
 use Rattle.session.proofs.parts.prefix_end.Statement.{statement}
 use Rattle.session.proofs.parts.prefix_end.Tie as tie
 
@@ -10,7 +10,7 @@ size-at-requires : tie.Need-size-at-requires
 size-at-requires c κs = search needs
 
 add-result : tie.Need-add-result
-add-result c = omega (arith, variables-are, few _ (c .before .pre), c .size-at .ensures)
+add-result c = omega (arith, variables-are, variables-most (accepted limits _ (c .before .pre)), c .size-at .ensures)
 
 returns : tie.Need-returns
 returns c = search needs
