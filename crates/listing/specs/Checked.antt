@@ -1,29 +1,15 @@
 -- What the functions of a page say to each other; a reader of the outcome needs none of it.
-use Prim.Native.Nat.{ℕ, _^_, _≤_, _<_}
+use Prim.Native.Nat.{ℕ, _≤_, _<_}
 use mathlib.Core.Path.{_≡_}
-use mathlib.Core.Bool.{_&&_}
-use mathlib.Core.List.{List, [], _∷_}
-use lib.Dec.{ltb}
+use mathlib.Core.List.{List}
 use lib.IntN.{ℤ, pos, natAbs}
 use lib.ListN.{length, getD}
-use Rattle.words.specs.Words.{negative}
-use Rattle.formula.specs.Formula.{Formula, prefixOf, word, firstGroup}
-use Rattle.formula.specs.Block.{first}
+use Rattle.formula.specs.Formula.{Formula, prefixOf, firstGroup}
 use Rattle.rules.specs.Apply.{wiped}
 use Rattle.session.specs.Checked.{BuffersOn}
 use Rattle.listing.specs.declared.Paged.{Paged}
 use Rattle.listing.specs.Page.{PageOutcome, pageOutcome}
 use Rattle.listing.specs.Rows.{PageGuarded}
-
--- rows 18 to 21, on a prefix and an output of so many words
-unfoldable pub openingsRefusal : List ℤ → ℕ → ℕ → ℕ
-openingsRefusal p start room =
-    first 18
-    ((ltb 0 (length p) && negative (word p 0))
-    ∷ ltb 16 (firstGroup p)
-    ∷ ltb (2 ^ firstGroup p) start
-    ∷ ltb room 2
-    ∷ [])
 
 -- the block passes rows 1 to 10, the buffers row 11, and the first group, of k variables, row 19
 pub record OnGroup (b ls : List ℤ) (ks : List ℕ) (k : ℕ) : Type 0 where
