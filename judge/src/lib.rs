@@ -1,6 +1,7 @@
 //! The judge: an independent reading of the solver's scope (document 01), to
 //! compare answers with. It shares nothing with the solver.
 
+pub mod bench;
 pub mod block;
 pub mod cases;
 pub mod console;
@@ -10,6 +11,7 @@ pub mod dice;
 pub mod hits;
 pub mod nonsense;
 pub mod page;
+pub mod qdimacs;
 pub mod record;
 pub mod rules;
 pub mod session;

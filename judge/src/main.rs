@@ -1,29 +1,41 @@
 //! The judge's commands.
 
+use std::fs::{self, File};
 use std::io::{self, BufRead, BufWriter, Write};
+use std::path::Path;
 use std::process::ExitCode;
 
+use judge::bench;
 use judge::cases;
 use judge::console::Desk;
 use judge::desks;
+use judge::dice::Dice;
+use judge::qdimacs::Asked;
 use judge::tally::Tally;
 
 const USAGE: &str = "\
-judge cases               writes the check's cases as console lines
-judge console             answers console lines from standard input
-judge desks SEED LINES    writes generated console lines
-judge tally               counts what console lines from standard input try
+judge bench                        writes the benchmark's formulas, one to a line: name, budget, count of words, words
+judge cases                        writes the check's cases as console lines
+judge console                      answers console lines from standard input
+judge desks SEED LINES             writes generated console lines
+judge qdimacs SEED COUNT FOLDER    writes generated formulas: N.qdimacs for each, and console lines that run them all
+judge tally                        counts what console lines from standard input try
 ";
 
 fn main() -> ExitCode {
     let words: Vec<String> = std::env::args().skip(1).collect();
     let words: Vec<&str> = words.iter().map(String::as_str).collect();
     let done = match words[..] {
+        ["bench"] => write_trials(&mut io::stdout().lock()),
         ["cases"] => write_cases(&mut io::stdout().lock()),
         ["console"] => serve(&mut io::stdin().lock(), &mut io::stdout().lock()),
         ["tally"] => count(&mut io::stdin().lock(), &mut io::stdout().lock()),
         ["desks", seed, lines] => match (seed.parse(), lines.parse()) {
             (Ok(seed), Ok(lines)) => write_desks(seed, lines),
+            _ => return usage(),
+        },
+        ["qdimacs", seed, count, folder] => match (seed.parse(), count.parse()) {
+            (Ok(seed), Ok(count)) => write_qdimacs(seed, count, Path::new(folder)),
             _ => return usage(),
         },
         _ => return usage(),
@@ -46,6 +58,14 @@ fn ended(done: io::Result<()>) -> ExitCode {
             ExitCode::FAILURE
         }
     }
+}
+
+fn write_trials(to: &mut impl Write) -> io::Result<()> {
+    for trial in bench::trials() {
+        let start = format!("{} {} {}", trial.name, trial.budget, trial.block.len());
+        writeln!(to, "{}", judge::console::line(&start, &trial.block))?;
+    }
+    Ok(())
 }
 
 fn write_cases(to: &mut impl Write) -> io::Result<()> {
@@ -79,6 +99,20 @@ fn write_desks(seed: u64, lines: usize) -> io::Result<()> {
     let mut to = BufWriter::new(io::stdout().lock());
     desks::write(seed, lines, &mut to)?;
     to.flush()
+}
+
+/// The texts 1.qdimacs to COUNT.qdimacs, and the lines of all of them, in order.
+fn write_qdimacs(seed: u64, count: usize, folder: &Path) -> io::Result<()> {
+    let mut dice = Dice::new(seed);
+    let mut lines = BufWriter::new(File::create(folder.join("lines"))?);
+    for number in 1..=count {
+        let asked = Asked::random(&mut dice);
+        fs::write(folder.join(format!("{number}.qdimacs")), asked.text())?;
+        for line in asked.lines() {
+            writeln!(lines, "{line}")?;
+        }
+    }
+    lines.flush()
 }
 
 /// The lines without their line feeds; the last one may have none.

@@ -4,12 +4,16 @@
 -- (`dead-false`), and a unit's opposite leaves a clause in conflict (`unit-dead`). Examples has a formula that shows why it is asked.
 use mathlib.Core.Path.{_≡_, refl, sym, _∙_, ap}
 use mathlib.Core.Bool.{Bool, true, false}
-use mathlib.Core.List.{[]}
+use mathlib.Core.List.{List, []}
 use Prim.Native.Nat.{ℕ, suc, _^_, _<_}
+use lib.IntN.{ℤ}
 use lib.ListN.{length}
 use Rattle.words.specs.Lists.{all}
-use Rattle.formula.specs.Formula.{Formula}
+use Rattle.formula.specs.Limits.{Limits}
+use Rattle.formula.specs.Formula.{Formula, formulaOf}
+use Rattle.formula.specs.Block.{refusal}
 use Rattle.formula.specs.Proper.{Proper}
+use Rattle.formula.specs.Accepted.{proper}
 use Rattle.formula.specs.Truth.{true?}
 use Rattle.theory.specs.Record.{Record, forced}
 use Rattle.theory.specs.Rules.{State, going, valid, unsat, verdict, Path, stop, take}
@@ -49,3 +53,7 @@ any-order F ok = record {
   right = λ p h. right-from F ok [] refl p h ∙ ap verdict (under-none F);
   ended = let a = answered F ok (going []) in (a .rules, rw (sym (sound-formula F ok (a .answer) (a .path))) at (a .path));
 }
+
+-- so of the formula of every block that the check accepts
+pub accepted-any-order : (L : Limits) (b : List ℤ) → refusal L b ≡ 0 → AnyOrder (formulaOf b)
+accepted-any-order L b h = any-order (formulaOf b) (proper L b h)

@@ -1,0 +1,59 @@
+//! The yardstick as a C function, with numbers and slices as the library's own
+//! `moki_run` has them, so that one program can call both.
+#![no_std]
+
+#[path = "../judge/src/yardstick.rs"]
+mod yardstick;
+
+use core::slice::{from_raw_parts, from_raw_parts_mut};
+use yardstick::{run, Session};
+
+/// # Safety
+///
+/// Each pointer leads to as many places as the number after it says.
+#[no_mangle]
+pub unsafe extern "C" fn yardstick_run(
+    length: u64,
+    revision: u64,
+    state: u32,
+    block: *const i32,
+    block_length: usize,
+    literals: *mut i32,
+    literals_length: usize,
+    kinds: *mut u8,
+    kinds_length: usize,
+    seen: u64,
+    budget: u32,
+    preferred: *const i32,
+    preferred_length: usize,
+    answer: *mut u64,
+    answer_length: usize,
+) -> u32 {
+    let session = Session {
+        length,
+        revision,
+        state: state as u8,
+    };
+    let block = unsafe { from_raw_parts(block, block_length) };
+    let literals = unsafe { from_raw_parts_mut(literals, literals_length) };
+    let kinds = unsafe { from_raw_parts_mut(kinds, kinds_length) };
+    let preferred = unsafe { from_raw_parts(preferred, preferred_length) };
+    let answer = unsafe { from_raw_parts_mut(answer, answer_length) };
+    match run(session, block, literals, kinds, seen, budget, preferred) {
+        Ok((next, count)) => {
+            let words = [next.length, next.revision, next.state.into(), count.into()];
+            answer[..4].copy_from_slice(&words);
+            0
+        }
+        Err(number) => number.into(),
+    }
+}
+
+#[panic_handler]
+fn stop(_: &core::panic::PanicInfo) -> ! {
+    loop {}
+}
+
+/// `core` as it is delivered names it, though nothing unwinds here.
+#[no_mangle]
+pub extern "C" fn rust_eh_personality() {}

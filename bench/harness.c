@@ -1,0 +1,117 @@
+/* Runs each formula of the standard input on the proved solver and on the
+   yardstick, with the same budget, and checks that they agree.
+
+   A line of input is NAME BUDGET COUNT W.., a line of output
+   NAME STATE STEPS LENGTH, then the best time of each side in microseconds.
+   Before and after each first run it calls getppid, which bench/count.c waits
+   for; the word `once` asks for these runs alone. */
+#define _POSIX_C_SOURCE 200809L
+#include <inttypes.h>
+#include <stdio.h>
+#include <stdlib.h>
+#include <string.h>
+#include <time.h>
+#include <unistd.h>
+
+#include "mokihazureo.h"
+
+enum { BLOCK = 16384, PLACES = 256, REPEATS = 5 };
+
+/* bench/door.rs: the yardstick, with the same answer. */
+uint32_t yardstick_run(uint64_t length, uint64_t revision, uint32_t state, const int32_t *block, size_t block_length, int32_t *literals, size_t literals_length, uint8_t *kinds, size_t kinds_length, uint64_t seen, uint32_t budget, const int32_t *preferred, size_t preferred_length, uint64_t *answer, size_t answer_length);
+
+typedef uint32_t (*solver)(uint64_t, uint64_t, uint32_t, const int32_t *, size_t, int32_t *, size_t, uint8_t *, size_t, uint64_t, uint32_t, const int32_t *, size_t, uint64_t *, size_t);
+
+struct formula {
+    char name[64];
+    uint32_t budget;
+    size_t length;
+    int32_t block[BLOCK];
+};
+
+/* A run, and all that it leaves. */
+struct outcome {
+    uint32_t refusal;
+    uint64_t answer[MOKI_RUN_WORDS];
+    int32_t literals[PLACES];
+    uint8_t kinds[PLACES];
+};
+
+static void run(solver solve, const struct formula *f, struct outcome *to)
+{
+    static const int32_t none[1];
+    memset(to, 0, sizeof *to);
+    to->refusal = solve(0, 0, MOKI_OPEN, f->block, f->length, to->literals, PLACES, to->kinds, PLACES, 0, f->budget, none, 0, to->answer, MOKI_RUN_WORDS);
+}
+
+static void run_counted(solver solve, const struct formula *f, struct outcome *to)
+{
+    getppid();
+    run(solve, f, to);
+    getppid();
+}
+
+static double microseconds(solver solve, const struct formula *f, struct outcome *to)
+{
+    struct timespec start, end;
+    clock_gettime(CLOCK_MONOTONIC, &start);
+    run(solve, f, to);
+    clock_gettime(CLOCK_MONOTONIC, &end);
+    return 1e6 * (double)(end.tv_sec - start.tv_sec) + 1e-3 * (double)(end.tv_nsec - start.tv_nsec);
+}
+
+/* The best of some runs, the sides by turns. */
+static void measure(const struct formula *f, double best[2])
+{
+    static struct outcome unread;
+    const solver sides[2] = {moki_run, yardstick_run};
+    best[0] = best[1] = 0;
+    for (int repeat = 0; repeat < REPEATS; repeat++) {
+        for (int side = 0; side < 2; side++) {
+            double took = microseconds(sides[side], f, &unread);
+            if (repeat == 0 || took < best[side])
+                best[side] = took;
+        }
+    }
+}
+
+static int read_formula(struct formula *f)
+{
+    if (scanf("%63s %" SCNu32 " %zu", f->name, &f->budget, &f->length) != 3)
+        return 0;
+    if (f->length > BLOCK)
+        return 0;
+    for (size_t i = 0; i < f->length; i++)
+        if (scanf("%" SCNd32, &f->block[i]) != 1)
+            return 0;
+    return 1;
+}
+
+static int agree(const struct outcome *a, const struct outcome *b)
+{
+    return a->refusal == b->refusal
+        && memcmp(a->answer, b->answer, sizeof a->answer) == 0
+        && memcmp(a->literals, b->literals, sizeof a->literals) == 0
+        && memcmp(a->kinds, b->kinds, sizeof a->kinds) == 0;
+}
+
+int main(int argc, char **argv)
+{
+    static struct formula f;
+    static struct outcome proved, plain;
+    int once = argc > 1 && strcmp(argv[1], "once") == 0;
+    int different = 0;
+    while (read_formula(&f)) {
+        double best[2] = {0, 0};
+        run_counted(moki_run, &f, &proved);
+        run_counted(yardstick_run, &f, &plain);
+        if (proved.refusal != 0 || !agree(&proved, &plain)) {
+            different++;
+            fprintf(stderr, "bench: the two sides differ on %s\n", f.name);
+        }
+        if (!once)
+            measure(&f, best);
+        printf("%s %" PRIu64 " %" PRIu64 " %" PRIu64 " %.0f %.0f\n", f.name, proved.answer[2], proved.answer[3], proved.answer[0], best[0], best[1]);
+    }
+    return different != 0;
+}

@@ -1,0 +1,92 @@
+//! Mokihazureo for Rust: safe calls of the proved static library.
+//!
+//! The rules, the formula block and the refusals' numbers are document 01's. Any
+//! words may be handed in; a refused call changes nothing. The caller lends all
+//! memory: the record is two buffers of at least V places.
+
+mod door;
+
+/// Counts the accepted steps of a session, from the number that it was opened at.
+#[derive(Clone, Copy, Debug, PartialEq, Eq)]
+pub struct Revision(pub u64);
+
+/// +v or -v; 0 as a proposal leaves the choice to the solver.
+#[derive(Clone, Copy, Debug, PartialEq, Eq)]
+pub struct Literal(pub i32);
+
+#[derive(Clone, Copy, Debug, PartialEq, Eq)]
+pub enum State {
+    Open,
+    Valid,
+    Unsat,
+}
+
+/// The number of the table's row that turned a call away.
+#[derive(Clone, Copy, Debug, PartialEq, Eq)]
+pub struct Refusal(pub u32);
+
+impl std::fmt::Display for Refusal {
+    fn fmt(&self, to: &mut std::fmt::Formatter) -> std::fmt::Result {
+        write!(to, "refused with number {}", self.0)
+    }
+}
+
+impl std::error::Error for Refusal {}
+
+/// The record's length, the revision and the state. It goes in by value, and the
+/// next one comes back.
+#[derive(Clone, Copy, Debug, PartialEq, Eq)]
+pub struct Session {
+    pub length: usize,
+    pub revision: Revision,
+    pub state: State,
+}
+
+/// Where a run leads, and how many steps it took.
+#[derive(Clone, Copy, Debug, PartialEq, Eq)]
+pub struct Ran {
+    pub session: Session,
+    pub steps: u32,
+}
+
+/// Whether the block is accepted; refusals 1 to 10.
+pub fn check(block: &[i32]) -> Result<(), Refusal> {
+    door::check(block)
+}
+
+/// A fresh session; refusals 1 to 11. The first V places of the record become 0.
+pub fn open(
+    block: &[i32],
+    literals: &mut [i32],
+    kinds: &mut [u8],
+    first: Revision,
+) -> Result<Session, Refusal> {
+    door::open(block, literals, kinds, first)
+}
+
+impl Session {
+    /// One step; refusals 1 to 17.
+    pub fn step(
+        self,
+        block: &[i32],
+        literals: &mut [i32],
+        kinds: &mut [u8],
+        seen: Revision,
+        proposal: Literal,
+    ) -> Result<Session, Refusal> {
+        door::step(self, block, literals, kinds, seen, proposal)
+    }
+
+    /// At most `budget` steps; refusals 1 to 15.
+    pub fn run(
+        self,
+        block: &[i32],
+        literals: &mut [i32],
+        kinds: &mut [u8],
+        seen: Revision,
+        budget: u32,
+        preferred: &[i32],
+    ) -> Result<Ran, Refusal> {
+        door::run(self, block, literals, kinds, seen, budget, preferred)
+    }
+}

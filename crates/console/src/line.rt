@@ -1,0 +1,98 @@
+// A line: its bytes as they come in, and its words, parted by spaces.
+ghost use mathlib.Core.Path.{_≡_};
+ghost use Prim.Native.Nat.{_<_, _≤_};
+ghost use lib.ListN.{length};
+ghost use Rattle.console.specs.Line.{Ahead, Onward};
+
+// How far a line has come in: where the input goes on, how many bytes the line has, one more than its room if they are too many, and
+// whether its line feed has come.
+pub(crate) struct Gathered {
+    pub(crate) next: usize,
+    pub(crate) count: usize,
+    pub(crate) ended: bool,
+}
+
+// A word of a line, from start up to end. Where there is none left, the two are equal.
+pub(crate) struct Word {
+    pub(crate) start: usize,
+    pub(crate) end: usize,
+}
+
+// Puts the bytes of a part of the input, from a place up to the next line feed, behind those that the line has.
+pub(crate) fn gather(part: &[u8], from: usize, line: &mut [u8], held: usize) -> Gathered
+    requires { ⌜ from < length (now part) ⌝ }
+    ensures { λ r. ⌜ Onward from (length (now (part .entry))) r ⌝ }
+{
+    let mut i = from;
+    let mut count = held;
+    while i < part.len() {
+        let b = part[i];
+        i += 1;
+        if b == b'\n' {
+            return Gathered {
+                next: i,
+                count,
+                ended: true,
+            };
+        }
+        if count < line.len() {
+            line[count] = b;
+            count += 1;
+        } else {
+            count = line.len() + 1;
+        }
+    }
+    Gathered {
+        next: i,
+        count,
+        ended: false,
+    }
+}
+
+// Where the next word begins.
+fn word_start(line: &[u8], from: usize) -> usize
+    requires { ⌜ from ≤ length (now line) ⌝ }
+    ensures { λ r. ⌜ (from ≤ r) × (r ≤ length (now (line .entry))) ⌝ }
+{
+    let mut i = from;
+    while i < line.len() && line[i] == b' ' {
+        i += 1;
+    }
+    i
+}
+
+// Where the word at a place ends.
+fn word_end(line: &[u8], from: usize) -> usize
+    requires { ⌜ from ≤ length (now line) ⌝ }
+    ensures { λ r. ⌜ (from ≤ r) × (r ≤ length (now (line .entry))) ⌝ }
+{
+    let mut i = from;
+    while i < line.len() && line[i] != b' ' {
+        i += 1;
+    }
+    i
+}
+
+pub(crate) fn next_word(line: &[u8], from: usize) -> Word
+    requires { ⌜ from ≤ length (now line) ⌝ }
+    ensures { λ r. ⌜ Ahead from (length (now (line .entry))) r ⌝ }
+{
+    let start = word_start(line, from);
+    let end = word_end(line, start);
+    Word { start, end }
+}
+
+// Whether a word is a name.
+pub(crate) fn is(word: &[u8], name: &[u8]) -> bool {
+    if word.len() != name.len() {
+        return false;
+    }
+    let mut i = 0;
+    while i < word.len() {
+        if word[i] != name[i] {
+            return false;
+        }
+        i += 1;
+    }
+    true
+}

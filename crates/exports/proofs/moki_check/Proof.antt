@@ -1,0 +1,24 @@
+-- A refused block's number is the one that the check gives.
+use mathlib.Core.Path.{_≡_, sym, _∙_}
+use Rattle.formula.specs.Check.{checked-accepted, checked-refused}
+use borrow.Author.Needs.{needs}
+use Rattle.exports.proofs.moki_check.Statement.{statement}
+use Rattle.exports.proofs.moki_check.Tie as tie
+
+check-requires : tie.Need-check-requires
+check-requires c κs = search needs
+
+enum-told : tie.Need-enum-told
+enum-told c = search needs
+
+enum-known-number : tie.Need-enum-known-number
+enum-known-number c = search needs
+
+returns : tie.Need-returns
+returns c = sym (checked-accepted _ (sym (c .before .before .check .ensures) ∙ c .enum-told .given .1))
+
+returns-2 : tie.Need-returns-2
+returns-2 c = sym (checked-refused _ _ (sym (c .before .before .before .check .ensures) ∙ c .before .number .given .1))
+
+pub moki-check-spec : {M : Type 1} → statement M
+moki-check-spec = tie.close (tie.spec check-requires enum-told enum-known-number returns returns-2)

@@ -1,0 +1,42 @@
+-- One case of the answer to a return.
+use mathlib.Core.Path.{refl}
+use borrow.Author.Needs.{needs}
+use Rattle.exports.proofs.numbers.ran.Statement.{statement}
+use Rattle.exports.proofs.numbers.ran.Tie as tie
+
+enum-known-outcome : tie.Need-enum-known-outcome
+enum-known-outcome c = search needs
+
+tell-requires : tie.Need-tell-requires
+tell-requires c κs = search needs
+
+cast-answer : tie.Need-cast-answer
+cast-answer c = search needs
+
+slice-write-answer : tie.Need-slice-write-answer
+slice-write-answer c = search needs
+
+enum-known-outcome-2 : tie.Need-enum-known-outcome-2
+enum-known-outcome-2 c = search needs
+
+same-length : tie.Need-same-length
+same-length c = search needs
+
+returns : tie.Need-returns
+returns c = let t = c .before .before in rw (t .before .before .before .outcome .given .1, ← t .tell .ensures) (refl, refl)
+
+returns-2 : tie.Need-returns-2
+returns-2 c = search needs
+
+pub ran-spec : {M : Type 1} → statement M
+ran-spec =
+    tie.close
+    (tie.spec
+    enum-known-outcome
+    tell-requires
+    cast-answer
+    slice-write-answer
+    enum-known-outcome-2
+    same-length
+    returns
+    returns-2)

@@ -1,0 +1,90 @@
+-- What a call from another language leaves: its status, and the content of each lent buffer, the numbers of the answer among them. The calls
+-- themselves are those of the crates below, by the same definitions.
+use Prim.Native.Nat.{ℕ, zero, suc}
+use mathlib.Core.Bool.{Bool, true, false}
+use mathlib.Core.List.{List, [], _∷_}
+use lib.Dec.{ltb}
+use lib.IntN.{ℤ}
+use lib.ListN.{length, set}
+use Rattle.words.specs.declared.Literal.{Literal}
+use Rattle.rules.specs.declared.State.{State}
+use Rattle.rules.specs.declared.State.the-variants.{Open, Valid, Unsat}
+use Rattle.rules.specs.Due.{pick, literal}
+use Rattle.session.specs.declared.Revision.{Revision}
+use Rattle.session.specs.declared.Session.{Session}
+use Rattle.session.specs.declared.Answer.{Answer}
+use Rattle.session.specs.declared.Answer.the-variants.{To, Refused}
+use Rattle.session.specs.declared.Ran.{Ran}
+use Rattle.session.specs.declared.Ran.the-variants.{Until, Stopped}
+use Rattle.session.specs.Outcome.{session, Outcome, openOutcome, stepOutcome}
+use Rattle.session.specs.Run.{RunOutcome, runOf}
+
+pub record Called : Type 0 where
+  pub status : ℕ
+  pub lits : List ℤ
+  pub kinds : List ℕ
+  pub answer : List ℕ
+
+abbrev pub called : ℕ → List ℤ → List ℕ → List ℕ → Called
+called n ls ks a = record { status = n; lits = ls; kinds = ks; answer = a }
+
+-- the status of a call whose answer has too few places: nothing is done. No row of the table has this number.
+abbrev pub noRoom : ℕ
+noRoom = 100
+
+unfoldable pub withRoom : ℕ → List ℤ → List ℕ → List ℕ → Called → Called
+withRoom n ls ks a c = pick (ltb (length a) n) (called noRoom ls ks a) c
+
+-- ---- a session as three numbers: its record's length, its revision, and 0 open, 1 Valid, 2 Unsat. A state over 2 counts as 2.
+abbrev pub stateOf : ℕ → State
+stateOf zero = Open
+stateOf (suc zero) = Valid
+stateOf (suc (suc n)) = Unsat
+
+abbrev pub numberOf : State → ℕ
+numberOf Open = 0
+numberOf Valid = 1
+numberOf Unsat = 2
+
+abbrev pub sessionOf : ℕ → ℕ → ℕ → Session
+sessionOf n rev st = session n rev (stateOf st)
+
+abbrev pub revision : ℕ → Revision
+revision n = record { 0 = n }
+
+-- its numbers, in the first three places of an answer
+unfoldable pub told : Session → List ℕ → List ℕ
+told s a = set (set (set a 0 (s .length)) 1 (s .revision .0)) 2 (numberOf (s .state))
+
+-- ---- opening and a step: status 0 and the next session's numbers, or the refusal's number alone
+abbrev pub statusOf : Answer → ℕ
+statusOf (To s) = 0
+statusOf (Refused n) = n
+
+abbrev pub toldBy : Answer → List ℕ → List ℕ
+toldBy (To s) a = told s a
+toldBy (Refused n) a = a
+
+abbrev pub ofAnswer : List ℕ → Outcome → Called
+ofAnswer a o = called (statusOf (o .answer)) (o .lits) (o .kinds) (toldBy (o .answer) a)
+
+abbrev pub openCall : List ℤ → List ℤ → List ℕ → ℕ → List ℕ → Called
+openCall b ls ks first a = withRoom 3 ls ks a (ofAnswer a (openOutcome b ls ks (revision first)))
+
+abbrev pub stepCall : Session → List ℤ → List ℤ → List ℕ → ℕ → ℤ → List ℕ → Called
+stepCall s b ls ks seen l a = withRoom 3 ls ks a (ofAnswer a (stepOutcome s b ls ks (revision seen) (literal l)))
+
+-- ---- a run: the count of accepted steps stands in a fourth place
+abbrev pub ranStatus : Ran → ℕ
+ranStatus (Until s n) = 0
+ranStatus (Stopped n) = n
+
+abbrev pub ranTold : Ran → List ℕ → List ℕ
+ranTold (Until s n) a = set (told s a) 3 n
+ranTold (Stopped n) a = a
+
+abbrev pub ofRan : List ℕ → RunOutcome → Called
+ofRan a o = called (ranStatus (o .answer)) (o .lits) (o .kinds) (ranTold (o .answer) a)
+
+abbrev pub runCall : Session → List ℤ → List ℤ → List ℕ → ℕ → ℕ → List ℤ → List ℕ → Called
+runCall s b ls ks seen budget preferred a = withRoom 4 ls ks a (ofRan a (runOf s b ls ks (revision seen) budget preferred))

@@ -1,0 +1,60 @@
+/* Mokihazureo for C: a proved solver for quantified Boolean formulas, one rule
+   at a time. docs/bindings.md is the guide; the rules, the formula block and the
+   refusals' numbers are document 01's.
+
+   Every call answers 0 if it is accepted, the number of its refusal, or
+   MOKI_NO_ROOM; in the last two cases nothing is written anywhere. Any words may
+   stand in any buffer and any number in any place. Of the memory itself this is
+   asked: no pointer is null, each buffer has at least its length, and a buffer
+   that is written overlaps no other. */
+#ifndef MOKIHAZUREO_H
+#define MOKIHAZUREO_H
+
+#include <stddef.h>
+#include <stdint.h>
+
+#ifdef __cplusplus
+extern "C" {
+#endif
+
+/* The state of a session. A number over MOKI_UNSAT counts as MOKI_UNSAT. */
+enum { MOKI_OPEN = 0, MOKI_VALID = 1, MOKI_UNSAT = 2 };
+
+/* How many words a call's answer has, and the status of a call whose answer has
+   fewer places. */
+enum { MOKI_SESSION_WORDS = 3, MOKI_RUN_WORDS = 4, MOKI_NO_ROOM = 100 };
+
+/* Refusals 1 to 10. */
+uint32_t moki_check(const int32_t *block, size_t block_length);
+
+/* Refusals 1 to 11. The answer is the session: length, revision, state. */
+uint32_t moki_open(const int32_t *block, size_t block_length,
+                   int32_t *literals, size_t literals_length,
+                   uint8_t *kinds, size_t kinds_length,
+                   uint64_t first_revision,
+                   uint64_t *answer, size_t answer_length);
+
+/* Refusals 1 to 17. The session goes in as three numbers; the answer is the next
+   session. Proposal 0 leaves the choice to the solver. */
+uint32_t moki_step(size_t length, uint64_t revision, uint32_t state,
+                   const int32_t *block, size_t block_length,
+                   int32_t *literals, size_t literals_length,
+                   uint8_t *kinds, size_t kinds_length,
+                   uint64_t seen_revision, int32_t proposal,
+                   uint64_t *answer, size_t answer_length);
+
+/* Refusals 1 to 15. The answer is the next session, then the count of accepted
+   steps. */
+uint32_t moki_run(size_t length, uint64_t revision, uint32_t state,
+                  const int32_t *block, size_t block_length,
+                  int32_t *literals, size_t literals_length,
+                  uint8_t *kinds, size_t kinds_length,
+                  uint64_t seen_revision, uint32_t budget,
+                  const int32_t *preferred, size_t preferred_length,
+                  uint64_t *answer, size_t answer_length);
+
+#ifdef __cplusplus
+}
+#endif
+
+#endif

@@ -1,0 +1,146 @@
+//! Twenty formulas of 1,000 clauses from fixed seeds, of several shapes, to
+//! measure runs on.
+
+use crate::block::lay_out;
+use crate::dice::Dice;
+
+pub const CLAUSES: usize = 1000;
+
+/// A formula, and how many steps a run of it may take.
+pub struct Trial {
+    pub name: String,
+    pub budget: u32,
+    pub block: Vec<i32>,
+}
+
+pub fn trials() -> Vec<Trial> {
+    let shapes: [(&str, usize, u32, Make); 5] = [
+        ("hard-ratio", 5, 4000, |dice| three_clauses(dice, 235)),
+        ("over-ratio", 2, 8000, |dice| three_clauses(dice, 95)),
+        ("small-groups", 5, 4000, |dice| groups(dice, 4)),
+        ("few-groups", 2, 8000, |dice| groups(dice, 22)),
+        ("failover", 6, 4000, failover),
+    ];
+    let mut trials = Vec::new();
+    for (name, count, budget, make) in shapes {
+        for seed in 1..=count {
+            let (prefix, clauses) = make(&mut Dice::new(seed as u64));
+            trials.push(Trial {
+                name: format!("{name}-{seed}"),
+                budget,
+                block: lay_out(&prefix, &clauses),
+            });
+        }
+    }
+    trials
+}
+
+type Make = fn(&mut Dice) -> Parts;
+
+/// A prefix and clauses.
+type Parts = (Vec<i32>, Vec<Vec<i32>>);
+
+/// Three different variables of a list, each with a random sign.
+fn three(dice: &mut Dice, variables: &[i32]) -> Vec<i32> {
+    let mut clause: Vec<i32> = Vec::new();
+    while clause.len() < 3 {
+        let variable = dice.pick(variables);
+        if clause.iter().all(|literal| literal.abs() != variable) {
+            clause.push(variable * dice.pick(&[1, -1]));
+        }
+    }
+    clause
+}
+
+/// Random clauses of three existential literals. About 4.26 for each variable
+/// are the hardest; with many more the search soon fails everywhere.
+fn three_clauses(dice: &mut Dice, variables: i32) -> Parts {
+    let mut prefix: Vec<i32> = (1..=variables).collect();
+    let clauses = (0..CLAUSES).map(|_| three(dice, &prefix)).collect();
+    dice.shuffle(&mut prefix);
+    (prefix, clauses)
+}
+
+/// That many existential variables, a universal one, and so on; in each clause
+/// three existential literals and one of any other variable.
+fn groups(dice: &mut Dice, existential: usize) -> Parts {
+    let mut prefix: Vec<i32> = (1..=254).collect();
+    dice.shuffle(&mut prefix);
+    for word in prefix.iter_mut().skip(existential).step_by(existential + 1) {
+        *word = -*word;
+    }
+    let positive: Vec<i32> = prefix.iter().copied().filter(|&word| word > 0).collect();
+    let clauses = (0..CLAUSES).map(|_| {
+        let mut clause = three(dice, &positive);
+        let other = dice.pick(&prefix).abs();
+        if clause.iter().all(|literal| literal.abs() != other) {
+            clause.push(other * dice.pick(&[1, -1]));
+        }
+        clause
+    });
+    let clauses = clauses.collect();
+    (prefix, clauses)
+}
+
+/// Failover plans of racks of four hosts, one guest to a host, side by side:
+/// exists the placements, for all failures, exists the recoveries. A rack's
+/// clauses are 20, 48 or 84 for 1, 2 or 3 guests.
+fn failover(dice: &mut Dice) -> Parts {
+    let racks = racks(dice);
+    let mut next = 0;
+    let mut take = |count: usize| -> Vec<i32> {
+        next += count as i32;
+        (next - count as i32 + 1..=next).collect()
+    };
+    let placed: Vec<Vec<i32>> = racks.iter().map(|guests| take(2 * guests)).collect();
+    let failed: Vec<Vec<i32>> = racks.iter().map(|_| take(2)).collect();
+    let recovered: Vec<Vec<i32>> = racks.iter().map(|guests| take(2 * guests)).collect();
+    let universal = failed.concat().into_iter().map(|variable| -variable);
+    let prefix = [placed.concat(), universal.collect(), recovered.concat()].concat();
+    let mut clauses = Vec::new();
+    for rack in 0..racks.len() {
+        plan(&placed[rack], &failed[rack], &recovered[rack], &mut clauses);
+    }
+    dice.shuffle(&mut clauses);
+    (prefix, clauses)
+}
+
+/// How many guests each rack has, so that the clauses are 1,000 in all.
+fn racks(dice: &mut Dice) -> Vec<usize> {
+    loop {
+        let (ones, twos, threes) = (dice.below(8), dice.below(16), dice.below(12));
+        if 20 * ones + 48 * twos + 84 * threes == CLAUSES {
+            let mut racks = [vec![1; ones], vec![2; twos], vec![3; threes]].concat();
+            dice.shuffle(&mut racks);
+            return racks;
+        }
+    }
+}
+
+/// The plan of one rack. The host of a guest is two variables.
+fn plan(placed: &[i32], failed: &[i32], recovered: &[i32], clauses: &mut Vec<Vec<i32>>) {
+    let other_than = |pair: &[i32], host: usize| -> Vec<i32> {
+        let differs = |(variable, bit): (&i32, usize)| if bit == 1 { -variable } else { *variable };
+        pair.iter().zip([host / 2, host % 2]).map(differs).collect()
+    };
+    for host in 0..4 {
+        for places in [placed, recovered] {
+            let guests: Vec<&[i32]> = places.chunks(2).collect();
+            for (place, one) in guests.iter().enumerate() {
+                for two in &guests[place + 1..] {
+                    clauses.push([other_than(one, host), other_than(two, host)].concat());
+                }
+            }
+        }
+        for (before, after) in placed.chunks(2).zip(recovered.chunks(2)) {
+            for dead in other_than(failed, host) {
+                for moved in other_than(after, host) {
+                    let mut stays = other_than(before, host);
+                    stays.extend([-dead, -moved]);
+                    clauses.push(stays);
+                }
+            }
+            clauses.push([other_than(failed, host), other_than(after, host)].concat());
+        }
+    }
+}

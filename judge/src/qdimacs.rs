@@ -1,0 +1,84 @@
+//! Random formulas for an outside solver: each as a QDIMACS text, and as the
+//! console lines that ask for its verdict.
+//!
+//! The standard's text has at least one variable and one clause, no empty
+//! clause, and never two neighbouring lines of one quantifier, so formulas are
+//! chosen that fit and each group is one line.
+
+use std::fmt::Write;
+
+use crate::block::lay_out;
+use crate::console::line;
+use crate::dice::Dice;
+use crate::shapes::{self, Shape};
+
+pub struct Asked {
+    pub prefix: Vec<i32>,
+    pub clauses: Vec<Vec<i32>>,
+}
+
+impl Asked {
+    /// A formula that the standard's text can hold.
+    pub fn random(dice: &mut Dice) -> Asked {
+        loop {
+            let shape = shape(dice);
+            let prefix = shapes::prefix(dice, shape, None);
+            let clauses = shapes::clauses(dice, shape, &prefix);
+            let asked = Asked { prefix, clauses };
+            if asked.fits() {
+                return asked;
+            }
+        }
+    }
+
+    fn fits(&self) -> bool {
+        let no_empty = self.clauses.iter().all(|clause| !clause.is_empty());
+        !self.prefix.is_empty() && !self.clauses.is_empty() && no_empty
+    }
+
+    /// The problem line, a line for each group, a line for each clause.
+    pub fn text(&self) -> String {
+        let mut text = format!("p cnf {} {}\n", self.prefix.len(), self.clauses.len());
+        for group in self.prefix.chunk_by(|a, b| (*a > 0) == (*b > 0)) {
+            text.push(if group[0] > 0 { 'e' } else { 'a' });
+            end_line(&mut text, group.iter().map(|word| word.abs()));
+        }
+        for clause in &self.clauses {
+            let (first, rest) = clause.split_first().expect("no clause is empty");
+            write!(text, "{first}").expect("a text takes everything");
+            end_line(&mut text, rest.iter().copied());
+        }
+        text
+    }
+
+    /// A record of V places, a new session, and a run to its end.
+    pub fn lines(&self) -> [String; 5] {
+        let zeros = vec![0; self.prefix.len()];
+        [
+            line("block", &lay_out(&self.prefix, &self.clauses)),
+            line("lits", &zeros),
+            line("kinds", &zeros),
+            "open 0".to_string(),
+            format!("run 0 {}", u32::MAX),
+        ]
+    }
+}
+
+/// Mostly small shapes, where every turn of the rules is near; some whose
+/// searches are longer.
+fn shape(dice: &mut Dice) -> Shape {
+    let some = 6 + dice.below(10);
+    let more = 16 + dice.below(15);
+    match dice.weighted(&[25, 55, 20]) {
+        0 => shapes::small(dice, 8),
+        1 => shapes::harder(dice, some),
+        _ => shapes::harder(dice, more),
+    }
+}
+
+fn end_line(text: &mut String, words: impl Iterator<Item = i32>) {
+    for word in words {
+        write!(text, " {word}").expect("a text takes everything");
+    }
+    text.push_str(" 0\n");
+}
