@@ -14,9 +14,9 @@ use Rattle.words.specs.Bools.{clash}
 use Rattle.words.specs.Lists.{next, ended}
 use Rattle.words.specs.Words.{negative, opposite, opposite-is}
 use Rattle.formula.specs.Formula.{run, firstGroup}
+use Rattle.rules.specs.Due.{pick}
 use Rattle.listing.specs.Opening.{valuesOf}
-use Rattle.listing.specs.Values.{values-turn}
-use Rattle.listing.specs.Checked.{literalOf}
+use Rattle.listing.specs.Values.{valueOf, values-turn}
 
 -- ---- the first group: u is the sign of the prefix's first word
 pub group-begins : (p : List ℤ) {u : Bool} → u ≡ negative (getD p 0 (pos 0)) → 0 + run u p ≡ firstGroup p
@@ -43,31 +43,31 @@ module _ (p : List ℤ) (i : ℕ) (u : Bool) (e : i + run u (drop i p) ≡ first
 pub shifted : (k : ℕ) → k ≤ 16 → 1 * 2 ^ k % 4294967296 ≡ 2 ^ k
 shifted k h = let m : 2 ^ k ≤ 2 ^ 16 = pow-mono h in omega arith
 
--- ---- one value: a word that has the wrong sign for it is turned
-module _ (q : ℤ) {s : Bool} (is : s ≡ negative q) (v : Bool) where
-  pub literal-turned : Bool·beq s v ≡ true → natAbs q ≤ 2147483647 → opposite q ≡ literalOf v q
-  literal-turned t h = opposite-is q h ∙ go q v (rw is at t)
-    where
-      go : (q : ℤ) (v : Bool) → Bool·beq (negative q) v ≡ true → negℤ q ≡ literalOf v q
-      go (pos n) true t = clash t refl
-      go (pos n) false t = refl
-      go (negsuc n) true t = refl
-      go (negsuc n) false t = clash t refl
+-- ---- one value: a word that has the other sign is turned
+turned-word : (q : ℤ) (v : Bool) → Bool·beq (negative q) v ≡ true → negℤ q ≡ pick v (pos (natAbs q)) (negℤ (pos (natAbs q)))
+turned-word (pos n) true t = clash t refl
+turned-word (pos n) false t = refl
+turned-word (negsuc n) true t = refl
+turned-word (negsuc n) false t = clash t refl
 
-  pub literal-stays : Bool·beq s v ≡ false → q ≡ literalOf v q
-  literal-stays t = go q v (rw is at t)
-    where
-      go : (q : ℤ) (v : Bool) → Bool·beq (negative q) v ≡ false → q ≡ literalOf v q
-      go (pos n) true t = refl
-      go (pos n) false t = clash refl t
-      go (negsuc n) true t = clash refl t
-      go (negsuc n) false t = refl
+own-word : (q : ℤ) (v : Bool) → Bool·beq (negative q) v ≡ false → q ≡ pick v (pos (natAbs q)) (negℤ (pos (natAbs q)))
+own-word (pos n) true t = refl
+own-word (pos n) false t = clash refl t
+own-word (negsuc n) true t = clash refl t
+own-word (negsuc n) false t = refl
+
+module _ (n place : ℕ) (q : ℤ) {s v : Bool} (sign : s ≡ negative q) (one : v ≡ eqb (n / 2 ^ place % 2) 1) where
+  pub value-turned : Bool·beq s v ≡ true → natAbs q ≤ 2147483647 → opposite q ≡ valueOf n place q
+  value-turned t h = opposite-is q h ∙ turned-word q (eqb (n / 2 ^ place % 2) 1) (rw (sign, one) at t)
+
+  pub value-stays : Bool·beq s v ≡ false → q ≡ valueOf n place q
+  value-stays t = own-word q (eqb (n / 2 ^ place % 2) 1) (rw (sign, one) at t)
 
 -- ---- the values of the number n, written one after the other: the loop is at i
 module _ (n : ℕ) (g ls : List ℤ) (i : ℕ) where
-  pub values-write : i < length g → {j : ℕ} → j ≡ length g - (i + 1) → {v : Bool} → v ≡ eqb (n / 2 ^ j % 2) 1 → {w : ℤ} → w ≡ literalOf v (getD g i (pos 0))
+  pub values-write : i < length g → (place : ℕ) → place ≡ length g - (i + 1) → {w : ℤ} → w ≡ valueOf n place (getD g i (pos 0))
       → sets (set ls i w) (i + 1) (valuesOf n (drop (i + 1) g)) ≡ sets ls i (valuesOf n (drop i g))
-  values-write h {j} p {v} q {w} r = rw (r, q, p) (sym (values-turn n g ls i h))
+  values-write h place p r = rw (r, p) (sym (values-turn n g ls i h))
 
   pub values-written : length g ≤ i → sets ls i (valuesOf n (drop i g)) ≡ ls
   unfolding valuesOf

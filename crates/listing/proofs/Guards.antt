@@ -10,41 +10,40 @@ use lib.ListN.{length, take, drop}
 use borrow.Author.Tests.{lt-ltb, le-ltb}
 use Rattle.words.specs.Words.{negative}
 use Rattle.formula.specs.Formula.{word, variablesOf, formulaOf, firstGroup}
+use Rattle.formula.specs.Block.{first}
+use Rattle.rules.specs.Ready.{formula}
 use Rattle.session.specs.Refusals.{openRefusal}
 use Rattle.session.proofs.Lent.{opened, prefix-lent}
 use Rattle.listing.specs.Page.{after, pageRefusal}
 use Rattle.listing.specs.Rows.{pageRows}
-use Rattle.listing.specs.Checked.{openingsRefusal}
 
 -- ---- rows 18 to 21
+abbrev rowsOf : List ℤ → ℕ → List ℕ → List Bool
+rowsOf p start out = pageRows (formula p [] []) start out
+
 -- an empty prefix has no first word, and the word past its end is not negative
 first-word : (p : List ℤ) → (ltb 0 (length p) && negative (word p 0)) ≡ negative (word p 0)
 first-word [] = refl
 first-word (q ∷ p) = let h : 0 < length (q ∷ p) = omega arith in rw (lt-ltb 0 (length (q ∷ p)) h)
 
-module _ (p : List ℤ) (start room : ℕ) {u : Bool} (is : u ≡ negative (word p 0)) where
-  pub openings-universal : u ≡ true → 18 ≡ openingsRefusal p start room
-  unfolding openingsRefusal
+module _ (p : List ℤ) (start : ℕ) (out : List ℕ) {u : Bool} (is : u ≡ negative (word p 0)) where
+  pub openings-universal : u ≡ true → 18 ≡ first 18 (rowsOf p start out)
   openings-universal x = rw (first-word p, ← is, x)
 
   module _ (x : u ≡ false) {k : ℕ} (e : k ≡ firstGroup p) where
-    pub openings-wide : 16 < k → 19 ≡ openingsRefusal p start room
-    unfolding openingsRefusal
+    pub openings-wide : 16 < k → 19 ≡ first 18 (rowsOf p start out)
     openings-wide h = rw (first-word p, ← is, x, ← e, lt-ltb 16 k h)
 
     module _ (h : k ≤ 16) {m : ℕ} (t : m ≡ 2 ^ k) where
-      pub openings-over : m < start → 20 ≡ openingsRefusal p start room
-      unfolding openingsRefusal
+      pub openings-over : m < start → 20 ≡ first 18 (rowsOf p start out)
       openings-over l = rw (first-word p, ← is, x, ← e, le-ltb 16 k h, ← t, lt-ltb m start l)
 
       module _ (l : start ≤ m) where
-        pub openings-short : room < 2 → 21 ≡ openingsRefusal p start room
-        unfolding openingsRefusal
-        openings-short r = rw (first-word p, ← is, x, ← e, le-ltb 16 k h, ← t, le-ltb m start l, lt-ltb room 2 r)
+        pub openings-short : length out < 2 → 21 ≡ first 18 (rowsOf p start out)
+        openings-short r = rw (first-word p, ← is, x, ← e, le-ltb 16 k h, ← t, le-ltb m start l, lt-ltb (length out) 2 r)
 
-        pub openings-pass : 2 ≤ room → 0 ≡ openingsRefusal p start room
-        unfolding openingsRefusal
-        openings-pass r = rw (first-word p, ← is, x, ← e, le-ltb 16 k h, ← t, le-ltb m start l, le-ltb room 2 r)
+        pub openings-pass : 2 ≤ length out → 0 ≡ first 18 (rowsOf p start out)
+        openings-pass r = rw (first-word p, ← is, x, ← e, le-ltb 16 k h, ← t, le-ltb m start l, le-ltb (length out) 2 r)
 
 -- ---- rows 1 to 11, and then these
 after-first : (n : ℕ) (rows : List Bool) → (n ≡ 0 → ⊥) → n ≡ after n rows
@@ -56,6 +55,6 @@ module _ (b ls : List ℤ) (ks : List ℕ) (start : ℕ) (out : List ℕ) {r : �
   unfolding pageRefusal
   page-buffers f = rw (← e) (after-first r (pageRows (formulaOf b) start out) f)
 
-  pub page-openings : (z : r ≡ 0) {v : ℕ} → v ≡ variablesOf b → {q : ℕ} → q ≡ openingsRefusal (take (6 + v - 6) (drop 6 b)) start (length out) → q ≡ pageRefusal b ls ks start out
-  unfolding pageRefusal openingsRefusal formulaOf
+  pub page-openings : (z : r ≡ 0) {v : ℕ} → v ≡ variablesOf b → {q : ℕ} → q ≡ first 18 (rowsOf (take (6 + v - 6) (drop 6 b)) start out) → q ≡ pageRefusal b ls ks start out
+  unfolding pageRefusal formulaOf
   page-openings z is p = p ∙ rw (← e, z, prefix-lent b (opened b ls ks e z .block) (ap (λ n. 6 + n) is))

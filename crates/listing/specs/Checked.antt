@@ -1,30 +1,15 @@
 -- What the functions of a page say to each other; a reader of the outcome needs none of it.
-use Prim.Native.Nat.{ℕ, _^_, _≤_, _<_}
+use Prim.Native.Nat.{ℕ, _≤_, _<_}
 use mathlib.Core.Path.{_≡_}
-use mathlib.Core.Bool.{Bool, _&&_}
-use mathlib.Core.List.{List, [], _∷_}
-use lib.Dec.{ltb}
-use lib.IntN.{ℤ, pos, negℤ, natAbs}
+use mathlib.Core.List.{List}
+use lib.IntN.{ℤ, pos, natAbs}
 use lib.ListN.{length, getD}
-use Rattle.words.specs.Words.{negative}
-use Rattle.formula.specs.Formula.{Formula, prefixOf, word, firstGroup}
-use Rattle.formula.specs.Block.{first}
-use Rattle.rules.specs.Due.{pick}
+use Rattle.formula.specs.Formula.{Formula, prefixOf, firstGroup}
 use Rattle.rules.specs.Apply.{wiped}
 use Rattle.session.specs.Checked.{BuffersOn}
 use Rattle.listing.specs.declared.Paged.{Paged}
 use Rattle.listing.specs.Page.{PageOutcome, pageOutcome}
 use Rattle.listing.specs.Rows.{PageGuarded}
-
--- rows 18 to 21, on a prefix and an output of so many words
-unfoldable pub openingsRefusal : List ℤ → ℕ → ℕ → ℕ
-openingsRefusal p start room =
-    first 18
-    ((ltb 0 (length p) && negative (word p 0))
-    ∷ ltb 16 (firstGroup p)
-    ∷ ltb (2 ^ firstGroup p) start
-    ∷ ltb room 2
-    ∷ [])
 
 -- the block passes rows 1 to 10, the buffers row 11, and the first group, of k variables, row 19
 pub record OnGroup (b ls : List ℤ) (ks : List ℕ) (k : ℕ) : Type 0 where
@@ -41,14 +26,11 @@ pub record OnPage (b ls : List ℤ) (ks : List ℕ) (k start : ℕ) (out : List 
 abbrev pub wipedOutcome : Formula → Paged → List ℤ → List ℕ → List ℕ → PageOutcome
 wipedOutcome F a ls ks out = pageOutcome a (wiped (pos 0) ls 0 (length (F .prefix))) (wiped 0 ks 0 (length (F .prefix))) out
 
--- the literal of a word's variable that is true or false
-abbrev pub literalOf : Bool → ℤ → ℤ
-literalOf value q = pick value (pos (natAbs q)) (negℤ (pos (natAbs q)))
-
--- a word of the group has an opposite
-pub record WritableAt (g : List ℤ) (i : ℕ) : Type 0 where
+-- a word of a group that has an opposite, and the place of its bit
+pub record WritableAt (g : List ℤ) (i place : ℕ) : Type 0 where
   pub inside : i < length g
   pub small : natAbs (getD g i (pos 0)) ≤ 2147483647
+  pub low : place < 16
 
 -- the values of a group can be put at the start of a buffer
 pub record Writable (g ls : List ℤ) : Type 0 where

@@ -1,8 +1,11 @@
 // The rows of the table that speak of a page, in its order.
 ghost use mathlib.Core.Path.{_≡_};
+ghost use mathlib.Core.List.{[]};
+ghost use Rattle.formula.specs.Block.{first};
+ghost use Rattle.rules.specs.Ready.{formula};
 ghost use Rattle.session.specs.Refusals.{short, openRefusal};
 ghost use Rattle.listing.specs.Page.{pageRefusal};
-ghost use Rattle.listing.specs.Checked.{openingsRefusal};
+ghost use Rattle.listing.specs.Rows.{pageRows};
 use crate::openings;
 use formula::Checked;
 
@@ -27,9 +30,9 @@ fn of_buffers(block: &[i32], lits: &[i32], kinds: &[u8]) -> u32
     }
 }
 
-// Rows 18 to 21, of a prefix and an output of so many words.
-fn of_openings(prefix: &[i32], start: u32, room: usize) -> u32
-    ensures { λ r. ⌜ r ≡ openingsRefusal (now (prefix .entry)) start room ⌝ }
+// Rows 18 to 21, which look at the prefix and at no clause.
+fn of_openings(prefix: &[i32], start: u32, output: &[u32]) -> u32
+    ensures { λ r. ⌜ r ≡ first 18 (pageRows (formula (now (prefix .entry)) [] []) start (now (output .entry))) ⌝ }
 {
     if words::negative_at(prefix, 0) {
         return 18;
@@ -41,7 +44,7 @@ fn of_openings(prefix: &[i32], start: u32, room: usize) -> u32
     if openings::count(k) < start {
         return 20;
     }
-    if room < 2 {
+    if output.len() < 2 {
         return 21;
     }
     0
@@ -56,5 +59,5 @@ pub fn of_page(block: &[i32], lits: &[i32], kinds: &[u8], start: u32, output: &[
         return refused;
     }
     let end = 6 + words::size_at(block, 0);
-    of_openings(&block[6..end], start, output.len())
+    of_openings(&block[6..end], start, output)
 }

@@ -9,7 +9,8 @@ ghost use Rattle.formula.specs.Formula.{formulaOf, firstGroup};
 ghost use Rattle.rules.specs.Apply.{search, reached};
 ghost use Rattle.rules.specs.declared.State.the-variants.{Open};
 ghost use Rattle.listing.specs.Opening.{valuesOf, startOf, searchOf};
-ghost use Rattle.listing.specs.Checked.{OnGroup, literalOf, WritableAt, Writable};
+ghost use Rattle.listing.specs.Values.{valueOf};
+ghost use Rattle.listing.specs.Checked.{OnGroup, WritableAt, Writable};
 use rules::Reached;
 
 // The size of the first group.
@@ -43,12 +44,12 @@ fn has_one(n: u32, place: usize) -> bool
     (n >> place) % 2 == 1
 }
 
-// The literal of the variable at an index: positive for true, negative for false.
-fn literal_at(group: &[i32], i: usize, value: bool) -> i32
-    requires { ⌜ WritableAt (now group) i ⌝ }
-    ensures { λ r. ⌜ r ≡ literalOf value (getD (now (group .entry)) i (pos 0)) ⌝ }
+// The literal that the number n gives to the variable at an index, whose bit is at a place: a word of the other sign is turned.
+fn value_at(group: &[i32], i: usize, n: u32, place: usize) -> i32
+    requires { ⌜ WritableAt (now group) i place ⌝ }
+    ensures { λ r. ⌜ r ≡ valueOf n place (getD (now (group .entry)) i (pos 0)) ⌝ }
 {
-    if words::negative_at(group, i) == value {
+    if words::negative_at(group, i) == has_one(n, place) {
         words::opposite(group[i])
     } else {
         group[i]
@@ -64,7 +65,7 @@ fn write_values(group: &[i32], n: u32, lits: &mut [i32])
     let mut i = 0;
     while i < group.len() {
         place -= 1;
-        let word = literal_at(group, i, has_one(n, place));
+        let word = value_at(group, i, n, place);
         lits[i] = word;
         i += 1;
     }

@@ -8,7 +8,9 @@ negative-at-requires : tie.Need-negative-at-requires
 negative-at-requires c κs = search needs
 
 returns : tie.Need-returns
-returns c = openings-universal _ _ _ (c .before .negative-at .ensures) (c .if1 .taken)
+returns c =
+    let args = c .before .before .before .args in
+    openings-universal (args .prefix .now) (args .start) (args .output .now) (c .before .negative-at .ensures) (c .if1 .taken)
 
 first-group-requires : tie.Need-first-group-requires
 first-group-requires c κs = search needs
@@ -16,7 +18,8 @@ first-group-requires c κs = search needs
 returns-2 : tie.Need-returns-2
 returns-2 c =
     let u = c .before .before in
-    openings-wide _ _ _ (u .before .negative-at .ensures) (u .if1 .left) (c .before .first-group .ensures) (c .if2 .taken)
+    let args = u .before .before .before .args in
+    openings-wide (args .prefix .now) (args .start) (args .output .now) (u .before .negative-at .ensures) (u .if1 .left) (c .before .first-group .ensures) (c .if2 .taken)
 
 count-requires : tie.Need-count-requires
 count-requires c κs = search needs
@@ -26,21 +29,24 @@ returns-3 c =
     let m = c .before in
     let k = m .before in
     let u = k .before .before in
-    openings-over _ _ _ (u .before .negative-at .ensures) (u .if1 .left) (k .before .first-group .ensures) (k .if2 .left) (m .count .ensures) (c .if3 .taken)
+    let args = u .before .before .before .args in
+    openings-over (args .prefix .now) (args .start) (args .output .now) (u .before .negative-at .ensures) (u .if1 .left) (k .before .first-group .ensures) (k .if2 .left) (m .count .ensures) (c .if3 .taken)
 
 returns-4 : tie.Need-returns-4
 returns-4 c =
     let m = c .before .before in
     let k = m .before in
     let u = k .before .before in
-    openings-short _ _ _ (u .before .negative-at .ensures) (u .if1 .left) (k .before .first-group .ensures) (k .if2 .left) (m .count .ensures) (c .before .if3 .left) (c .if4 .taken)
+    let args = u .before .before .before .args in
+    openings-short (args .prefix .now) (args .start) (args .output .now) (u .before .negative-at .ensures) (u .if1 .left) (k .before .first-group .ensures) (k .if2 .left) (m .count .ensures) (c .before .if3 .left) (c .if4 .taken)
 
 returns-5 : tie.Need-returns-5
 returns-5 c =
     let m = c .before .before in
     let k = m .before in
     let u = k .before .before in
-    openings-pass _ _ _ (u .before .negative-at .ensures) (u .if1 .left) (k .before .first-group .ensures) (k .if2 .left) (m .count .ensures) (c .before .if3 .left) (c .if4 .left)
+    let args = u .before .before .before .args in
+    openings-pass (args .prefix .now) (args .start) (args .output .now) (u .before .negative-at .ensures) (u .if1 .left) (k .before .first-group .ensures) (k .if2 .left) (m .count .ensures) (c .before .if3 .left) (c .if4 .left)
 
 pub of-openings-spec : {M : Type 1} → statement M
 of-openings-spec =

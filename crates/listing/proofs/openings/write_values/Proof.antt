@@ -25,14 +25,11 @@ loop-holds c = (omega arith, omega arith, refl, refl)
 sub-place : tie.Need-sub-place Inv-loop μ-loop
 sub-place c = search needs
 
-has-one-requires : tie.Need-has-one-requires Inv-loop μ-loop
-has-one-requires c κs = search needs
-
-literal-at-requires : tie.Need-literal-at-requires Inv-loop μ-loop
-literal-at-requires c κs =
-    let l = c .before .before in
-    let h = c .before .loop-test .taken in
-    record { inside = h; small = l .before .pre .small (l .loop .i) h }
+value-at-requires : tie.Need-value-at-requires Inv-loop μ-loop
+value-at-requires c κs =
+    let l = c .before in
+    let h = c .loop-test .taken in
+    record { inside = h; small = l .before .pre .small (l .loop .i) h; low = omega arith }
 
 mul-word : tie.Need-mul-word Inv-loop μ-loop
 mul-word c = omega arith
@@ -48,13 +45,13 @@ loop-less c = search needs
 
 loop-again : tie.Need-loop-again Inv-loop μ-loop
 loop-again c =
-    let l = c .before .before .before in
-    let h = c .before .before .loop-test .taken in
-    let read = toZ-ofZ w32 (c .literal-at .result) (sfits-of (c .literal-at .ok)) in (
+    let l = c .before .before in
+    let h = c .before .loop-test .taken in
+    let read = toZ-ofZ w32 (c .value-at .result) (sfits-of (c .value-at .ok)) in (
       omega arith,
       omega arith,
       simp length-set (l .loop .inv .2),
-      values-write (l .before .args .n) (l .before .args .group .now) (l .loop .lits) (l .loop .i) h (omega arith) (c .before .has-one .ensures) (read ∙ c .literal-at .ensures) ∙ l .loop .inv .3,
+      values-write (l .before .args .n) (l .before .args .group .now) (l .loop .lits) (l .loop .i) h (l .loop .place - 1) (omega arith) (read ∙ c .value-at .ensures) ∙ l .loop .inv .3,
     )
 
 same-length : tie.Need-same-length Inv-loop μ-loop
@@ -73,8 +70,7 @@ write-values-spec =
     μ-loop
     loop-holds
     sub-place
-    has-one-requires
-    literal-at-requires
+    value-at-requires
     mul-word
     slice-set-from-word
     add-i

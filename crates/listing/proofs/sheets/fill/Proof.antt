@@ -1,5 +1,6 @@
 -- Each turn is one of the definition's, whatever the searches before it left; each way out is where the definition stops.
 use Prim.Native.Nat.{_-_}
+use native.Mathlib.Omega.{arith}
 use borrow.Author.Needs.{needs}
 use Rattle.formula.specs.Formula.{formulaOf}
 use Rattle.listing.specs.Loop.{Turning}
@@ -44,7 +45,7 @@ same-length-3 c = search needs
 returns : tie.Need-returns Inv-loop μ-loop
 returns c =
     let at = c .before .before .before in
-    full (at .before .before .before .before .pre) (at .before .count .ensures) (at .loop .inv) (c .before .before .loop-test .taken) (c .before .if1 .taken) (c .answer .ensures)
+    full (at .before .before .before .before .pre) (at .before .count .ensures) (at .loop .inv) (c .before .before .loop-test .taken) (omega arith) (c .answer .ensures)
 
 try-opening-requires : tie.Need-try-opening-requires Inv-loop μ-loop
 try-opening-requires c κs =

@@ -1,4 +1,4 @@
--- A word that has the wrong sign for the value is turned, any other stays.
+-- A word of the other sign than the bit's value is turned, any other stays.
 use mathlib.Core.Path.{_≡_, ap, _∙_}
 use lib.IntN.{pos}
 use lib.ListN.{getD}
@@ -7,12 +7,15 @@ use mir.Val.{toZ, ofZ}
 use mir.ValLaws.{toZ-ofZ}
 use borrow.Author.Needs.{needs, sfits-of}
 use Rattle.words.specs.Words.{opposite}
-use Rattle.listing.proofs.Groups.{literal-turned, literal-stays}
-use Rattle.listing.proofs.openings.literal_at.Statement.{statement}
-use Rattle.listing.proofs.openings.literal_at.Tie as tie
+use Rattle.listing.proofs.Groups.{value-turned, value-stays}
+use Rattle.listing.proofs.openings.value_at.Statement.{statement}
+use Rattle.listing.proofs.openings.value_at.Tie as tie
 
 negative-at-requires : tie.Need-negative-at-requires
 negative-at-requires c κs = search needs
+
+has-one-requires : tie.Need-has-one-requires
+has-one-requires c κs = search needs
 
 mul-opposite : tie.Need-mul-opposite
 mul-opposite c = search needs
@@ -31,25 +34,29 @@ shared-slice-copy-out-result c = search needs
 
 returns : tie.Need-returns
 returns c =
-    let start = c .before .before .before .before in
+    let told = c .before .before .before in
+    let start = told .before .before in
     let q = getD (start .args .group .now) (start .args .i) (pos 0) in
     let read : toZ w32 (ofZ w32 q) ≡ q = toZ-ofZ w32 q (sfits-of (c .before .opposite-arg .given)) in
     toZ-ofZ w32 (c .opposite .result) (sfits-of (c .opposite .ok))
     ∙ c .opposite .ensures
     ∙ ap opposite read
-    ∙ literal-turned q (c .before .before .before .negative-at .ensures) _ (c .before .before .if1 .taken) (start .pre .small)
+    ∙ value-turned (start .args .n) (start .args .place) q (told .before .negative-at .ensures) (told .has-one .ensures) (c .before .before .if1 .taken) (start .pre .small)
 
 returns-2 : tie.Need-returns-2
 returns-2 c =
-    let start = c .before .before .before in
+    let told = c .before .before in
+    let start = told .before .before in
     let q = getD (start .args .group .now) (start .args .i) (pos 0) in
-    toZ-ofZ w32 q (sfits-of (c .result .given)) ∙ literal-stays q (c .before .before .negative-at .ensures) _ (c .before .if1 .left)
+    toZ-ofZ w32 q (sfits-of (c .result .given))
+    ∙ value-stays (start .args .n) (start .args .place) q (told .before .negative-at .ensures) (told .has-one .ensures) (c .before .if1 .left)
 
-pub literal-at-spec : {M : Type 1} → statement M
-literal-at-spec =
+pub value-at-spec : {M : Type 1} → statement M
+value-at-spec =
     tie.close
     (tie.spec
     negative-at-requires
+    has-one-requires
     mul-opposite
     shared-slice-copy-out-opposite
     opposite-requires
