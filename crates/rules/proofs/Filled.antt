@@ -1,4 +1,4 @@
--- A table filled by one pass says of every variable what the words passed say: a store changes what is said at its own place only.
+-- A table filled by one pass says at every place what the words passed say: a store changes what is said at its own place only.
 use mathlib.Core.Path.{_≡_, sym, _∙_}
 use mathlib.Core.List.{List, [], _∷_, _++_}
 use Prim.Native.Nat.{ℕ, _+_, _≤_, _<_}
@@ -25,27 +25,27 @@ stored t s a f g h said new other v = by (ℕ-discrete v s)
     by (yes e) = rw (e, getD-set-same t s a 0 h) new
     by (no k) = getD-set-other t s v a 0 k ∙ said v ∙ sym (other v k)
 
--- the first n words of ws passed up to i: the table is what `says` says of them
-pub record Filled (says : List ℤ → ℕ → ℕ) (ws : List ℤ) (n : ℕ) (t : List ℕ) (i : ℕ) : Type 0 where
+-- the first n words of ws passed up to i: the table, of some size, is what `says` says of them
+pub record Filled (says : List ℤ → ℕ → ℕ) (size : ℕ) (ws : List ℤ) (n : ℕ) (t : List ℕ) (i : ℕ) : Type 0 where
   pub at : i ≤ n
-  pub long : length t ≡ places
+  pub long : length t ≡ size
   pub said : (v : ℕ) → getD t v 0 ≡ says (take i ws) v
 
-module _ (says : List ℤ → ℕ → ℕ) (ws : List ℤ) (n : ℕ) where
-  pub begin : ((v : ℕ) → says [] v ≡ 0) → Filled says ws n (replicate places 0) 0
-  begin none = record { at = omega arith; long = length-replicate {A = ℕ} places 0; said = λ v. blank {A = ℕ} 0 places v ∙ sym (none v) }
+module _ (says : List ℤ → ℕ → ℕ) (size : ℕ) (ws : List ℤ) (n : ℕ) where
+  pub begin : ((v : ℕ) → says [] v ≡ 0) → Filled says size ws n (replicate size 0) 0
+  begin none = record { at = omega arith; long = length-replicate {A = ℕ} size 0; said = λ v. blank {A = ℕ} 0 size v ∙ sym (none v) }
 
-  module _ (t : List ℕ) (i : ℕ) (f : Filled says ws n t i) where
+  module _ (t : List ℕ) (i : ℕ) (f : Filled says size ws n t i) where
     pub end : n ≤ i → (v : ℕ) → getD t v 0 ≡ says (take n ws) v
     end h = let e : i ≡ n = omega arith in rw e at (f .said)
 
     module _ (h : i < n) (room : n ≤ length ws) where
       pub turn :
           (s a : ℕ)
-          → s < places
+          → s < size
           → a ≡ says (take i ws ++ getD ws i (pos 0) ∷ []) s
           → ((v : ℕ) → (v ≡ s → ⊥) → says (take i ws ++ getD ws i (pos 0) ∷ []) v ≡ says (take i ws) v)
-          → Filled says ws n (set t s a) (i + 1)
+          → Filled says size ws n (set t s a) (i + 1)
       turn s a l new other =
           let m = take-more ws i (pos 0) (omega arith) in
           record {
@@ -55,7 +55,7 @@ module _ (says : List ℤ → ℕ → ℕ) (ws : List ℤ) (n : ℕ) where
           }
 
       -- a word that changes nothing
-      pub pass : ((v : ℕ) → says (take i ws ++ getD ws i (pos 0) ∷ []) v ≡ says (take i ws) v) → Filled says ws n t (i + 1)
+      pub pass : ((v : ℕ) → says (take i ws ++ getD ws i (pos 0) ∷ []) v ≡ says (take i ws) v) → Filled says size ws n t (i + 1)
       pass same =
           let m = take-more ws i (pos 0) (omega arith) in
           record { at = omega arith; long = f .long; said = λ v. rw m (f .said v ∙ sym (same v)) }

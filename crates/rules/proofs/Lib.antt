@@ -2,7 +2,9 @@
 pub mod Filled
 pub mod Values
 pub mod Universals
-pub mod Signs
+pub mod Raised
+pub mod Occurring
+pub mod Statuses
 pub mod Levels
 pub mod Unassigned
 pub mod Occurs

@@ -1,4 +1,4 @@
--- A variable of the prefix is monotone by its place in the table of signs: it has 1 where the prefix's own word is to be taken, 2 where
+-- A variable of the prefix is monotone by the signs with which it occurs: 1 where the prefix's own word is to be taken, 2 where
 -- that word's opposite is.
 use mathlib.Core.Path.{_≡_, refl, _∙_, ap}
 use mathlib.Core.Bool.{Bool, true, false, not, _&&_, _||_, or-false, or-comm}
@@ -22,7 +22,8 @@ use Rattle.rules.specs.declared.Picked.{Picked}
 use Rattle.rules.specs.declared.Picked.the-variants.{Is, NoLiteral}
 use Rattle.rules.specs.Due.{literal, pick, firstMonotone}
 use Rattle.rules.specs.Ready.{Bound}
-use Rattle.rules.specs.Tables.{Values, Signs, signsOf, Spread}
+use Rattle.rules.specs.Tables.{Values, signsOf, Spread}
+use Rattle.rules.specs.ByLiteral.{Occurring}
 use Rattle.rules.proofs.Filled.{bound-named}
 use Rattle.rules.proofs.Unassigned.{unassigned, is-assigned}
 
@@ -67,80 +68,83 @@ module _ (p : List ℤ) (b : Bound p) (m : List (List ℤ)) (ρ : Assignment) wh
   monotone-opposite (negsuc n) i = rw (mem-i i, one-sign p (b .once) i (omega arith), or-comm (ρ (negsuc n)) (ρ (pos (suc n))))
 
 -- ---- the word at i, by the tables
-module _ (p : List ℤ) (b : Bound p) (t signs : List ℕ) (i : ℕ) (h : i < length p) (s : ℕ) (is : s ≡ natAbs (getD p i (pos 0))) where
+module _ (p : List ℤ) (b : Bound p) (t occurs : List ℕ) (i : ℕ) (h : i < length p) (s : ℕ) (is : s ≡ natAbs (getD p i (pos 0))) where
   -- what the loop promises: for every assignment and all clauses that the tables stand for
-  abbrev Always : (Assignment → List (List ℤ) → Type 0) → Type 0
-  Always f = (ρ : Assignment) (ls : List ℤ) (m : List (List ℤ)) → Values ρ t → Signs ls signs → Spread ls m → f ρ m
+  abbrev Always : (Assignment → List ℤ → List (List ℤ) → Type 0) → Type 0
+  Always f = (ρ : Assignment) (ls : List ℤ) (m : List (List ℤ)) → Values ρ t → Occurring ls occurs → Spread ls m → f ρ ls m
 
-  own : (n : Bool) → Always (λ ρ m. assigned ρ (getD p i (pos 0)) ≡ n → monotone p m ρ (getD p i (pos 0)) ≡ (not n && eqb (getD signs s 0) 1))
+  own : (n : Bool) → Always (λ ρ ls m. assigned ρ (getD p i (pos 0)) ≡ n → monotone p m ρ (getD p i (pos 0)) ≡ (not n && eqb (signsOf ls s) 1))
   own n ρ ls m said signed spread e =
-      rw (monotone-own p b m ρ (getD p i (pos 0)) (in-at p i (pos 0) h), e, only-plus ls m spread (natAbs (getD p i (pos 0))), signed s, is)
+      rw (monotone-own p b m ρ (getD p i (pos 0)) (in-at p i (pos 0) h), e, only-plus ls m spread (natAbs (getD p i (pos 0))), is)
 
-  turned : (n : Bool) → Always (λ ρ m. assigned ρ (getD p i (pos 0)) ≡ n → monotone p m ρ (negℤ (getD p i (pos 0))) ≡ (not n && eqb (getD signs s 0) 2))
+  turned : (n : Bool) → Always (λ ρ ls m. assigned ρ (getD p i (pos 0)) ≡ n → monotone p m ρ (negℤ (getD p i (pos 0))) ≡ (not n && eqb (signsOf ls s) 2))
   turned n ρ ls m said signed spread e =
-      rw (monotone-opposite p b m ρ (getD p i (pos 0)) (in-at p i (pos 0) h), e, only-minus ls m spread (natAbs (getD p i (pos 0))), signed s, is)
+      rw (monotone-opposite p b m ρ (getD p i (pos 0)) (in-at p i (pos 0) h), e, only-minus ls m spread (natAbs (getD p i (pos 0))), is)
 
-  plus-here : getD t s 0 ≡ 0 → getD signs s 0 ≡ 1 → Always (λ ρ m. Is (literal (getD p i (pos 0))) ≡ firstMonotone p m ρ (drop i p))
-  unfolding firstMonotone
-  plus-here z e ρ ls m said signed spread =
-      let free = unassigned ρ t said (getD p i (pos 0)) s is z in
-      rw (next p i (pos 0) h, own false ρ ls m said signed spread free, eq-eqb (getD signs s 0) 1 e)
-
-  minus-here : getD t s 0 ≡ 0 → (getD signs s 0 ≡ 1 → ⊥) → getD signs s 0 ≡ 2 → Always (λ ρ m. Is (literal (opposite (getD p i (pos 0)))) ≡ firstMonotone p m ρ (drop i p))
-  unfolding firstMonotone
-  minus-here z k e ρ ls m said signed spread =
-      let free = unassigned ρ t said (getD p i (pos 0)) s is z in
-      let fits = le-trans (all-named (limits .variables) p (bound-named b) .at i h .most) variables-small in
-      rw (next p i (pos 0) h, own false ρ ls m said signed spread free, ne-eqb (getD signs s 0) 1 k, turned false ρ ls m said signed spread free, eq-eqb (getD signs s 0) 2 e)
-      (ap (λ w. Is (literal w)) (opposite-is (getD p i (pos 0)) fits))
-
-  mixed-past : getD t s 0 ≡ 0 → (getD signs s 0 ≡ 1 → ⊥) → (getD signs s 0 ≡ 2 → ⊥) → Always (λ ρ m. firstMonotone p m ρ (drop (i + 1) p) ≡ firstMonotone p m ρ (drop i p))
-  unfolding firstMonotone
-  mixed-past z k k′ ρ ls m said signed spread =
-      let free = unassigned ρ t said (getD p i (pos 0)) s is z in
-      rw (next p i (pos 0) h, own false ρ ls m said signed spread free, ne-eqb (getD signs s 0) 1 k, turned false ρ ls m said signed spread free, ne-eqb (getD signs s 0) 2 k′)
-
-  assigned-past : (getD t s 0 ≡ 0 → ⊥) → Always (λ ρ m. firstMonotone p m ρ (drop (i + 1) p) ≡ firstMonotone p m ρ (drop i p))
+  assigned-past : (getD t s 0 ≡ 0 → ⊥) → Always (λ ρ ls m. firstMonotone p m ρ (drop (i + 1) p) ≡ firstMonotone p m ρ (drop i p))
   unfolding firstMonotone
   assigned-past k ρ ls m said signed spread =
       let set = is-assigned ρ t said (getD p i (pos 0)) s is k in
       rw (next p i (pos 0) h, own true ρ ls m said signed spread set, turned true ρ ls m said signed spread set)
 
+  -- it is unassigned, and r is told of its signs
+  module _ (z : getD t s 0 ≡ 0) (r : ℕ) (tells : (ws : List ℤ) → Occurring ws occurs → r ≡ signsOf ws s) where
+    plus-here : r ≡ 1 → Always (λ ρ ls m. Is (literal (getD p i (pos 0))) ≡ firstMonotone p m ρ (drop i p))
+    unfolding firstMonotone
+    plus-here e ρ ls m said signed spread =
+        let free = unassigned ρ t said (getD p i (pos 0)) s is z in
+        rw (next p i (pos 0) h, own false ρ ls m said signed spread free, ← tells ls signed, eq-eqb r 1 e)
+
+    minus-here : (r ≡ 1 → ⊥) → r ≡ 2 → Always (λ ρ ls m. Is (literal (opposite (getD p i (pos 0)))) ≡ firstMonotone p m ρ (drop i p))
+    unfolding firstMonotone
+    minus-here k e ρ ls m said signed spread =
+        let free = unassigned ρ t said (getD p i (pos 0)) s is z in
+        let fits = le-trans (all-named (limits .variables) p (bound-named b) .at i h .most) variables-small in
+        rw (next p i (pos 0) h, own false ρ ls m said signed spread free, turned false ρ ls m said signed spread free, ← tells ls signed, ne-eqb r 1 k, eq-eqb r 2 e)
+        (ap (λ w. Is (literal w)) (opposite-is (getD p i (pos 0)) fits))
+
+    mixed-past : (r ≡ 1 → ⊥) → (r ≡ 2 → ⊥) → Always (λ ρ ls m. firstMonotone p m ρ (drop (i + 1) p) ≡ firstMonotone p m ρ (drop i p))
+    unfolding firstMonotone
+    mixed-past k k′ ρ ls m said signed spread =
+        let free = unassigned ρ t said (getD p i (pos 0)) s is z in
+        rw (next p i (pos 0) h, own false ρ ls m said signed spread free, turned false ρ ls m said signed spread free, ← tells ls signed, ne-eqb r 1 k, ne-eqb r 2 k′)
+
 -- ---- the loop at i: the words from i on give the first monotone variable of all
-pub record Seeking (p : List ℤ) (t signs : List ℕ) (i : ℕ) : Type 0 where
+pub record Seeking (p : List ℤ) (t occurs : List ℕ) (i : ℕ) : Type 0 where
   pub at : i ≤ length p
-  pub same : (ρ : Assignment) (ls : List ℤ) (m : List (List ℤ)) → Values ρ t → Signs ls signs → Spread ls m → firstMonotone p m ρ (drop i p) ≡ firstMonotone p m ρ p
+  pub same : (ρ : Assignment) (ls : List ℤ) (m : List (List ℤ)) → Values ρ t → Occurring ls occurs → Spread ls m → firstMonotone p m ρ (drop i p) ≡ firstMonotone p m ρ p
 
 abbrev pub Sought : List ℤ → List ℕ → List ℕ → Picked → Type 0
-Sought p t signs r = (ρ : Assignment) (ls : List ℤ) (m : List (List ℤ)) → Values ρ t → Signs ls signs → Spread ls m → r ≡ firstMonotone p m ρ p
+Sought p t occurs r = (ρ : Assignment) (ls : List ℤ) (m : List (List ℤ)) → Values ρ t → Occurring ls occurs → Spread ls m → r ≡ firstMonotone p m ρ p
 
-pub seeking-begin : (p : List ℤ) (t signs : List ℕ) → Seeking p t signs 0
-seeking-begin p t signs = record { at = omega arith; same = λ ρ ls m a b c. refl }
+pub seeking-begin : (p : List ℤ) (t occurs : List ℕ) → Seeking p t occurs 0
+seeking-begin p t occurs = record { at = omega arith; same = λ ρ ls m a b c. refl }
 
-module _ (p : List ℤ) (t signs : List ℕ) (i : ℕ) (k : Seeking p t signs i) where
-  pub seeking-end : length p ≤ i → Sought p t signs NoLiteral
+module _ (p : List ℤ) (t occurs : List ℕ) (i : ℕ) (k : Seeking p t occurs i) where
+  pub seeking-end : length p ≤ i → Sought p t occurs NoLiteral
   unfolding firstMonotone
   seeking-end h ρ ls m said signed spread = rw (ended p i h) at (k .same ρ ls m said signed spread)
 
   module _ (b : Bound p) (h : i < length p) (s : ℕ) (is : s ≡ natAbs (getD p i (pos 0))) where
-    pub seeking-plus : getD t s 0 ≡ 0 → getD signs s 0 ≡ 1 → Sought p t signs (Is (literal (getD p i (pos 0))))
-    seeking-plus z e ρ ls m said signed spread =
-        plus-here p b t signs i h s is z e ρ ls m said signed spread ∙ k .same ρ ls m said signed spread
-
-    pub seeking-minus : getD t s 0 ≡ 0 → (getD signs s 0 ≡ 1 → ⊥) → getD signs s 0 ≡ 2 → Sought p t signs (Is (literal (opposite (getD p i (pos 0)))))
-    seeking-minus z o e ρ ls m said signed spread =
-        minus-here p b t signs i h s is z o e ρ ls m said signed spread ∙ k .same ρ ls m said signed spread
-
-    pub seeking-mixed : getD t s 0 ≡ 0 → (getD signs s 0 ≡ 1 → ⊥) → (getD signs s 0 ≡ 2 → ⊥) → Seeking p t signs (i + 1)
-    seeking-mixed z o o′ =
-        record {
-          at = omega arith;
-          same = λ ρ ls m said signed spread. mixed-past p b t signs i h s is z o o′ ρ ls m said signed spread ∙ k .same ρ ls m said signed spread;
-        }
-
-    pub seeking-assigned : (getD t s 0 ≡ 0 → ⊥) → Seeking p t signs (i + 1)
+    pub seeking-assigned : (getD t s 0 ≡ 0 → ⊥) → Seeking p t occurs (i + 1)
     seeking-assigned o =
         record {
           at = omega arith;
-          same = λ ρ ls m said signed spread. assigned-past p b t signs i h s is o ρ ls m said signed spread ∙ k .same ρ ls m said signed spread;
+          same = λ ρ ls m said signed spread. assigned-past p b t occurs i h s is o ρ ls m said signed spread ∙ k .same ρ ls m said signed spread;
         }
+
+    module _ (z : getD t s 0 ≡ 0) (r : ℕ) (tells : (ws : List ℤ) → Occurring ws occurs → r ≡ signsOf ws s) where
+      pub seeking-plus : r ≡ 1 → Sought p t occurs (Is (literal (getD p i (pos 0))))
+      seeking-plus e ρ ls m said signed spread =
+          plus-here p b t occurs i h s is z r tells e ρ ls m said signed spread ∙ k .same ρ ls m said signed spread
+
+      pub seeking-minus : (r ≡ 1 → ⊥) → r ≡ 2 → Sought p t occurs (Is (literal (opposite (getD p i (pos 0)))))
+      seeking-minus o e ρ ls m said signed spread =
+          minus-here p b t occurs i h s is z r tells o e ρ ls m said signed spread ∙ k .same ρ ls m said signed spread
+
+      pub seeking-mixed : (r ≡ 1 → ⊥) → (r ≡ 2 → ⊥) → Seeking p t occurs (i + 1)
+      seeking-mixed o o′ =
+          record {
+            at = omega arith;
+            same = λ ρ ls m said signed spread. mixed-past p b t occurs i h s is z r tells o o′ ρ ls m said signed spread ∙ k .same ρ ls m said signed spread;
+          }

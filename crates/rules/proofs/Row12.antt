@@ -1,4 +1,4 @@
--- Row 12 in the words of the code: the kinds, by the table of signs, and the ways out.
+-- Row 12 in the words of the code: the kinds, by the signs in the prefix, and the ways out.
 use mathlib.Core.Path.{_≡_, refl, sym, _∙_}
 use mathlib.Core.Bool.{Bool, true, false, _||_, or-false}
 use mathlib.Core.List.{List}
@@ -13,6 +13,7 @@ use Rattle.words.specs.Lists.{any}
 use Rattle.words.specs.Words.{mem, mem-e}
 use Rattle.formula.specs.Formula.{existential, universal}
 use Rattle.formula.specs.Block.{noVariable, twice}
+use Rattle.formula.specs.Limits.{limits}
 use Rattle.formula.specs.Named.{Named, in-named, all-named}
 use Rattle.formula.specs.Prefix.{one-sign}
 use Rattle.theory.specs.Record.{entry}
@@ -20,10 +21,9 @@ use Rattle.rules.specs.Due.{pick}
 use Rattle.rules.specs.Apply.{recordOf}
 use Rattle.rules.specs.Check.{badKind, badEntries, badRecord}
 use Rattle.rules.specs.Ready.{Bound}
-use Rattle.rules.specs.Tables.{signsOf, Signs, places}
+use Rattle.rules.specs.Tables.{signsOf}
 use Rattle.rules.specs.Buffers.{Room, KindsLent, wrongKind}
 use Rattle.rules.specs.Records.{room-less, record-literals, record-next, record-ended, entryAt}
-use Rattle.rules.proofs.Filled.{enough}
 
 -- ---- kinds
 -- no variable has both signs in a prefix
@@ -32,7 +32,7 @@ not-both p v b e =
     let i = mem-e (pos v) p e in
     one-sign p (b .once) i (in-named (length p) p (b .named) i .some)
 
--- so the table of signs tells a variable's quantifier
+-- so its sign tells a variable's quantifier
 module _ (p : List ℤ) (l : ℤ) (h : Bound p) where
   sign-universal : eqb (signsOf p (natAbs l)) 2 ≡ universal p l
   unfolding universal
@@ -81,12 +81,12 @@ module _ (p ls : List ℤ) (ks : List ℕ) (n : ℕ) (q : KindsLent p ls ks n) w
         let l : i < length (take n ls) = rw (length-take-le n ls (q .room .lits)) h in
         rw (getD-take n ls i (pos 0) h) at (all-named (length p) (take n ls) (q .named) .at i l)
 
-    pub kinds-placed : (v : ℕ) → v ≡ natAbs (getD ls i (pos 0)) → v < places
-    kinds-placed v e = omega (arith, enough, name .most, q .prefix .room)
+    pub kinds-small : (v : ℕ) → v ≡ natAbs (getD ls i (pos 0)) → v ≤ limits .variables
+    kinds-small v e = omega (arith, name .most, q .prefix .room)
 
-    module _ (signs : List ℕ) (t : Signs p signs) (v : ℕ) (e : v ≡ natAbs (getD ls i (pos 0))) (b : Bool) (is : b ≡ wrongKind (getD ks i 0) (getD signs v 0)) where
+    module _ (v : ℕ) (e : v ≡ natAbs (getD ls i (pos 0))) (signs : ℕ) (told : signs ≡ signsOf p v) (b : Bool) (is : b ≡ wrongKind (getD ks i 0) signs) where
       tested : badKind p (entryAt ls ks i) ≡ b
-      tested = sym (is ∙ rw (t v, e) (kind-test p (getD ls i (pos 0)) (q .prefix) (getD ks i 0)))
+      tested = sym (is ∙ rw (told, e) (kind-test p (getD ls i (pos 0)) (q .prefix) (getD ks i 0)))
 
       pub kinds-hit : Looked p ls ks n i → b ≡ true → true ≡ any (badKind p) (recordOf ls ks n)
       unfolding any

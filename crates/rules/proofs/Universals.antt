@@ -43,16 +43,16 @@ unfolding universal
 universal-same xs w h g v = rw (mem-other (negℤ (pos v)) xs w (plus-word w h g v))
 
 -- ---- the loop
-pub universals-begin : (p : List ℤ) → Filled universally p (length p) (replicate places 0) 0
+pub universals-begin : (p : List ℤ) → Filled universally places p (length p) (replicate places 0) 0
 unfolding mem universal
-universals-begin p = begin universally p (length p) (λ v. refl)
+universals-begin p = begin universally places p (length p) (λ v. refl)
 
 module _ (p : List ℤ) (named : Known p) (i : ℕ) (h : i < length p) (t : List ℕ) where
-  pub universals-turn : Filled universally p (length p) t i → (s : ℕ) → s ≡ natAbs (getD p i (pos 0)) → negative (getD p i (pos 0)) ≡ true → Filled universally p (length p) (set t s 1) (i + 1)
+  pub universals-turn : Filled universally places p (length p) t i → (s : ℕ) → s ≡ natAbs (getD p i (pos 0)) → negative (getD p i (pos 0)) ≡ true → Filled universally places p (length p) (set t s 1) (i + 1)
   universals-turn f s is g =
-      turn universally p (length p) t i f h (le-refl (length p)) s 1 (placed p i s named h is)
+      turn universally places p (length p) t i f h (le-refl (length p)) s 1 (placed p i s named h is)
       (rw is (universal-new (take i p) (getD p i (pos 0)) g))
       (λ v k. universal-other (take i p) (getD p i (pos 0)) v (λ e. k (e ∙ sym is)))
 
-  pub universals-pass : Filled universally p (length p) t i → negative (getD p i (pos 0)) ≡ false → Filled universally p (length p) t (i + 1)
-  universals-pass f g = pass universally p (length p) t i f h (le-refl (length p)) (universal-same (take i p) (getD p i (pos 0)) (all-named (limits .variables) p named .at i h .some) g)
+  pub universals-pass : Filled universally places p (length p) t i → negative (getD p i (pos 0)) ≡ false → Filled universally places p (length p) t (i + 1)
+  universals-pass f g = pass universally places p (length p) t i f h (le-refl (length p)) (universal-same (take i p) (getD p i (pos 0)) (all-named (limits .variables) p named .at i h .some) g)

@@ -40,9 +40,9 @@ value-new n xs (pos (suc k)) h f = rw (mem-here xs (pos (suc k)))
 value-new n xs (negsuc k) h f = rw (mem-other (pos (suc k)) xs (negsuc k) refl, fresh-word (pos (suc k)) xs f, mem-here xs (negsuc k))
 
 -- ---- the loop
-pub values-begin : (ls : List ℤ) (n : ℕ) → Filled valued ls n (replicate places 0) 0
+pub values-begin : (ls : List ℤ) (n : ℕ) → Filled valued places ls n (replicate places 0) 0
 unfolding mem
-values-begin ls n = begin valued ls n (λ v. refl)
+values-begin ls n = begin valued places ls n (λ v. refl)
 
 module _ (ls : List ℤ) (n : ℕ) (w : Written ls n) (i : ℕ) (h : i < n) where
   written-at : getD (take n ls) i (pos 0) ≡ getD ls i (pos 0)
@@ -54,11 +54,11 @@ module _ (ls : List ℤ) (n : ℕ) (w : Written ls n) (i : ℕ) (h : i < n) wher
   pub written-placed : (s : ℕ) → s ≡ natAbs (getD ls i (pos 0)) → s < places
   written-placed s is = placed (take n ls) i s (w .named) (rw short h) (rw written-at is)
 
-  pub values-turn : (t : List ℕ) → Filled valued ls n t i → (s a : ℕ) → s ≡ natAbs (getD ls i (pos 0)) → a ≡ signOf (getD ls i (pos 0)) → Filled valued ls n (set t s a) (i + 1)
+  pub values-turn : (t : List ℕ) → Filled valued places ls n t i → (s a : ℕ) → s ≡ natAbs (getD ls i (pos 0)) → a ≡ signOf (getD ls i (pos 0)) → Filled valued places ls n (set t s a) (i + 1)
   values-turn t f s a is new =
       let l : i < length (take n ls) = rw short h in
       let word = rw written-at at (all-named (limits .variables) (take n ls) (w .named) .at i l) in
       let fresh = rw (written-at, take-take i n ls (omega arith)) at (fresh-at (take n ls) (w .once) i l) in
-      turn valued ls n t i f h (w .room) s a (written-placed s is)
+      turn valued places ls n t i f h (w .room) s a (written-placed s is)
       (rw is (new ∙ value-new (limits .variables) (take i ls) (getD ls i (pos 0)) word fresh))
       (λ v k. value-other (take i ls) (getD ls i (pos 0)) v (λ e. k (e ∙ sym is)))

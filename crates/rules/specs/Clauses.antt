@@ -3,15 +3,14 @@ use Prim.Native.Nat.{ℕ, zero, suc, _≤_, min}
 use mathlib.Core.Path.{_≡_}
 use mathlib.Core.Bool.{Bool, true, false, _&&_}
 use mathlib.Core.List.{List, [], _∷_}
-use lib.Dec.{eqb, ltb, leb}
+use lib.Dec.{ltb, leb}
 use lib.IntN.{ℤ, pos, natAbs}
 use lib.ListN.{length, getD}
-use borrow.Author.Tests.{eq-eqb, ne-eqb}
 use Rattle.words.specs.Words.{eqZ}
 use Rattle.formula.specs.Limits.{limits}
 use Rattle.formula.specs.Block.{badEnds}
 use Rattle.rules.specs.Due.{pick, onPicked, literal}
-use Rattle.rules.specs.Tables.{places, signOf}
+use Rattle.rules.specs.Tables.{places}
 use Rattle.rules.specs.declared.clauses.Look.{Look}
 use Rattle.rules.specs.declared.Picked.{Picked}
 use Rattle.rules.specs.declared.Picked.the-variants.{Is, NoLiteral}
@@ -26,13 +25,6 @@ Placed ws = (i : ℕ) → natAbs (getD ws i (pos 0)) ≤ limits .variables
 pub record Clauses (es ls : List ℤ) : Type 0 where
   pub ends : badEnds (length ls) 0 es ≡ false
   pub placed : Placed ls
-
--- what a literal is to its clause: 0 false, 1 true, 2 unassigned existential, 3 unassigned universal
-unfoldable pub statusBy : List ℕ → List ℕ → ℤ → ℕ
-statusBy values universals x =
-    pick (eqb (getD values (natAbs x) 0) 0)
-    (pick (eqb (getD universals (natAbs x) 0) 0) 2 3)
-    (pick (eqb (getD values (natAbs x) 0) (signOf x)) 1 0)
 
 abbrev pub levelBy : List ℕ → ℤ → ℕ
 levelBy levels x = getD levels (natAbs x) 0
@@ -96,23 +88,3 @@ module _ (st lev : ℤ → ℕ) where
 -- at j every literal of the clause is seen, and there is an existential one, of a lower level than the universal ones
 unfoldable pub decidedBy : List ℕ → List ℤ → ℕ → ℕ → Look → Bool
 decidedBy levels ls j end k = leb end j && (ltb (k .place) end && ltb (levelBy levels (getD ls (k .place) (pos 0))) (k .above))
-
--- ---- laws of the status: what each of its tests leaves. v is the variable of x
-module _ (values universals : List ℕ) (x : ℤ) (v : ℕ) (e : v ≡ natAbs x) where
-  module _ (z : getD values v 0 ≡ 0) where
-    pub is-existential : getD universals v 0 ≡ 0 → 2 ≡ statusBy values universals x
-    unfolding statusBy
-    is-existential u = rw (← e, eq-eqb _ _ z, eq-eqb _ _ u)
-
-    pub is-universal : (getD universals v 0 ≡ 0 → ⊥) → 3 ≡ statusBy values universals x
-    unfolding statusBy
-    is-universal u = rw (← e, eq-eqb _ _ z, ne-eqb _ _ u)
-
-  module _ (z : getD values v 0 ≡ 0 → ⊥) (s : ℕ) (f : s ≡ signOf x) where
-    pub is-true : getD values v 0 ≡ s → 1 ≡ statusBy values universals x
-    unfolding statusBy
-    is-true h = rw (← e, ne-eqb _ _ z, ← f, eq-eqb _ _ h)
-
-    pub is-false : (getD values v 0 ≡ s → ⊥) → 0 ≡ statusBy values universals x
-    unfolding statusBy
-    is-false h = rw (← e, ne-eqb _ _ z, ← f, ne-eqb _ _ h)

@@ -23,9 +23,10 @@ use Rattle.formula.specs.Clauses.{clauses-in}
 use Rattle.theory.specs.Record.{Assignment, among, assigned}
 use Rattle.theory.specs.Tests.{unassignedE, unassignedU, inConflict}
 use Rattle.rules.specs.Due.{lowest, lowestUnit}
-use Rattle.rules.specs.Ready.{Ready}
+use Rattle.rules.specs.Ready.{Bound, Ready}
 use Rattle.rules.specs.Tables.{signOf, valueOf, Values, Universals, Levels}
-use Rattle.rules.specs.Clauses.{Placed, Clauses, statusBy, is-true, is-false, is-existential, is-universal, levelBy, conflictBy, lowestUnitBy}
+use Rattle.rules.specs.Clauses.{Placed, Clauses, levelBy, conflictBy, lowestUnitBy}
+use Rattle.rules.specs.ByLiteral.{statusBy, statusIn, Statuses, is-true, is-false, is-existential, is-universal}
 use Rattle.rules.specs.ClausesMean.{Sorted, as-false, as-true, as-existential, as-universal, Meant, lowest-conflict-means, lowest-unit-means}
 
 -- no variable is both true and false
@@ -60,11 +61,12 @@ module _ (p : List ℤ) (ρ : Assignment) where
   unfolding unassignedE unassignedU
   unassigned-by x h = rw h (and-true (existential p x), and-true (universal p x))
 
-module _ (p : List ℤ) (ρ : Assignment) (values universals : List ℕ) (vals : Values ρ values) (unis : Universals p universals) (con : Consistent ρ) where
+-- st is a literal's status, as the tables of values and of universal variables say it
+module _ (p : List ℤ) (ρ : Assignment) (values universals : List ℕ) (vals : Values ρ values) (unis : Universals p universals) (con : Consistent ρ) (st : ℤ → ℕ) where
   -- x is not 0, and its variable has one quantifier
-  sorted : (x : ℤ) → 0 < natAbs x → universal p x ≡ not (existential p x) → Sorted p ρ (statusBy values universals) x
+  sorted : (x : ℤ) → st x ≡ statusBy values universals x → 0 < natAbs x → universal p x ≡ not (existential p x) → Sorted p ρ st x
   unfolding assigned universal
-  sorted x z q = go (look (ρ x)) (look (ρ (negℤ x))) (look (existential p x))
+  sorted x same z q = go (look (ρ x)) (look (ρ (negℤ x))) (look (existential p x))
     where
       val : getD values (natAbs x) 0 ≡ valueOf ρ (natAbs x)
       val = vals (natAbs x)
@@ -72,26 +74,34 @@ module _ (p : List ℤ) (ρ : Assignment) (values universals : List ℕ) (vals :
       signed : signOf x ≡ 0 → ⊥
       signed = signOf-some x
 
-      go : (ρ x ≡ true) ⊎ (ρ x ≡ false) → (ρ (negℤ x) ≡ true) ⊎ (ρ (negℤ x) ≡ false) → (existential p x ≡ true) ⊎ (existential p x ≡ false) → Sorted p ρ (statusBy values universals) x
+      go : (ρ x ≡ true) ⊎ (ρ x ≡ false) → (ρ (negℤ x) ≡ true) ⊎ (ρ (negℤ x) ≡ false) → (existential p x ≡ true) ⊎ (existential p x ≡ false) → Sorted p ρ st x
       go (inl h) k e =
           let v = val ∙ value-true ρ con x z h in
-          as-true (sym (is-true values universals x (natAbs x) refl (λ n. signed (sym v ∙ n)) (signOf x) refl v)) h
+          as-true (same ∙ sym (is-true values universals x (λ n. signed (sym v ∙ n)) v)) h
       go (inr h) (inl k) e =
           let v = value-false ρ con x z h k in
           let (a, b) = assigned-none p ρ x (rw (h, k)) in
-          as-false (sym (is-false values universals x (natAbs x) refl (λ n. v .0 (sym val ∙ n)) (signOf x) refl (λ n. v .1 (sym val ∙ n)))) h a b
+          as-false (same ∙ sym (is-false values universals x (λ n. v .0 (sym val ∙ n)) (λ n. v .1 (sym val ∙ n)))) h a b
       go (inr h) (inr k) (inl e) =
           let v = val ∙ value-none ρ con x h k in
           let (a, b) = unassigned-by p ρ x (rw (h, k)) in
           let u : universal p x ≡ false = q ∙ ap not e in
           let w : getD universals (natAbs x) 0 ≡ 0 = unis (natAbs x) ∙ (rw u) in
-          as-existential (sym (is-existential values universals x (natAbs x) refl v w)) h (a ∙ e) (b ∙ u)
+          as-existential (same ∙ sym (is-existential values universals x v w)) h (a ∙ e) (b ∙ u)
       go (inr h) (inr k) (inr e) =
           let v = val ∙ value-none ρ con x h k in
           let (a, b) = unassigned-by p ρ x (rw (h, k)) in
           let u : universal p x ≡ true = q ∙ ap not e in
           let w : getD universals (natAbs x) 0 ≡ 1 = unis (natAbs x) ∙ (rw u) in
-          as-universal (sym (is-universal values universals x (natAbs x) refl v (λ n. omega (arith, w, n)))) h (a ∙ e) (b ∙ u)
+          as-universal (same ∙ sym (is-universal values universals x v (λ n. omega (arith, w, n)))) h (a ∙ e) (b ∙ u)
+
+-- a table of statuses says of each literal of the prefix's variables what it is
+abbrev pub Sorts : List ℤ → Assignment → List ℕ → Type 0
+Sorts p ρ statuses = (x : ℤ) → Named (length p) x → Sorted p ρ (statusIn statuses) x
+
+pub sorts : (p : List ℤ) → Bound p → (ρ : Assignment) (values universals statuses : List ℕ) → Values ρ values → Universals p universals → Consistent ρ → Statuses (length p) values universals statuses → Sorts p ρ statuses
+sorts p b ρ values universals statuses vals unis con said x n =
+    sorted p ρ values universals vals unis con (statusIn statuses) x (said x (n .some) (n .most)) (n .some) (quantifier (length p) p (b .named) (b .once) refl x n)
 
 -- the literals of a list in which no variable stands twice
 pub once-consistent : (ls : List ℤ) → twice ls ≡ false → Consistent (among ls)
@@ -120,24 +130,19 @@ module _ (p es ls : List ℤ) (ready : Ready p es ls) where
           go (inl h) = let n = literal-named (in-at ls i (pos 0) (ltb-true i (length ls) h)) in omega (arith, n .most, room)
           go (inr h) = rw (List·getD-eq-default ls (pos 0) (ltb-false i (length ls) h)) zero-le
 
-  module _ (ρ : Assignment) (values universals : List ℕ) (vals : Values ρ values) (unis : Universals p universals) (con : Consistent ρ) where
-    literal-sorted : (x : ℤ) → In x ls → Sorted p ρ (statusBy values universals) x
-    literal-sorted x i =
-        let n = literal-named i in
-        sorted p ρ values universals vals unis con x (n .some) (quantifier (length p) p (ready .prefix .named) (ready .prefix .once) refl x n)
-
+  module _ (ρ : Assignment) (statuses : List ℕ) (sorting : Sorts p ρ statuses) where
     -- 1: "Some clause in conflict"
-    pub conflict-ready : lowest (conflictBy (statusBy values universals)) 0 (clausesFrom ls 0 es) ≡ lowest (inConflict p ρ) 0 (clausesFrom ls 0 es)
-    conflict-ready = lowest-conflict-means p ρ _ _ (λ C i x j. literal-sorted x (clauses-in ls 0 es i j))
+    pub conflict-ready : lowest (conflictBy (statusIn statuses)) 0 (clausesFrom ls 0 es) ≡ lowest (inConflict p ρ) 0 (clausesFrom ls 0 es)
+    conflict-ready = lowest-conflict-means p ρ _ _ (λ C i x j. sorting x (literal-named (clauses-in ls 0 es i j)))
 
     -- 2: "Unit"
-    pub unit-ready : (levels : List ℕ) → Levels p levels → lowestUnitBy (statusBy values universals) (levelBy levels) 0 (clausesFrom ls 0 es) ≡ lowestUnit p ρ (clausesFrom ls 0 es)
+    pub unit-ready : (levels : List ℕ) → Levels p levels → lowestUnitBy (statusIn statuses) (levelBy levels) 0 (clausesFrom ls 0 es) ≡ lowestUnit p ρ (clausesFrom ls 0 es)
     unfolding level
     unit-ready levels lvls = lowest-unit-means p ρ _ _ _ (λ C i x j. meant x (clauses-in ls 0 es i j))
       where
-        meant : (x : ℤ) → In x ls → Meant p ρ (statusBy values universals) (levelBy levels) x
+        meant : (x : ℤ) → In x ls → Meant p ρ (statusIn statuses) (levelBy levels) x
         meant x i = let n = literal-named i in record {
-          sorted = literal-sorted x i;
+          sorted = sorting x n;
           at = lvls (natAbs x) (all-bound (length p) p (ready .prefix .named) (ready .prefix .once) refl (natAbs x) (n .some) (n .most));
           low = omega (arith, level-few p (natAbs x), ready .prefix .room, variables-are);
         }

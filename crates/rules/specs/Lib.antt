@@ -5,6 +5,7 @@ pub mod Apply
 pub mod Check
 pub mod Ready
 pub mod Tables
+pub mod ByLiteral
 pub mod Buffers
 pub mod Records
 pub mod Searches

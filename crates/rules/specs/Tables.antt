@@ -3,7 +3,7 @@ use Prim.Native.Nat.{ℕ, suc, _≤_}
 use mathlib.Core.Path.{_≡_}
 use mathlib.Core.Bool.{_||_, true, false}
 use mathlib.Core.List.{List}
-use lib.Dec.{eqb, leb}
+use lib.Dec.{leb}
 use lib.IntN.{ℤ, pos, negsuc, negℤ}
 use lib.ListN.{length, getD, take}
 use Rattle.words.specs.Lists.{any, all}
@@ -32,10 +32,6 @@ valueOf ρ v = pick (ρ (pos v)) 1 (pick (ρ (negℤ (pos v))) 2 0)
 abbrev pub signsOf : List ℤ → ℕ → ℕ
 signsOf ls v = pick (mem (pos v) ls) (pick (mem (negℤ (pos v)) ls) 3 1) (pick (mem (negℤ (pos v)) ls) 2 0)
 
--- two occurrences together
-abbrev pub join : ℕ → ℕ → ℕ
-join a b = pick (eqb a 0) b (pick (eqb a b) a 3)
-
 -- each table, at every variable
 abbrev pub Values : Assignment → List ℕ → Type 0
 Values ρ t = (v : ℕ) → getD t v 0 ≡ valueOf ρ v
@@ -45,10 +41,6 @@ Universals p t = (v : ℕ) → getD t v 0 ≡ pick (universal p (pos v)) 1 0
 
 abbrev pub Levels : List ℤ → List ℕ → Type 0
 Levels p t = (v : ℕ) → any (names v) p ≡ true → getD t v 0 ≡ levelOf p v
-
--- of words whose variables are from 1 on
-abbrev pub Signs : List ℤ → List ℕ → Type 0
-Signs ls t = (v : ℕ) → getD t v 0 ≡ signsOf ls v
 
 -- every word names a variable for which a table has a place
 abbrev pub Known : List ℤ → Type 0

@@ -1,8 +1,9 @@
 // The clauses in conflict, and the unit clauses. Clause c has the literal words from the end before it to its own.
 use crate::Found;
 use crate::UnitFound;
+use crate::by_literal::LITERAL_PLACES;
+use crate::by_literal::place_at;
 use crate::tables::PLACES;
-use crate::tables::sign_at;
 use crate::variables::literal_at;
 ghost use mathlib.Core.Path.{_≡_};
 ghost use Prim.Native.Nat.{_≤_, _<_};
@@ -12,32 +13,26 @@ ghost use Rattle.words.specs.Words.{eqZ};
 ghost use Rattle.formula.specs.Limits.{limits};
 ghost use Rattle.formula.specs.Formula.{clausesFrom};
 ghost use Rattle.rules.specs.Due.{lowest};
-ghost use Rattle.rules.specs.Clauses.{Placed, Clauses, statusBy, levelBy, conflictBy, Shown, decidedBy, lowestUnitBy};
+ghost use Rattle.rules.specs.ByLiteral.{statusIn};
+ghost use Rattle.rules.specs.Clauses.{Placed, Clauses, levelBy, conflictBy, Shown, decidedBy, lowestUnitBy};
 
-// What a literal is to its clause: 0 false, 1 true, 2 unassigned existential, 3 unassigned universal.
-fn status_at(ws: &[i32], i: usize, values: &[u8; PLACES], universals: &[u8; PLACES]) -> u8
+// What the literal at an index is to its clause: 0 false, 1 true, 2 unassigned existential, 3 unassigned universal.
+fn status_at(ws: &[i32], i: usize, statuses: &[u8; LITERAL_PLACES]) -> u8
     requires { ⌜ natAbs (getD (now ws) i (pos 0)) ≤ limits .variables ⌝ }
-    ensures { λ r. ⌜ r ≡ statusBy (now (values .entry)) (now (universals .entry)) (getD (now (ws .entry)) i (pos 0)) ⌝ }
+    ensures { λ r. ⌜ r ≡ statusIn (now (statuses .entry)) (getD (now (ws .entry)) i (pos 0)) ⌝ }
 {
-    let v = words::size_at(ws, i);
-    let value = values[v];
-    if value == 0 {
-        if universals[v] == 0 {
-            return 2;
-        }
-        return 3;
-    }
-    if value == sign_at(ws, i) { 1 } else { 0 }
+    let at = place_at(ws, i);
+    statuses[at]
 }
 
 // Whether a clause has no true literal and no unassigned existential literal.
-fn in_conflict(clause: &[i32], values: &[u8; PLACES], universals: &[u8; PLACES]) -> bool
+fn in_conflict(clause: &[i32], statuses: &[u8; LITERAL_PLACES]) -> bool
     requires { ⌜ Placed (now clause) ⌝ }
-    ensures { λ r. ⌜ r ≡ conflictBy (statusBy (now (values .entry)) (now (universals .entry))) (now (clause .entry)) ⌝ }
+    ensures { λ r. ⌜ r ≡ conflictBy (statusIn (now (statuses .entry))) (now (clause .entry)) ⌝ }
 {
     let mut i = 0;
     while i < clause.len() {
-        let status = status_at(clause, i, values, universals);
+        let status = status_at(clause, i, statuses);
         if status == 1 {
             return false;
         }
@@ -50,20 +45,15 @@ fn in_conflict(clause: &[i32], values: &[u8; PLACES], universals: &[u8; PLACES])
 }
 
 // The lowest clause in conflict.
-pub fn lowest_conflict(
-    ends: &[i32],
-    literals: &[i32],
-    values: &[u8; PLACES],
-    universals: &[u8; PLACES],
-) -> Found
+pub fn lowest_conflict(ends: &[i32], literals: &[i32], statuses: &[u8; LITERAL_PLACES]) -> Found
     requires { ⌜ Clauses (now ends) (now literals) ⌝ }
-    ensures { λ r. ⌜ r ≡ lowest (conflictBy (statusBy (now (values .entry)) (now (universals .entry)))) 0 (clausesFrom (now (literals .entry)) 0 (now (ends .entry))) ⌝ }
+    ensures { λ r. ⌜ r ≡ lowest (conflictBy (statusIn (now (statuses .entry)))) 0 (clausesFrom (now (literals .entry)) 0 (now (ends .entry))) ⌝ }
 {
     let mut from = 0;
     let mut c = 0;
     while c < ends.len() {
         let end = words::size_at(ends, c);
-        if in_conflict(&literals[from..end], values, universals) {
+        if in_conflict(&literals[from..end], statuses) {
             return Found::At(c);
         }
         from = end;
@@ -96,15 +86,14 @@ impl Look {
         literals: &[i32],
         j: usize,
         end: usize,
-        values: &[u8; PLACES],
-        universals: &[u8; PLACES],
+        statuses: &[u8; LITERAL_PLACES],
         levels: &[usize; PLACES],
     ) -> Look
         requires { ⌜ Placed (now literals) ⌝ }
         requires { ⌜ j < end ⌝ }
-        ensures { λ r. ⌜ Shown (statusBy (now (values .entry)) (now (universals .entry))) (levelBy (now (levels .entry))) (now (literals .entry)) end self (getD (now (literals .entry)) j (pos 0)) r ⌝ }
+        ensures { λ r. ⌜ Shown (statusIn (now (statuses .entry))) (levelBy (now (levels .entry))) (now (literals .entry)) end self (getD (now (literals .entry)) j (pos 0)) r ⌝ }
     {
-        let status = status_at(literals, j, values, universals);
+        let status = status_at(literals, j, statuses);
         if status == 0 {
             return self;
         }
@@ -146,12 +135,11 @@ impl Look {
 pub fn lowest_unit(
     ends: &[i32],
     literals: &[i32],
-    values: &[u8; PLACES],
-    universals: &[u8; PLACES],
+    statuses: &[u8; LITERAL_PLACES],
     levels: &[usize; PLACES],
 ) -> UnitFound
     requires { ⌜ Clauses (now ends) (now literals) ⌝ }
-    ensures { λ r. ⌜ r ≡ lowestUnitBy (statusBy (now (values .entry)) (now (universals .entry))) (levelBy (now (levels .entry))) 0 (clausesFrom (now (literals .entry)) 0 (now (ends .entry))) ⌝ }
+    ensures { λ r. ⌜ r ≡ lowestUnitBy (statusIn (now (statuses .entry))) (levelBy (now (levels .entry))) 0 (clausesFrom (now (literals .entry)) 0 (now (ends .entry))) ⌝ }
 {
     let mut found = UnitFound::NoUnit;
     let mut from = 0;
@@ -175,7 +163,7 @@ pub fn lowest_unit(
             if end <= j {
                 break;
             }
-            look = look.with(literals, j, end, values, universals, levels);
+            look = look.with(literals, j, end, statuses, levels);
             if look.over {
                 break;
             }

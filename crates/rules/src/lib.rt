@@ -1,5 +1,6 @@
 // The rules over checked input: which is due, and one rule applied.
 mod tables; // tables by variable
+mod by_literal; // tables by literal
 mod variables; // the variables of the prefix
 mod clauses; // the clauses in conflict and the unit clauses
 mod buffers; // the record's two buffers

@@ -4,6 +4,8 @@ use crate::Picked;
 use crate::Rule;
 use crate::UnitFound;
 use crate::buffers;
+use crate::by_literal;
+use crate::by_literal::LITERAL_PLACES;
 use crate::clauses;
 use crate::tables;
 use crate::tables::PLACES;
@@ -14,12 +16,12 @@ ghost use Prim.Native.Nat.{ℕ, _≤_};
 ghost use lib.IntN.{ℤ};
 ghost use lib.ListN.{length};
 ghost use Rattle.formula.specs.Formula.{Formula};
-ghost use Rattle.theory.specs.Record.{Record};
+ghost use Rattle.theory.specs.Record.{Record, trueIn};
 ghost use Rattle.rules.specs.Due.{dueConflict, dueUnit, dueMonotone, dueDecide};
 ghost use Rattle.rules.specs.Due as spec;
 ghost use Rattle.rules.specs.Apply.{recordOf};
 ghost use Rattle.rules.specs.Ready.{formula, Bound, Ready, Kept};
-ghost use Rattle.rules.specs.Tables.{Universals};
+ghost use Rattle.rules.specs.ClausesReady.{Sorts};
 ghost use Rattle.rules.specs.Told.{Told};
 
 // The due rule of a record.
@@ -37,9 +39,10 @@ pub fn due(
 {
     let values = tables::values_of(lits, count);
     let universals = tables::universals_of(prefix);
-    match clauses::lowest_conflict(ends, literals, &values, &universals) {
+    let statuses = by_literal::statuses_of(prefix.len(), &values, &universals);
+    match clauses::lowest_conflict(ends, literals, &statuses) {
         Found::At(clause) => due_conflict(kinds, count, clause),
-        Found::Nothing => due_unit(prefix, ends, literals, kinds, count, &values, &universals),
+        Found::Nothing => due_unit(prefix, ends, literals, kinds, count, &values, &statuses),
     }
 }
 
@@ -65,14 +68,14 @@ fn due_unit(
     kinds: &[u8],
     count: usize,
     values: &[u8; PLACES],
-    universals: &[u8; PLACES],
+    statuses: &[u8; LITERAL_PLACES],
 ) -> Rule
     requires { ⌜ Ready (now prefix) (now ends) (now literals) ⌝ }
-    requires { ⌜ (count ≤ length (now kinds)) × Universals (now prefix) (now universals) ⌝ }
-    ensures { λ r. ⌜ ((R : Record) → Told R (now (values .entry)) (now (kinds .entry)) count → r ≡ dueUnit (formula (now (prefix .entry)) (now (ends .entry)) (now (literals .entry))) R) ⌝ }
+    requires { ⌜ count ≤ length (now kinds) ⌝ }
+    ensures { λ r. ⌜ ((R : Record) → Told R (now (values .entry)) (now (kinds .entry)) count → Sorts (now (prefix .entry)) (trueIn R) (now (statuses .entry)) → r ≡ dueUnit (formula (now (prefix .entry)) (now (ends .entry)) (now (literals .entry))) R) ⌝ }
 {
     let levels = tables::levels_of(prefix);
-    match clauses::lowest_unit(ends, literals, values, universals, &levels) {
+    match clauses::lowest_unit(ends, literals, statuses, &levels) {
         UnitFound::On { literal, clause } => Rule::Unit {
             literal: literal,
             clause: clause,
@@ -94,8 +97,8 @@ fn due_monotone(
     requires { ⌜ count ≤ length (now kinds) ⌝ }
     ensures { λ r. ⌜ ((R : Record) → Told R (now (values .entry)) (now (kinds .entry)) count → r ≡ dueMonotone (formula (now (prefix .entry)) (now (ends .entry)) (now (literals .entry))) R) ⌝ }
 {
-    let signs = tables::signs_of(literals);
-    match variables::first_monotone(prefix, values, &signs) {
+    let occurs = by_literal::occurring(literals);
+    match variables::first_monotone(prefix, values, &occurs) {
         Picked::Is(literal) => Rule::Monotone { literal: literal },
         Picked::NoLiteral => due_decide(prefix, kinds, count, values),
     }

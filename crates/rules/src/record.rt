@@ -4,7 +4,8 @@ ghost use Rattle.words.specs.Lists.{any};
 ghost use Rattle.rules.specs.Apply.{recordOf};
 ghost use Rattle.rules.specs.Check.{badKind, badRecord};
 ghost use Rattle.rules.specs.Buffers.{Lent, KindsLent, wrongKind};
-use crate::tables::signs_of;
+use crate::by_literal::occurring;
+use crate::by_literal::signs_at;
 
 // Whether a kind is above 2, or 1 on a universal or 2 on an existential variable: the sign of its word in the prefix tells which.
 fn wrong_kind(kind: u8, sign: u8) -> bool
@@ -24,11 +25,12 @@ fn bad_kinds(prefix: &[i32], lits: &[i32], kinds: &[u8], count: usize) -> bool
     requires { ⌜ KindsLent (now prefix) (now lits) (now kinds) count ⌝ }
     ensures { λ r. ⌜ r ≡ any (badKind (now (prefix .entry))) (recordOf (now (lits .entry)) (now (kinds .entry)) count) ⌝ }
 {
-    let signs = signs_of(prefix);
+    let occurs = occurring(prefix);
     let mut i = 0;
     while i < count {
         let v = words::size_at(lits, i);
-        if wrong_kind(kinds[i], signs[v]) {
+        let signs = signs_at(&occurs, v);
+        if wrong_kind(kinds[i], signs) {
             return true;
         }
         i += 1;

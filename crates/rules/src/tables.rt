@@ -1,4 +1,4 @@
-// Tables by variable, each filled by one pass, so that a test of a clause costs its literals and nothing more.
+// Tables by variable, each filled by one pass, so that a look at a variable costs one read.
 ghost use mathlib.Core.Path.{_≡_};
 ghost use Prim.Native.Nat.{_+_, _<_};
 ghost use lib.IntN.{pos};
@@ -6,7 +6,7 @@ ghost use lib.ListN.{length, getD, take, drop};
 ghost use Rattle.formula.specs.Formula.{change};
 ghost use Rattle.theory.specs.Record.{among};
 ghost use Rattle.rules.specs.Ready.{Bound};
-ghost use Rattle.rules.specs.Tables.{signOf, Values, Universals, Levels, join, Signs, Written, Known};
+ghost use Rattle.rules.specs.Tables.{signOf, Values, Universals, Levels, Written};
 
 // A place for each variable, and place 0, which is no variable's.
 pub const PLACES: usize = formula::MAX_VARIABLES + 1;
@@ -81,32 +81,4 @@ pub fn levels_of(prefix: &[i32]) -> [usize; PLACES]
         i += 1;
     }
     levels
-}
-
-// The signs of two occurrences together: 0 none, 1 positive, 2 negative, 3 both.
-fn joined(a: u8, b: u8) -> u8
-    ensures { λ r. ⌜ r ≡ join a b ⌝ }
-{
-    if a == 0 {
-        return b;
-    }
-    if a == b {
-        return a;
-    }
-    3
-}
-
-// The signs with which each variable occurs in the literal words.
-pub fn signs_of(literals: &[i32]) -> [u8; PLACES]
-    requires { ⌜ Known (now literals) ⌝ }
-    ensures { λ r. ⌜ Signs (now (literals .entry)) r ⌝ }
-{
-    let mut signs = [0u8; PLACES];
-    let mut i = 0;
-    while i < literals.len() {
-        let v = words::size_at(literals, i);
-        signs[v] = joined(signs[v], sign_at(literals, i));
-        i += 1;
-    }
-    signs
 }

@@ -1,5 +1,7 @@
 // The first unassigned and the first monotone variable, and the open literals.
 use crate::Picked;
+use crate::by_literal::LITERAL_PLACES;
+use crate::by_literal::signs_at;
 use crate::tables::PLACES;
 use words::Literal;
 ghost use mathlib.Core.Path.{_≡_};
@@ -13,7 +15,8 @@ ghost use Rattle.rules.specs.Due.{literal, pick, firstUnassigned, firstM
 ghost use Rattle.rules.specs.Apply.{kindOf};
 ghost use Rattle.rules.specs.Preferred.{firstOpen};
 ghost use Rattle.rules.specs.Ready.{Bound};
-ghost use Rattle.rules.specs.Tables.{Values, Levels, Signs, Spread, Lowest};
+ghost use Rattle.rules.specs.Tables.{Values, Levels, Spread, Lowest};
+ghost use Rattle.rules.specs.ByLiteral.{Occurring};
 
 // The literal at an index, its opposite, and its variable made true. Past the end there is the word 0.
 pub fn literal_at(ws: &[i32], i: usize) -> Literal
@@ -62,18 +65,23 @@ pub fn first_unassigned(prefix: &[i32], values: &[u8; PLACES]) -> Picked
 
 // The first unassigned variable that occurs with one sign only: the literal that it takes. An existential one takes that sign, a universal
 // one the opposite: with positive occurrences only that is the prefix's own word, with negative ones only its opposite.
-pub fn first_monotone(prefix: &[i32], values: &[u8; PLACES], signs: &[u8; PLACES]) -> Picked
+pub fn first_monotone(
+    prefix: &[i32],
+    values: &[u8; PLACES],
+    occurs: &[u8; LITERAL_PLACES],
+) -> Picked
     requires { ⌜ Bound (now prefix) ⌝ }
-    ensures { λ r. ⌜ ((ρ : Assignment) (ls : List ℤ) (m : List (List ℤ)) → Values ρ (now (values .entry)) → Signs ls (now (signs .entry)) → Spread ls m → r ≡ firstMonotone (now (prefix .entry)) m ρ (now (prefix .entry))) ⌝ }
+    ensures { λ r. ⌜ ((ρ : Assignment) (ls : List ℤ) (m : List (List ℤ)) → Values ρ (now (values .entry)) → Occurring ls (now (occurs .entry)) → Spread ls m → r ≡ firstMonotone (now (prefix .entry)) m ρ (now (prefix .entry))) ⌝ }
 {
     let mut i = 0;
     while i < prefix.len() {
         let v = words::size_at(prefix, i);
         if values[v] == 0 {
-            if signs[v] == 1 {
+            let signs = signs_at(occurs, v);
+            if signs == 1 {
                 return Picked::Is(literal_at(prefix, i));
             }
-            if signs[v] == 2 {
+            if signs == 2 {
                 return Picked::Is(opposite_at(prefix, i));
             }
         }

@@ -4,17 +4,18 @@ use mathlib.Core.Path.{_≡_, refl, sym, _∙_}
 use native.Mathlib.Omega.{arith}
 use lib.ListN.{length, drop}
 use borrow.Author.Needs.{needs}
-use Rattle.rules.specs.Clauses.{statusBy, conflictBy}
+use Rattle.rules.specs.ByLiteral.{statusIn}
+use Rattle.rules.specs.Clauses.{conflictBy}
 use Rattle.rules.proofs.Conflict.{open-true, open-existential, closed, all-closed}
 use Rattle.rules.proofs.clauses.in_conflict.Statement.{statement}
 use Rattle.rules.proofs.clauses.in_conflict.Tie as tie
 
 abbrev Inv-loop : tie.InvT-loop
-Inv-loop clause values universals i₀ i =
-    (i ≤ length clause) × (conflictBy (statusBy values universals) (drop i clause) ≡ conflictBy (statusBy values universals) clause)
+Inv-loop clause statuses i₀ i =
+    (i ≤ length clause) × (conflictBy (statusIn statuses) (drop i clause) ≡ conflictBy (statusIn statuses) clause)
 
 abbrev μ-loop : tie.MeasureT-loop
-μ-loop clause values universals i₀ i = length clause - i
+μ-loop clause statuses i₀ i = length clause - i
 
 loop-holds : tie.Need-loop-holds Inv-loop μ-loop
 loop-holds c = (omega arith, refl)

@@ -5,18 +5,19 @@ use native.Mathlib.Omega.{arith}
 use lib.ListN.{length}
 use borrow.Author.Needs.{needs}
 use Rattle.rules.specs.Due.{lowest}
-use Rattle.rules.specs.Clauses.{statusBy, conflictBy}
+use Rattle.rules.specs.ByLiteral.{statusIn}
+use Rattle.rules.specs.Clauses.{conflictBy}
 use Rattle.rules.proofs.Walk.{Turn, turn, placed-part, Walk, walk-start, walk-on, walk-stop, walk-end}
 use Rattle.rules.proofs.Conflict.{lowest-hit, lowest-miss, lowest-none}
 use Rattle.rules.proofs.clauses.lowest_conflict.Statement.{statement}
 use Rattle.rules.proofs.clauses.lowest_conflict.Tie as tie
 
 abbrev Inv-loop : tie.InvT-loop
-Inv-loop ends literals values universals from₀ c₀ from c =
-    Walk (lowest (conflictBy (statusBy values universals))) ends literals from c
+Inv-loop ends literals statuses from₀ c₀ from c =
+    Walk (lowest (conflictBy (statusIn statuses))) ends literals from c
 
 abbrev μ-loop : tie.MeasureT-loop
-μ-loop ends literals values universals from₀ c₀ from c = length ends - c
+μ-loop ends literals statuses from₀ c₀ from c = length ends - c
 
 loop-holds : tie.Need-loop-holds Inv-loop μ-loop
 loop-holds c = walk-start _ _ _ (c .pre)

@@ -6,7 +6,8 @@ use mathlib.Core.Logic.{⊎-elim}
 use native.Mathlib.Omega.{arith}
 use lib.ListN.{length, take, drop}
 use borrow.Author.Needs.{needs}
-use Rattle.rules.specs.Clauses.{statusBy, levelBy, unitFrom, unitWith, lowestUnitBy}
+use Rattle.rules.specs.ByLiteral.{statusIn}
+use Rattle.rules.specs.Clauses.{levelBy, unitFrom, unitWith, lowestUnitBy}
 use Rattle.rules.specs.declared.UnitFound.the-variants.{On, NoUnit}
 use Rattle.rules.proofs.Walk.{Turn, turn, Walk, walk-start, walk-on, walk-stop, walk-end}
 use Rattle.rules.proofs.Looks.{look-start, clause-unit, clause-none, clause-next, clause-over, unit-hit, unit-miss, unit-none}
@@ -15,22 +16,22 @@ use Rattle.rules.proofs.clauses.lowest_unit.Tie as tie
 use Rattle.rules.specs.Tables.{places}
 
 abbrev Inv-loop : tie.InvT-loop
-Inv-loop ends literals values universals levels found₀ from c end look₀ j₀ found look j =
+Inv-loop ends literals statuses levels found₀ from c end look₀ j₀ found look j =
     (found ≡ found₀)
     × (j ≤ end)
     × (look .over ≡ false)
-    × (unitWith (statusBy values universals) (levelBy levels) literals end look (take (end - j) (drop j literals))
-    ≡ unitFrom (statusBy values universals) (levelBy levels) places (take (end - from) (drop from literals)))
+    × (unitWith (statusIn statuses) (levelBy levels) literals end look (take (end - j) (drop j literals))
+    ≡ unitFrom (statusIn statuses) (levelBy levels) places (take (end - from) (drop from literals)))
 
 abbrev μ-loop : tie.MeasureT-loop
-μ-loop ends literals values universals levels found₀ from c end look₀ j₀ found look j = end - j
+μ-loop ends literals statuses levels found₀ from c end look₀ j₀ found look j = end - j
 
 abbrev Inv-search : tie.InvT-search
-Inv-search ends literals values universals levels found₀ from₀ c₀ found from c =
-    (found ≡ NoUnit) × Walk (lowestUnitBy (statusBy values universals) (levelBy levels)) ends literals from c
+Inv-search ends literals statuses levels found₀ from₀ c₀ found from c =
+    (found ≡ NoUnit) × Walk (lowestUnitBy (statusIn statuses) (levelBy levels)) ends literals from c
 
 abbrev μ-search : tie.MeasureT-search
-μ-search ends literals values universals levels found₀ from₀ c₀ found from c = length ends - c
+μ-search ends literals statuses levels found₀ from₀ c₀ found from c = length ends - c
 
 search-holds : tie.Need-search-holds Inv-loop μ-loop Inv-search μ-search
 search-holds c = (refl, walk-start _ _ _ (c .pre))

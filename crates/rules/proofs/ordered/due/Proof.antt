@@ -1,9 +1,11 @@
 -- The lowest clause in conflict, or none, picks the case; the tables are those of the checked record.
 use mathlib.Core.Path.{_∙_}
-use denote.Ref.{now}
+use Rattle.theory.specs.Record.{Record, trueIn}
+use Rattle.rules.specs.Apply.{recordOf}
 use Rattle.rules.specs.Ready.{formula}
+use Rattle.rules.specs.Told.{Told}
 use Rattle.rules.specs.Records.{kept-room}
-use Rattle.rules.specs.ClausesReady.{ready-clauses, conflict-ready}
+use Rattle.rules.specs.ClausesReady.{ready-clauses, conflict-ready, Sorts, sorts}
 use Rattle.rules.proofs.Kept.{kept-written, kept-told}
 use Rattle.rules.proofs.Ways as out
 use borrow.Author.Needs.{needs}
@@ -16,30 +18,50 @@ values-of-requires c κs = kept-written _ _ _ _ (c .before .pre .1)
 universals-of-requires : tie.Need-universals-of-requires
 universals-of-requires c κs = search needs
 
+statuses-of-requires : tie.Need-statuses-of-requires
+statuses-of-requires c κs = c .before .before .before .before .before .pre .0 .prefix .room
+
 lowest-conflict-requires : tie.Need-lowest-conflict-requires
-lowest-conflict-requires c κs = ready-clauses _ _ _ (c .before .before .before .before .before .pre .0)
+lowest-conflict-requires c κs = ready-clauses _ _ _ (c .before .before .before .before .before .before .before .pre .0)
 
 enum-known-clause : tie.Need-enum-known-clause
 enum-known-clause c = search needs
 
+-- what the tables are told of the record
+module _ (c : tie.After-statuses) where
+  abbrev start : tie.Start
+  start = c .before .before .before .before .before .before .before
+
+  abbrev record·of : Record
+  record·of = recordOf (start .args .lits .now) (start .args .kinds .now) (start .args .count)
+
+  told : Told record·of (c .before .before .before .before .before .values-of .result) (start .args .kinds .now) (start .args .count)
+  told = kept-told _ _ _ _ (start .pre .1) _ (c .before .before .before .before .before .values-of .ensures)
+
+  sorting : Sorts (start .args .prefix .now) (trueIn record·of) (c .before .statuses-of .result)
+  sorting = sorts _ (start .pre .0 .prefix) _ _ (c .before .before .before .before .universals-of .result) (c .before .statuses-of .result) (told .values) (c .before .before .before .before .universals-of .ensures) (told .consistent) (c .before .statuses-of .ensures)
+
 due-conflict-requires : tie.Need-due-conflict-requires
-due-conflict-requires c κs = kept-room (c .before .before .before .before .before .before .before .before .before .pre .1) .kinds
+due-conflict-requires c κs = kept-room (start (c .before .before .before .before) .pre .1) .kinds
 
 enum-told : tie.Need-enum-told
 enum-told c = search needs
 
 due-unit-requires : tie.Need-due-unit-requires
-due-unit-requires c κs = (c .before .before .before .before .before .before .before .before .before .before .pre .0, (kept-room (c .before .before .before .before .before .before .before .before .before .before .pre .1) .kinds, c .before .before .before .before .before .before .before .universals-of .ensures))
+due-unit-requires c κs = (start (c .before .before .before .before .before) .pre .0, kept-room (start (c .before .before .before .before .before) .pre .1) .kinds)
 
 returns : tie.Need-returns
 returns c =
-    let told = kept-told _ _ _ _ (c .before .before .before .before .before .before .before .before .before .before .pre .1) (c .before .before .before .before .before .before .before .before .values-of .result) (c .before .before .before .before .before .before .before .before .values-of .ensures) in
-    out.in-conflict _ _ (c .before .before .before .before .lowest-conflict .ensures ∙ conflict-ready _ _ _ (c .before .before .before .before .before .before .before .before .before .before .pre .0) _ _ _ (told .values) (c .before .before .before .before .before .before .before .universals-of .ensures) (told .consistent)) (c .before .before .clause .given .1) (c .due-conflict .ensures (formula (now (c .before .before .before .before .before .before .before .before .before .before .args .prefix)) (now (c .before .before .before .before .before .before .before .before .before .before .args .ends)) (now (c .before .before .before .before .before .before .before .before .before .before .args .literals))) _ _ told)
+    let found = c .before .before .before .before in
+    let begun = start (found .before) in
+    out.in-conflict _ _ (found .lowest-conflict .ensures ∙ conflict-ready _ _ _ (begun .pre .0) _ (found .before .before .statuses-of .result) (sorting (found .before))) (c .before .before .clause .given .1)
+    (c .due-conflict .ensures (formula (begun .args .prefix .now) (begun .args .ends .now) (begun .args .literals .now)) _ _ (told (found .before)))
 
 returns-2 : tie.Need-returns-2
 returns-2 c =
-    let told = kept-told _ _ _ _ (c .before .before .before .before .before .before .before .before .before .before .before .pre .1) (c .before .before .before .before .before .before .before .before .before .values-of .result) (c .before .before .before .before .before .before .before .before .before .values-of .ensures) in
-    out.quiet _ _ (c .before .before .before .before .before .lowest-conflict .ensures ∙ conflict-ready _ _ _ (c .before .before .before .before .before .before .before .before .before .before .before .pre .0) _ _ _ (told .values) (c .before .before .before .before .before .before .before .before .universals-of .ensures) (told .consistent)) (c .before .before .before .enum-told .given .1) (c .due-unit .ensures _ told)
+    let found = c .before .before .before .before .before in
+    out.quiet _ _ (found .lowest-conflict .ensures ∙ conflict-ready _ _ _ (start (found .before) .pre .0) _ (found .before .before .statuses-of .result) (sorting (found .before))) (c .before .before .before .enum-told .given .1)
+    (c .due-unit .ensures _ (told (found .before)) (sorting (found .before)))
 
 pub due-spec : {M : Type 1} → statement M
 due-spec =
@@ -47,6 +69,7 @@ due-spec =
     (tie.spec
     values-of-requires
     universals-of-requires
+    statuses-of-requires
     lowest-conflict-requires
     enum-known-clause
     due-conflict-requires

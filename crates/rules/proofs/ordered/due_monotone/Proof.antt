@@ -1,4 +1,4 @@
--- The first monotone variable, or none, picks the case; the table of signs is that of all clauses.
+-- The first monotone variable, or none, picks the case; the literals that occur are those of all clauses.
 use Rattle.rules.proofs.Kept.{ready-named, ready-spread}
 use denote.Ref.{now}
 use Rattle.formula.specs.Formula.{clausesFrom}
@@ -7,8 +7,8 @@ use borrow.Author.Needs.{needs}
 use Rattle.rules.proofs.ordered.due_monotone.Statement.{statement}
 use Rattle.rules.proofs.ordered.due_monotone.Tie as tie
 
-signs-of-requires : tie.Need-signs-of-requires
-signs-of-requires c κs = ready-named _ _ _ (c .before .pre .0)
+occurring-requires : tie.Need-occurring-requires
+occurring-requires c κs = ready-named _ _ _ (c .before .pre .0)
 
 first-monotone-requires : tie.Need-first-monotone-requires
 first-monotone-requires c κs = search needs
@@ -23,16 +23,16 @@ due-decide-requires : tie.Need-due-decide-requires
 due-decide-requires c κs = search needs
 
 returns : tie.Need-returns
-returns c = λ r told. out.monotone _ r (c .before .before .before .first-monotone .ensures _ _ _ (told .values) (c .before .before .before .before .before .signs-of .ensures) (ready-spread _ _ _ (c .before .before .before .before .before .before .before .pre .0))) (c .before .literal .given .1)
+returns c = λ r told. out.monotone _ r (c .before .before .before .first-monotone .ensures _ _ _ (told .values) (c .before .before .before .before .before .occurring .ensures) (ready-spread _ _ _ (c .before .before .before .before .before .before .before .pre .0))) (c .before .literal .given .1)
 
 returns-2 : tie.Need-returns-2
-returns-2 c = λ r told. out.no-monotone _ r (c .before .before .before .first-monotone .ensures _ _ _ (told .values) (c .before .before .before .before .before .signs-of .ensures) (ready-spread _ _ _ (c .before .before .before .before .before .before .before .pre .0))) (c .before .enum-told .given .1) (c .due-decide .ensures (clausesFrom (now (c .before .before .before .before .before .before .before .args .literals)) 0 (now (c .before .before .before .before .before .before .before .args .ends))) r told)
+returns-2 c = λ r told. out.no-monotone _ r (c .before .before .before .first-monotone .ensures _ _ _ (told .values) (c .before .before .before .before .before .occurring .ensures) (ready-spread _ _ _ (c .before .before .before .before .before .before .before .pre .0))) (c .before .enum-told .given .1) (c .due-decide .ensures (clausesFrom (now (c .before .before .before .before .before .before .before .args .literals)) 0 (now (c .before .before .before .before .before .before .before .args .ends))) r told)
 
 pub due-monotone-spec : {M : Type 1} → statement M
 due-monotone-spec =
     tie.close
     (tie.spec
-    signs-of-requires
+    occurring-requires
     first-monotone-requires
     enum-known-literal
     enum-told

@@ -22,10 +22,10 @@ due-monotone-requires : tie.Need-due-monotone-requires
 due-monotone-requires c κs = search needs
 
 returns : tie.Need-returns
-returns c = λ r told. out.unit _ r (c .before .before .before .lowest-unit .ensures ∙ unit-ready _ _ _ ((c .before .before .before .before .before .before .before .pre) .0) _ _ _ (told .values) ((c .before .before .before .before .before .before .before .pre) .1 .1) (told .consistent) (c .before .before .before .before .before .levels-of .result) (c .before .before .before .before .before .levels-of .ensures)) (c .before .literal .given .1)
+returns c = λ r told sorting. out.unit _ r (c .before .before .before .lowest-unit .ensures ∙ unit-ready _ _ _ ((c .before .before .before .before .before .before .before .pre) .0) _ (c .before .before .before .before .before .before .before .args .statuses .now) sorting (c .before .before .before .before .before .levels-of .result) (c .before .before .before .before .before .levels-of .ensures)) (c .before .literal .given .1)
 
 returns-2 : tie.Need-returns-2
-returns-2 c = λ r told. out.no-unit _ r (c .before .before .before .lowest-unit .ensures ∙ unit-ready _ _ _ ((c .before .before .before .before .before .before .before .pre) .0) _ _ _ (told .values) ((c .before .before .before .before .before .before .before .pre) .1 .1) (told .consistent) (c .before .before .before .before .before .levels-of .result) (c .before .before .before .before .before .levels-of .ensures)) (c .before .enum-told .given .1) (c .due-monotone .ensures r told)
+returns-2 c = λ r told sorting. out.no-unit _ r (c .before .before .before .lowest-unit .ensures ∙ unit-ready _ _ _ ((c .before .before .before .before .before .before .before .pre) .0) _ (c .before .before .before .before .before .before .before .args .statuses .now) sorting (c .before .before .before .before .before .levels-of .result) (c .before .before .before .before .before .levels-of .ensures)) (c .before .enum-told .given .1) (c .due-monotone .ensures r told)
 
 pub due-unit-spec : {M : Type 1} → statement M
 due-unit-spec =

@@ -6,13 +6,14 @@ use borrow.Author.Needs.{needs}
 use native.Mathlib.Omega.{arith}
 use lib.ListN.{length}
 use lib.Seq.{take-length}
+use Rattle.rules.specs.Tables.{places}
 use Rattle.rules.proofs.Filled.{Filled, end, placed, bound-named}
 use Rattle.rules.proofs.Universals.{universally, universals-begin, universals-turn, universals-pass}
 use Rattle.rules.proofs.tables.universals_of.Statement.{statement}
 use Rattle.rules.proofs.tables.universals_of.Tie as tie
 
 abbrev Inv-loop : tie.InvT-loop
-Inv-loop prefix universals₀ i₀ universals i = Filled universally prefix (length prefix) universals i
+Inv-loop prefix universals₀ i₀ universals i = Filled universally places prefix (length prefix) universals i
 
 abbrev μ-loop : tie.MeasureT-loop
 μ-loop prefix universals₀ i₀ universals i = length prefix - i
@@ -48,7 +49,7 @@ loop-again c =
     (c .if1 .came)
 
 returns : tie.Need-returns Inv-loop μ-loop
-returns c v = end universally _ _ _ _ (c .before .loop .inv) (c .loop-test .left) v ∙ ap (λ p. universally p v) (take-length _)
+returns c v = end universally places _ _ _ _ (c .before .loop .inv) (c .loop-test .left) v ∙ ap (λ p. universally p v) (take-length _)
 
 pub universals-of-spec : {M : Type 1} → statement M
 universals-of-spec =

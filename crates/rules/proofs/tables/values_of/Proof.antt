@@ -2,13 +2,14 @@
 use Prim.Native.Nat.{_-_}
 use borrow.Author.Needs.{needs}
 use native.Mathlib.Omega.{arith}
+use Rattle.rules.specs.Tables.{places}
 use Rattle.rules.proofs.Filled.{Filled, end}
 use Rattle.rules.proofs.Values.{valued, values-begin, written-placed, values-turn}
 use Rattle.rules.proofs.tables.values_of.Statement.{statement}
 use Rattle.rules.proofs.tables.values_of.Tie as tie
 
 abbrev Inv-loop : tie.InvT-loop
-Inv-loop lits count values₀ i₀ values i = Filled valued lits count values i
+Inv-loop lits count values₀ i₀ values i = Filled valued places lits count values i
 
 abbrev μ-loop : tie.MeasureT-loop
 μ-loop lits count values₀ i₀ values i = count - i
@@ -39,7 +40,7 @@ loop-again c =
     values-turn _ _ (turn .before .before .pre) _ (turn .loop-test .taken) _ (turn .before .loop .inv) _ _ (c .before .size-at .ensures) (c .sign-at .ensures)
 
 returns : tie.Need-returns Inv-loop μ-loop
-returns c = end valued _ _ _ _ (c .before .loop .inv) (c .loop-test .left)
+returns c = end valued places _ _ _ _ (c .before .loop .inv) (c .loop-test .left)
 
 pub values-of-spec : {M : Type 1} → statement M
 values-of-spec =

@@ -1,10 +1,11 @@
 -- The words from i on give the first monotone variable of all: those before it are assigned, or occur with no sign or with both.
 use mathlib.Core.Path.{_∙_, ap}
 use mathlib.Core.Logic.{⊎-elim}
-use Prim.Native.Nat.{_-_, _<_}
+use Prim.Native.Nat.{_-_, _≤_, _<_}
 use lib.ListN.{length}
 use borrow.Author.Needs.{needs}
 use native.Mathlib.Omega.{arith}
+use Rattle.formula.specs.Limits.{limits, variables-are}
 use Rattle.rules.specs.declared.Picked.the-variants.{Is}
 use Rattle.rules.proofs.Filled.{placed, bound-named}
 use Rattle.rules.proofs.Monotone.{Seeking, seeking-begin, seeking-end, seeking-plus, seeking-minus, seeking-mixed, seeking-assigned}
@@ -30,37 +31,39 @@ room c =
     let turn = c .before in
     placed _ _ _ (bound-named (turn .before .before .pre)) (turn .loop-test .taken) (c .size-at .ensures)
 
+small : (c : tie.After-size-at Inv-loop μ-loop) → c .size-at .result ≤ limits .variables
+small c = omega (arith, variables-are, room c)
+
 element-copy-out-if1 : tie.Need-element-copy-out-if1 Inv-loop μ-loop
 element-copy-out-if1 c = room c
 
-element-copy-out-if2 : tie.Need-element-copy-out-if2 Inv-loop μ-loop
-element-copy-out-if2 c = room (c .before .before)
+signs-at-requires : tie.Need-signs-at-requires Inv-loop μ-loop
+signs-at-requires c κs = small (c .before .before)
 
 literal-at-requires : tie.Need-literal-at-requires Inv-loop μ-loop
 literal-at-requires c κs = search needs
 
 returns : tie.Need-returns Inv-loop μ-loop
 returns c ρ ls m said signed spread =
-    let free = c .before .before .before in
+    let told = c .before .before in
+    let free = told .before in
     let sized = free .before .before in
     let turn = sized .before in
     ap Is (c .literal-at .ensures)
-    ∙ seeking-plus _ _ _ _ (turn .before .loop .inv) (turn .before .before .pre) (turn .loop-test .taken) _ (sized .size-at .ensures) (free .if1 .taken) (c .before .if2 .taken) ρ ls m said signed spread
-
-element-copy-out-if3 : tie.Need-element-copy-out-if3 Inv-loop μ-loop
-element-copy-out-if3 c = room (c .before .before .before .before)
+    ∙ seeking-plus _ _ _ _ (turn .before .loop .inv) (turn .before .before .pre) (turn .loop-test .taken) _ (sized .size-at .ensures) (free .if1 .taken) _ (told .signs-at .ensures) (c .before .if2 .taken) ρ ls m said signed spread
 
 opposite-at-requires : tie.Need-opposite-at-requires Inv-loop μ-loop
 opposite-at-requires c κs = search needs
 
 returns-2 : tie.Need-returns-2 Inv-loop μ-loop
 returns-2 c ρ ls m said signed spread =
-    let no-plus = c .before .before .before in
-    let free = no-plus .before .before in
+    let no-plus = c .before .before in
+    let told = no-plus .before in
+    let free = told .before in
     let sized = free .before .before in
     let turn = sized .before in
     ap Is (c .opposite-at .ensures)
-    ∙ seeking-minus _ _ _ _ (turn .before .loop .inv) (turn .before .before .pre) (turn .loop-test .taken) _ (sized .size-at .ensures) (free .if1 .taken) (no-plus .if2 .left) (c .before .if3 .taken) ρ ls m said signed spread
+    ∙ seeking-minus _ _ _ _ (turn .before .loop .inv) (turn .before .before .pre) (turn .loop-test .taken) _ (sized .size-at .ensures) (free .if1 .taken) _ (told .signs-at .ensures) (no-plus .if2 .left) (c .before .if3 .taken) ρ ls m said signed spread
 
 add-i : tie.Need-add-i Inv-loop μ-loop
 add-i c = omega arith
@@ -73,7 +76,7 @@ loop-again c =
     let sized = c .before .before in
     let turn = sized .before in
     ⊎-elim
-    (λ w. seeking-mixed _ _ _ _ (turn .before .loop .inv) (turn .before .before .pre) (turn .loop-test .taken) _ (sized .size-at .ensures) (w .0 .taken) (w .2 .left) (w .4 .left))
+    (λ w. seeking-mixed _ _ _ _ (turn .before .loop .inv) (turn .before .before .pre) (turn .loop-test .taken) _ (sized .size-at .ensures) (w .0 .taken) _ (w .1 .ensures) (w .2 .left) (w .3 .left))
     (λ w. seeking-assigned _ _ _ _ (turn .before .loop .inv) (turn .before .before .pre) (turn .loop-test .taken) _ (sized .size-at .ensures) (w .left))
     (c .if1 .came)
 
@@ -83,4 +86,4 @@ returns-3 c = seeking-end _ _ _ _ (c .before .loop .inv) (c .loop-test .left)
 pub first-monotone-spec : {M : Type 1} → statement M
 first-monotone-spec =
     tie.close
-    (tie.spec Inv-loop μ-loop loop-holds size-at-requires element-copy-out-if1 element-copy-out-if2 literal-at-requires returns element-copy-out-if3 opposite-at-requires returns-2 add-i loop-less loop-again returns-3)
+    (tie.spec Inv-loop μ-loop loop-holds size-at-requires element-copy-out-if1 signs-at-requires literal-at-requires returns opposite-at-requires returns-2 add-i loop-less loop-again returns-3)

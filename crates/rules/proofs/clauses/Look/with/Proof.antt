@@ -7,7 +7,8 @@ use lib.ListN.{getD}
 use borrow.Author.Needs.{needs}
 use borrow.Author.Tests.{not-true, not-false}
 use Rattle.formula.specs.Limits.{variables-are}
-use Rattle.rules.specs.Clauses.{statusBy, levelBy, Shown}
+use Rattle.rules.specs.ByLiteral.{statusIn}
+use Rattle.rules.specs.Clauses.{levelBy, Shown}
 use Rattle.rules.proofs.Looks.{with-false, with-true, with-first, with-same, with-other, with-universal}
 use Rattle.rules.proofs.clauses.Look.with.Statement.{statement}
 use Rattle.rules.proofs.clauses.Look.with.Tie as tie
@@ -57,7 +58,7 @@ module _ (c : tie.After-struct-known2) where
   lowered :
       let a = c .before .before .before .before .before .before .before .args in
       let x = getD (a .literals .now) (a .j) (pos 0) in
-      (n : ℕ) → n ≡ min (a .self .above) (getD (a .levels .now) (c .before .before .size-at .result) 0) → Shown (statusBy (a .values .now) (a .universals .now)) (levelBy (a .levels .now)) (a .literals .now) (a .end) (a .self) x (record { place = a .self .place; above = n; over = a .self .over })
+      (n : ℕ) → n ≡ min (a .self .above) (getD (a .levels .now) (c .before .before .size-at .result) 0) → Shown (statusIn (a .statuses .now)) (levelBy (a .levels .now)) (a .literals .now) (a .end) (a .self) x (record { place = a .self .place; above = n; over = a .self .over })
   lowered n m =
       let a = c .before .before .before .before .before .before .before .args in
       let k = c .before .before .before .before .before .before .status-at .ensures in

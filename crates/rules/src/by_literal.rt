@@ -1,0 +1,93 @@
+// Tables by literal, each filled by one pass. The look at a clause reads one place for each of its literals and nothing more.
+ghost use mathlib.Core.Path.{_≡_};
+ghost use mathlib.Core.List.{List};
+ghost use Prim.Native.Nat.{_≤_};
+ghost use lib.IntN.{ℤ, pos, natAbs};
+ghost use lib.ListN.{getD};
+ghost use Rattle.formula.specs.Limits.{limits};
+ghost use Rattle.rules.specs.Tables.{Known, signsOf};
+ghost use Rattle.rules.specs.ByLiteral.{placeOf, Occurring, statusOf, Statuses};
+use crate::tables::PLACES;
+
+// The place of the word 0, which is no literal. Variable v has its place v above it, and the opposite of v has it v below.
+const MIDDLE: usize = formula::MAX_VARIABLES;
+
+// The same number, for a signed word.
+const RAISE: i64 = 256;
+
+pub const LITERAL_PLACES: usize = 2 * formula::MAX_VARIABLES + 1;
+
+// The place of the literal at an index.
+pub fn place_at(ws: &[i32], i: usize) -> usize
+    requires { ⌜ natAbs (getD (now ws) i (pos 0)) ≤ limits .variables ⌝ }
+    ensures { λ r. ⌜ r ≡ placeOf (getD (now (ws .entry)) i (pos 0)) ⌝ }
+{
+    if ws.len() <= i {
+        return MIDDLE;
+    }
+    let word = ws[i] as i64;
+    (word + RAISE) as usize
+}
+
+// 1 for each literal that is one of the words, else 0.
+pub fn occurring(ws: &[i32]) -> [u8; LITERAL_PLACES]
+    requires { ⌜ Known (now ws) ⌝ }
+    ensures { λ r. ⌜ Occurring (now (ws .entry)) r ⌝ }
+{
+    let mut occurs = [0u8; LITERAL_PLACES];
+    let mut i = 0;
+    while i < ws.len() {
+        let at = place_at(ws, i);
+        occurs[at] = 1;
+        i += 1;
+    }
+    occurs
+}
+
+// The signs with which a variable occurs: 0 none, 1 positive, 2 negative, 3 both.
+pub fn signs_at(occurs: &[u8; LITERAL_PLACES], v: usize) -> u8
+    requires { ⌜ v ≤ limits .variables ⌝ }
+    ensures { λ r. ⌜ ((ws : List ℤ) → Occurring ws (now (occurs .entry)) → r ≡ signsOf ws v) ⌝ }
+{
+    let plus = occurs[MIDDLE + v];
+    let minus = occurs[MIDDLE - v];
+    if minus == 0 {
+        return plus;
+    }
+    if plus == 0 { 2 } else { 3 }
+}
+
+// What a literal is to its clause, by its variable's value, whether that is universal, and the literal's sign: 0 false, 1 true,
+// 2 unassigned existential, 3 unassigned universal.
+fn status_of(value: u8, universal: u8, sign: u8) -> u8
+    ensures { λ r. ⌜ r ≡ statusOf value universal sign ⌝ }
+{
+    if value == 0 {
+        if universal == 0 {
+            return 2;
+        }
+        return 3;
+    }
+    if value == sign { 1 } else { 0 }
+}
+
+// What each literal of the variables 1 to n is to its clause.
+pub fn statuses_of(
+    n: usize,
+    values: &[u8; PLACES],
+    universals: &[u8; PLACES],
+) -> [u8; LITERAL_PLACES]
+    requires { ⌜ n ≤ limits .variables ⌝ }
+    ensures { λ r. ⌜ Statuses n (now (values .entry)) (now (universals .entry)) r ⌝ }
+{
+    let mut statuses = [0u8; LITERAL_PLACES];
+    let mut v = 1;
+    while v <= n {
+        let value = values[v];
+        let universal = universals[v];
+        statuses[MIDDLE + v] = status_of(value, universal, 1);
+        statuses[MIDDLE - v] = status_of(value, universal, 2);
+        v += 1;
+    }
+    statuses
+}
