@@ -51,8 +51,8 @@ pub struct Ran {
     pub steps: u32,
 }
 
-/// Where the next page begins, how many openings this one wrote, and whether the
-/// search of the next one doesn't end within the budget.
+/// Where the next page begins, how many openings this one wrote, and whether it
+/// stopped because the search of the next one didn't end within the budget.
 #[derive(Clone, Copy, Debug, PartialEq, Eq)]
 pub struct Page {
     pub next: u32,
