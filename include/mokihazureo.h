@@ -22,7 +22,12 @@ enum { MOKI_OPEN = 0, MOKI_VALID = 1, MOKI_UNSAT = 2 };
 
 /* How many words a call's answer has, and the status of a call whose answer has
    fewer places. */
-enum { MOKI_SESSION_WORDS = 3, MOKI_RUN_WORDS = 4, MOKI_NO_ROOM = 100 };
+enum {
+    MOKI_SESSION_WORDS = 3,
+    MOKI_RUN_WORDS = 4,
+    MOKI_PAGE_WORDS = 3,
+    MOKI_NO_ROOM = 100
+};
 
 /* Refusals 1 to 10. */
 uint32_t moki_check(const int32_t *block, size_t block_length);
@@ -52,6 +57,20 @@ uint32_t moki_run(size_t length, uint64_t revision, uint32_t state,
                   uint64_t seen_revision, uint32_t budget,
                   const int32_t *preferred, size_t preferred_length,
                   uint64_t *answer, size_t answer_length);
+
+/* Refusals 1 to 11 and 18 to 21. The openings from start on that win, two words of
+   output each: the opening, and how many ones its number has. The answer is where
+   the next page begins, the count of openings written, and 1 if the page stopped
+   because the search of that next opening didn't end within the budget, else 0. The
+   record is for work: its first V places are 0 afterwards. */
+uint32_t moki_page(const int32_t *block, size_t block_length,
+                   int32_t *literals, size_t literals_length,
+                   uint8_t *kinds, size_t kinds_length,
+                   uint32_t start,
+                   const int32_t *preferred, size_t preferred_length,
+                   uint32_t budget,
+                   uint32_t *output, size_t output_length,
+                   uint64_t *answer, size_t answer_length);
 
 #ifdef __cplusplus
 }

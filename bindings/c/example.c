@@ -1,4 +1,5 @@
-/* Two administrators at one session, and what happens to bad input. */
+/* Two administrators at one session, a listing page by page, and what happens to
+   bad input. */
 #include <stdio.h>
 #include <string.h>
 
@@ -40,11 +41,54 @@ static void two_administrators(void)
     expect("an ended session is refused with 13", moki_step(session[0], session[1], (uint32_t)session[2], block, COUNT(block), literals, 4, kinds, 4, session[1], 0, session, COUNT(session)) == 13);
 }
 
+/* Document 01's case G: the openings are of the variables 1 and 2. */
+static const int32_t openings[] = {4, 3, 6, 6, 10, 13, 1, 2, -3, 4, 2, 4, 6, 1, 2, -3, 4, 3, -4};
+
+/* The listing's work record. */
+static int32_t work_literals[4] = {9, 9, 9, 9};
+static uint8_t work_kinds[4] = {9, 9, 9, 9};
+
+static uint32_t page(uint32_t start, uint32_t budget, uint32_t *output, size_t words, uint64_t *answer)
+{
+    return moki_page(openings, COUNT(openings), work_literals, 4, work_kinds, 4, start, block, 0, budget, output, words, answer, MOKI_PAGE_WORDS);
+}
+
+static int holds(const uint32_t *output, const uint32_t *words)
+{
+    return memcmp(output, words, 8 * sizeof *words) == 0;
+}
+
+static int answers(const uint64_t *answer, uint64_t next, uint64_t entries, uint64_t paused)
+{
+    return answer[0] == next && answer[1] == entries && answer[2] == paused;
+}
+
+static void a_listing(void)
+{
+    uint32_t output[8] = {7, 7, 7, 7, 7, 7, 7, 7};
+    uint32_t whole[8] = {7, 7, 7, 7, 7, 7, 7, 7};
+    uint64_t answer[MOKI_PAGE_WORDS] = {7, 7, 7};
+
+    expect("case H: with no budget nothing is written", page(0, 0, output, 8, answer) == 0 && holds(output, (uint32_t[]){7, 7, 7, 7, 7, 7, 7, 7}));
+    expect("and the page is paused at 0", answers(answer, 0, 0, 1));
+    expect("at the end there is nothing to pause for", page(4, 0, output, 8, answer) == 0 && answers(answer, 4, 0, 0));
+    expect("case G: four words of room hold 1 and 2", page(0, 100, output, 4, answer) == 0 && holds(output, (uint32_t[]){1, 1, 2, 1, 7, 7, 7, 7}));
+    expect("and the next page begins at 3", answers(answer, 3, 2, 0));
+    expect("it holds 3", page((uint32_t)answer[0], 100, output + 4, 4, answer) == 0 && holds(output, (uint32_t[]){1, 1, 2, 1, 3, 2, 7, 7}));
+    expect("and ends the listing", answers(answer, 4, 1, 0));
+    expect("eight words hold it whole", page(0, 100, whole, 8, answer) == 0 && holds(whole, output) && answers(answer, 4, 3, 0));
+    expect("the work record is wiped", memcmp(work_literals, (int32_t[4]){0}, sizeof work_literals) == 0 && memcmp(work_kinds, (uint8_t[4]){0}, sizeof work_kinds) == 0);
+    expect("a start past the end is refused with 20", page(5, 100, whole, 8, answer) == 20);
+    expect("room for no entry is refused with 21", page(0, 100, whole, 1, answer) == 21);
+    expect("nothing is changed", holds(whole, output) && answers(answer, 4, 3, 0));
+}
+
 static void bad_input(void)
 {
     int32_t literals[4] = {7, 7, 7, 7};
     uint8_t kinds[4] = {7, 7, 7, 7};
     uint64_t answer[MOKI_RUN_WORDS] = {7, 7, 7, 7};
+    uint32_t output[2] = {7, 7};
     int32_t wrong[COUNT(block)];
 
     memcpy(wrong, block, sizeof block);
@@ -54,12 +98,14 @@ static void bad_input(void)
     expect("a short record is refused with 11", moki_open(block, COUNT(block), literals, 3, kinds, 4, 0, answer, COUNT(answer)) == 11);
     expect("an answer of two places is too short for a session", moki_open(block, COUNT(block), literals, 4, kinds, 4, 0, answer, 2) == MOKI_NO_ROOM);
     expect("and one of three for a run", moki_run(0, 0, MOKI_OPEN, block, COUNT(block), literals, 4, kinds, 4, 0, 9, literals, 0, answer, 3) == MOKI_NO_ROOM);
-    expect("nothing is written", literals[0] == 7 && kinds[0] == 7 && answer[0] == 7 && answer[3] == 7);
+    expect("and one of two for a page", moki_page(openings, COUNT(openings), literals, 4, kinds, 4, 0, block, 0, 100, output, 2, answer, 2) == MOKI_NO_ROOM);
+    expect("nothing is written", literals[0] == 7 && kinds[0] == 7 && output[0] == 7 && answer[0] == 7 && answer[3] == 7);
 }
 
 int main(void)
 {
     two_administrators();
+    a_listing();
     bad_input();
     return failures != 0;
 }

@@ -1,14 +1,19 @@
-//! Two administrators at one session, and what happens to bad input.
+//! Two administrators at one session, a listing page by page, and what happens to
+//! bad input.
 
-use mokihazureo::{check, open, Literal, Refusal, Revision, State};
+use mokihazureo::{check, open, page, Literal, Page, Refusal, Revision, State};
 
 /// Document 01's case A: a is 1, d is 2 (universal), b is 3, c is 4.
 const BLOCK: [i32; 28] = [
     4, 5, 13, 6, 10, 15, 1, -2, 3, 4, 3, 5, 7, 10, 13, -1, -2, 3, -2, -3, 3, 4, 1, -2, -4, 2, 3, -4,
 ];
 
+/// Document 01's case G: the openings are of the variables 1 and 2.
+const OPENINGS: [i32; 19] = [4, 3, 6, 6, 10, 13, 1, 2, -3, 4, 2, 4, 6, 1, 2, -3, 4, 3, -4];
+
 fn main() -> Result<(), Refusal> {
     two_administrators()?;
+    a_listing()?;
     bad_input();
     println!("the Rust program: all as it should be");
     Ok(())
@@ -17,10 +22,16 @@ fn main() -> Result<(), Refusal> {
 fn two_administrators() -> Result<(), Refusal> {
     let (mut literals, mut kinds) = ([9; 4], [9; 4]);
     check(&BLOCK)?;
-    let page = open(&BLOCK, &mut literals, &mut kinds, Revision(0))?;
+    let fresh = open(&BLOCK, &mut literals, &mut kinds, Revision(0))?;
     assert_eq!((literals, kinds), ([0; 4], [0; 4]));
     // Ada puts variable 1 to true, as seen at revision 0.
-    let after = page.step(&BLOCK, &mut literals, &mut kinds, page.revision, Literal(1))?;
+    let after = fresh.step(
+        &BLOCK,
+        &mut literals,
+        &mut kinds,
+        fresh.revision,
+        Literal(1),
+    )?;
     assert_eq!((after.length, after.revision), (1, Revision(1)));
     assert_eq!((literals, kinds), ([1, 0, 0, 0], [1, 0, 0, 0]));
     // Ben still has the page of revision 0.
@@ -28,7 +39,7 @@ fn two_administrators() -> Result<(), Refusal> {
         &BLOCK,
         &mut literals,
         &mut kinds,
-        page.revision,
+        fresh.revision,
         Literal(-1),
     );
     assert_eq!(stale, Err(Refusal(14)));
@@ -52,6 +63,49 @@ fn two_administrators() -> Result<(), Refusal> {
     assert_eq!(ran.session.state, State::Unsat);
     assert_eq!(ran.session.revision, Revision(2 + u64::from(ran.steps)));
     Ok(())
+}
+
+fn a_listing() -> Result<(), Refusal> {
+    let (mut literals, mut kinds, mut output) = ([9; 4], [9; 4], [7; 8]);
+    let mut list = |start, budget, output: &mut [u32]| {
+        page(
+            &OPENINGS,
+            &mut literals,
+            &mut kinds,
+            start,
+            &[],
+            budget,
+            output,
+        )
+    };
+    // Case H: with no budget the first search doesn't end; at the end there is none.
+    assert_eq!(list(0, 0, &mut output)?, told(0, 0, true));
+    assert_eq!(list(4, 0, &mut output)?, told(4, 0, false));
+    assert_eq!(output, [7; 8]);
+    // Case G, on two pages: 1, 2 and 3 win, each with its count of ones.
+    let first = list(0, 100, &mut output[..4])?;
+    assert_eq!(first, told(3, 2, false));
+    assert_eq!(output, [1, 1, 2, 1, 7, 7, 7, 7]);
+    let second = list(first.next, 100, &mut output[4..])?;
+    assert_eq!(second, told(4, 1, false));
+    assert_eq!(output, [1, 1, 2, 1, 3, 2, 7, 7]);
+    // Eight words hold it whole.
+    let mut whole = [7; 8];
+    assert_eq!(list(0, 100, &mut whole)?, told(4, 3, false));
+    assert_eq!(whole, output);
+    assert_eq!(list(5, 100, &mut whole), Err(Refusal(20)));
+    assert_eq!(list(0, 100, &mut whole[..1]), Err(Refusal(21)));
+    assert_eq!(whole, output);
+    assert_eq!((literals, kinds), ([0; 4], [0; 4]));
+    Ok(())
+}
+
+fn told(next: u32, entries: u32, paused: bool) -> Page {
+    Page {
+        next,
+        entries,
+        paused,
+    }
 }
 
 fn bad_input() {

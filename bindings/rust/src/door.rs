@@ -1,8 +1,7 @@
-//! The only unsafe room: the C functions, called with slices as pointer and
-//! length. A Rust slice is what they ask for: never null, as long as it says, and
-//! a mutable one overlaps no other.
+//! The only unsafe room: the C functions and the calls of them. A Rust slice is what
+//! they ask for: never null, as long as it says, and a mutable one overlaps no other.
 
-use crate::{Literal, Ran, Refusal, Revision, Session, State};
+use crate::{Literal, Page, Ran, Refusal, Revision, Session, State};
 
 mod c {
     extern "C" {
@@ -50,6 +49,22 @@ mod c {
             answer: *mut u64,
             answer_length: usize,
         ) -> u32;
+        pub fn moki_page(
+            block: *const i32,
+            block_length: usize,
+            literals: *mut i32,
+            literals_length: usize,
+            kinds: *mut u8,
+            kinds_length: usize,
+            start: u32,
+            preferred: *const i32,
+            preferred_length: usize,
+            budget: u32,
+            output: *mut u32,
+            output_length: usize,
+            answer: *mut u64,
+            answer_length: usize,
+        ) -> u32;
     }
 }
 
@@ -61,15 +76,17 @@ fn accepted(status: u32) -> Result<(), Refusal> {
     }
 }
 
-fn number(state: State) -> u32 {
-    match state {
+/// A session as its three numbers: length, revision, state.
+fn numbers(session: Session) -> (usize, u64, u32) {
+    let state = match session.state {
         State::Open => 0,
         State::Valid => 1,
         State::Unsat => 2,
-    }
+    };
+    (session.length, session.revision.0, state)
 }
 
-/// A session of the first three numbers of an answer.
+/// The session of the first three numbers of an answer.
 fn session(answer: &[u64]) -> Session {
     Session {
         length: answer[0] as usize,
@@ -82,10 +99,28 @@ fn session(answer: &[u64]) -> Session {
     }
 }
 
-pub fn check(block: &[i32]) -> Result<(), Refusal> {
-    accepted(unsafe { c::moki_check(block.as_ptr(), block.len()) })
+/// Calls a C function: `in` a slice that it reads, `out` one that it writes, each as
+/// pointer and length, or a number.
+macro_rules! call {
+    ($name:ident($($given:tt)*)) => { call!(@ $name [] $($given)*,) };
+    (@ $name:ident [$($c:tt)*] in $slice:ident, $($rest:tt)*) => {
+        call!(@ $name [$($c)* $slice.as_ptr(), $slice.len(),] $($rest)*)
+    };
+    (@ $name:ident [$($c:tt)*] out $slice:ident, $($rest:tt)*) => {
+        call!(@ $name [$($c)* $slice.as_mut_ptr(), $slice.len(),] $($rest)*)
+    };
+    (@ $name:ident [$($c:tt)*] $number:expr, $($rest:tt)*) => {
+        call!(@ $name [$($c)* $number,] $($rest)*)
+    };
+    (@ $name:ident [$($c:tt)*]) => { accepted(unsafe { c::$name($($c)*) }) };
 }
 
+/// Whether the block is accepted; refusals 1 to 10.
+pub fn check(block: &[i32]) -> Result<(), Refusal> {
+    call!(moki_check(in block))
+}
+
+/// A fresh session; refusals 1 to 11. The first V places of the record become 0.
 pub fn open(
     block: &[i32],
     literals: &mut [i32],
@@ -93,82 +128,63 @@ pub fn open(
     first: Revision,
 ) -> Result<Session, Refusal> {
     let mut answer = [0; 3];
-    accepted(unsafe {
-        c::moki_open(
-            block.as_ptr(),
-            block.len(),
-            literals.as_mut_ptr(),
-            literals.len(),
-            kinds.as_mut_ptr(),
-            kinds.len(),
-            first.0,
-            answer.as_mut_ptr(),
-            answer.len(),
-        )
-    })?;
+    call!(moki_open(in block, out literals, out kinds, first.0, out answer))?;
     Ok(session(&answer))
 }
 
-pub fn step(
-    from: Session,
-    block: &[i32],
-    literals: &mut [i32],
-    kinds: &mut [u8],
-    seen: Revision,
-    proposal: Literal,
-) -> Result<Session, Refusal> {
-    let mut answer = [0; 3];
-    accepted(unsafe {
-        c::moki_step(
-            from.length,
-            from.revision.0,
-            number(from.state),
-            block.as_ptr(),
-            block.len(),
-            literals.as_mut_ptr(),
-            literals.len(),
-            kinds.as_mut_ptr(),
-            kinds.len(),
-            seen.0,
-            proposal.0,
-            answer.as_mut_ptr(),
-            answer.len(),
-        )
-    })?;
-    Ok(session(&answer))
+impl Session {
+    /// One step; refusals 1 to 17.
+    pub fn step(
+        self,
+        block: &[i32],
+        literals: &mut [i32],
+        kinds: &mut [u8],
+        seen: Revision,
+        proposal: Literal,
+    ) -> Result<Session, Refusal> {
+        let (length, revision, state) = numbers(self);
+        let mut answer = [0; 3];
+        call!(moki_step(length, revision, state, in block, out literals, out kinds, seen.0, proposal.0, out answer))?;
+        Ok(session(&answer))
+    }
+
+    /// At most `budget` steps; refusals 1 to 15.
+    pub fn run(
+        self,
+        block: &[i32],
+        literals: &mut [i32],
+        kinds: &mut [u8],
+        seen: Revision,
+        budget: u32,
+        preferred: &[i32],
+    ) -> Result<Ran, Refusal> {
+        let (length, revision, state) = numbers(self);
+        let mut answer = [0; 4];
+        call!(moki_run(length, revision, state, in block, out literals, out kinds, seen.0, budget, in preferred, out answer))?;
+        Ok(Ran {
+            session: session(&answer),
+            steps: answer[3] as u32,
+        })
+    }
 }
 
-pub fn run(
-    from: Session,
+/// The openings from `start` on that win, two words of output each: the opening, and
+/// how many ones its number has; refusals 1 to 11 and 18 to 21. The record is for
+/// work: its first V places become 0.
+pub fn page(
     block: &[i32],
     literals: &mut [i32],
     kinds: &mut [u8],
-    seen: Revision,
-    budget: u32,
+    start: u32,
     preferred: &[i32],
-) -> Result<Ran, Refusal> {
-    let mut answer = [0; 4];
-    accepted(unsafe {
-        c::moki_run(
-            from.length,
-            from.revision.0,
-            number(from.state),
-            block.as_ptr(),
-            block.len(),
-            literals.as_mut_ptr(),
-            literals.len(),
-            kinds.as_mut_ptr(),
-            kinds.len(),
-            seen.0,
-            budget,
-            preferred.as_ptr(),
-            preferred.len(),
-            answer.as_mut_ptr(),
-            answer.len(),
-        )
-    })?;
-    Ok(Ran {
-        session: session(&answer),
-        steps: answer[3] as u32,
+    budget: u32,
+    output: &mut [u32],
+) -> Result<Page, Refusal> {
+    let mut answer = [0; 3];
+    call!(moki_page(in block, out literals, out kinds, start, in preferred, budget, out output, out answer))?;
+    Ok(Page {
+        next: answer[0] as u32,
+        entries: answer[1] as u32,
+        paused: answer[2] == 1,
     })
 }

@@ -6,6 +6,8 @@
 
 mod door;
 
+pub use door::{check, open, page};
+
 /// Counts the accepted steps of a session, from the number that it was opened at.
 #[derive(Clone, Copy, Debug, PartialEq, Eq)]
 pub struct Revision(pub u64);
@@ -49,44 +51,11 @@ pub struct Ran {
     pub steps: u32,
 }
 
-/// Whether the block is accepted; refusals 1 to 10.
-pub fn check(block: &[i32]) -> Result<(), Refusal> {
-    door::check(block)
-}
-
-/// A fresh session; refusals 1 to 11. The first V places of the record become 0.
-pub fn open(
-    block: &[i32],
-    literals: &mut [i32],
-    kinds: &mut [u8],
-    first: Revision,
-) -> Result<Session, Refusal> {
-    door::open(block, literals, kinds, first)
-}
-
-impl Session {
-    /// One step; refusals 1 to 17.
-    pub fn step(
-        self,
-        block: &[i32],
-        literals: &mut [i32],
-        kinds: &mut [u8],
-        seen: Revision,
-        proposal: Literal,
-    ) -> Result<Session, Refusal> {
-        door::step(self, block, literals, kinds, seen, proposal)
-    }
-
-    /// At most `budget` steps; refusals 1 to 15.
-    pub fn run(
-        self,
-        block: &[i32],
-        literals: &mut [i32],
-        kinds: &mut [u8],
-        seen: Revision,
-        budget: u32,
-        preferred: &[i32],
-    ) -> Result<Ran, Refusal> {
-        door::run(self, block, literals, kinds, seen, budget, preferred)
-    }
+/// Where the next page begins, how many openings this one wrote, and whether it
+/// stopped because the search of the next one didn't end within the budget.
+#[derive(Clone, Copy, Debug, PartialEq, Eq)]
+pub struct Page {
+    pub next: u32,
+    pub entries: u32,
+    pub paused: bool,
 }

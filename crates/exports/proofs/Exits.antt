@@ -1,9 +1,11 @@
 -- The ways out of the calls: too few places in the answer, or what the call below leaves and its numbers.
 use Prim.Native.Nat.{ℕ, zero, suc, _≤_, _<_}
-use mathlib.Core.Path.{_≡_, refl, sym, _∙_}
+use mathlib.Core.Path.{_≡_, refl}
+use mathlib.Core.Bool.{Bool, true, false}
 use mathlib.Core.List.{List}
 use lib.IntN.{ℤ}
 use lib.ListN.{length}
+use mir.Val.{boolByte}
 use borrow.Author.Tests.{lt-ltb, le-ltb}
 use Rattle.rules.specs.declared.State.the-variants.{Unsat}
 use Rattle.session.specs.declared.Session.{Session}
@@ -11,8 +13,10 @@ use Rattle.session.specs.declared.Answer.{Answer}
 use Rattle.session.specs.declared.Ran.{Ran}
 use Rattle.session.specs.Outcome.{Outcome, outcome, stepOutcome}
 use Rattle.session.specs.Run.{RunOutcome, runOutcome, runOf}
-use Rattle.rules.specs.Due.{literal}
-use Rattle.exports.specs.Called.{Called, called, noRoom, withRoom, stateOf, revision, statusOf, toldBy, ofAnswer, ranStatus, ranTold, ofRan, stepCall, runCall}
+use Rattle.rules.specs.Due.{pick, literal}
+use Rattle.listing.specs.declared.Paged.{Paged}
+use Rattle.listing.specs.Page.{PageOutcome, pageOutcome}
+use Rattle.exports.specs.Called.{Called, called, withRoom, stateOf, revision, statusOf, toldBy, ofAnswer, ranStatus, ranTold, ofRan, PageCalled, pageCalled, pagedStatus, pagedTold, ofPaged}
 
 -- a state's number that is neither 0 nor 1
 pub state-unsat : (n : ℕ) → (n ≡ 0 → ⊥) → (n ≡ 1 → ⊥) → Unsat ≡ stateOf n
@@ -20,18 +24,31 @@ state-unsat zero f g = absurd (f refl)
 state-unsat (suc zero) f g = absurd (g refl)
 state-unsat (suc (suc n)) f g = refl
 
-module _ (n : ℕ) (ls : List ℤ) (ks a : List ℕ) where
-  pub no-room : (c : Called) → length a < n → called noRoom ls ks a ≡ withRoom n ls ks a c
+-- a truth as a number
+pub bit : (p : Bool) → pick p 1 0 ≡ boolByte p
+bit true = refl
+bit false = refl
+
+-- ---- too few places, or enough: `short` is what a call leaves that has too few
+module _ {C : Type 0} (n : ℕ) (a : List ℕ) (short : C) where
+  pub no-room : (c : C) → length a < n → short ≡ withRoom n a short c
   unfolding withRoom
   no-room c h = rw (lt-ltb (length a) n h)
 
-  pub of-answer : n ≤ length a → {o : Outcome} {x : Answer} {ls′ : List ℤ} {ks′ a′ : List ℕ} {r : ℕ} → outcome x ls′ ks′ ≡ o → r ≡ statusOf x → a′ ≡ toldBy x a → called r ls′ ks′ a′ ≡ withRoom n ls ks a (ofAnswer a o)
+  with-room : {x c : C} → n ≤ length a → x ≡ c → x ≡ withRoom n a short c
   unfolding withRoom
-  of-answer h e p q = rw (le-ltb (length a) n h, ← e, p, q)
+  with-room h e = rw (le-ltb (length a) n h) e
 
-  pub of-ran : n ≤ length a → {o : RunOutcome} {x : Ran} {ls′ : List ℤ} {ks′ a′ : List ℕ} {r : ℕ} → runOutcome x ls′ ks′ ≡ o → r ≡ ranStatus x → a′ ≡ ranTold x a → called r ls′ ks′ a′ ≡ withRoom n ls ks a (ofRan a o)
-  unfolding withRoom
-  of-ran h e p q = rw (le-ltb (length a) n h, ← e, p, q)
+-- ---- what the call below leaves, and its numbers
+module _ (n : ℕ) (a : List ℕ) {ls : List ℤ} {ks a′ : List ℕ} {r : ℕ} (h : n ≤ length a) where
+  pub of-answer : (short : Called) {o : Outcome} {x : Answer} → outcome x ls ks ≡ o → r ≡ statusOf x → a′ ≡ toldBy x a → called r ls ks a′ ≡ withRoom n a short (ofAnswer a o)
+  of-answer short e p q = with-room n a short h (rw (← e, p, q))
+
+  pub of-ran : (short : Called) {o : RunOutcome} {x : Ran} → runOutcome x ls ks ≡ o → r ≡ ranStatus x → a′ ≡ ranTold x a → called r ls ks a′ ≡ withRoom n a short (ofRan a o)
+  of-ran short e p q = with-room n a short h (rw (← e, p, q))
+
+  pub of-paged : (short : PageCalled) {o : PageOutcome} {x : Paged} {out : List ℕ} → pageOutcome x ls ks out ≡ o → r ≡ pagedStatus x → a′ ≡ pagedTold x a → pageCalled r ls ks out a′ ≡ withRoom n a short (ofPaged a o)
+  of-paged short e p q = with-room n a short h (rw (← e, p, q))
 
 -- the session of the three numbers
 module _ {s t : Session} (same : s ≡ t) (b ls : List ℤ) (ks : List ℕ) (seen : ℕ) where

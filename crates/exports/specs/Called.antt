@@ -18,6 +18,8 @@ use Rattle.session.specs.declared.Ran.{Ran}
 use Rattle.session.specs.declared.Ran.the-variants.{Until, Stopped}
 use Rattle.session.specs.Outcome.{session, Outcome, openOutcome, stepOutcome}
 use Rattle.session.specs.Run.{RunOutcome, runOf}
+use Rattle.listing.specs.declared.Paged as paged
+use Rattle.listing.specs.Page.{PageOutcome, pageOf}
 
 pub record Called : Type 0 where
   pub status : ℕ
@@ -32,8 +34,13 @@ called n ls ks a = record { status = n; lits = ls; kinds = ks; answer = a }
 abbrev pub noRoom : ℕ
 noRoom = 100
 
-unfoldable pub withRoom : ℕ → List ℤ → List ℕ → List ℕ → Called → Called
-withRoom n ls ks a c = pick (ltb (length a) n) (called noRoom ls ks a) c
+-- of an answer with fewer places than n the call leaves `short`, else `c`
+unfoldable pub withRoom : {C : Type 0} → ℕ → List ℕ → C → C → C
+withRoom n a short c = pick (ltb (length a) n) short c
+
+-- three numbers, in the first three places of an answer
+unfoldable pub placed : ℕ → ℕ → ℕ → List ℕ → List ℕ
+placed x y z a = set (set (set a 0 x) 1 y) 2 z
 
 -- ---- a session as three numbers: its record's length, its revision, and 0 open, 1 Valid, 2 Unsat. A state over 2 counts as 2.
 abbrev pub stateOf : ℕ → State
@@ -52,9 +59,8 @@ sessionOf n rev st = session n rev (stateOf st)
 abbrev pub revision : ℕ → Revision
 revision n = record { 0 = n }
 
--- its numbers, in the first three places of an answer
-unfoldable pub told : Session → List ℕ → List ℕ
-told s a = set (set (set a 0 (s .length)) 1 (s .revision .0)) 2 (numberOf (s .state))
+abbrev pub told : Session → List ℕ → List ℕ
+told s a = placed (s .length) (s .revision .0) (numberOf (s .state)) a
 
 -- ---- opening and a step: status 0 and the next session's numbers, or the refusal's number alone
 abbrev pub statusOf : Answer → ℕ
@@ -69,10 +75,10 @@ abbrev pub ofAnswer : List ℕ → Outcome → Called
 ofAnswer a o = called (statusOf (o .answer)) (o .lits) (o .kinds) (toldBy (o .answer) a)
 
 abbrev pub openCall : List ℤ → List ℤ → List ℕ → ℕ → List ℕ → Called
-openCall b ls ks first a = withRoom 3 ls ks a (ofAnswer a (openOutcome b ls ks (revision first)))
+openCall b ls ks first a = withRoom 3 a (called noRoom ls ks a) (ofAnswer a (openOutcome b ls ks (revision first)))
 
 abbrev pub stepCall : Session → List ℤ → List ℤ → List ℕ → ℕ → ℤ → List ℕ → Called
-stepCall s b ls ks seen l a = withRoom 3 ls ks a (ofAnswer a (stepOutcome s b ls ks (revision seen) (literal l)))
+stepCall s b ls ks seen l a = withRoom 3 a (called noRoom ls ks a) (ofAnswer a (stepOutcome s b ls ks (revision seen) (literal l)))
 
 -- ---- a run: the count of accepted steps stands in a fourth place
 abbrev pub ranStatus : Ran → ℕ
@@ -87,4 +93,27 @@ abbrev pub ofRan : List ℕ → RunOutcome → Called
 ofRan a o = called (ranStatus (o .answer)) (o .lits) (o .kinds) (ranTold (o .answer) a)
 
 abbrev pub runCall : Session → List ℤ → List ℤ → List ℕ → ℕ → ℕ → List ℤ → List ℕ → Called
-runCall s b ls ks seen budget preferred a = withRoom 4 ls ks a (ofRan a (runOf s b ls ks (revision seen) budget preferred))
+runCall s b ls ks seen budget preferred a = withRoom 4 a (called noRoom ls ks a) (ofRan a (runOf s b ls ks (revision seen) budget preferred))
+
+-- ---- a page: it has an output too, and its numbers are where the next page begins, the entries written, and 1 for paused, else 0
+pub record PageCalled : Type 0 where
+  pub call : Called
+  pub output : List ℕ
+
+abbrev pub pageCalled : ℕ → List ℤ → List ℕ → List ℕ → List ℕ → PageCalled
+pageCalled n ls ks out a = record { call = called n ls ks a; output = out }
+
+abbrev pub pagedStatus : paged.Paged → ℕ
+pagedStatus (paged.the-variants.Page n e p) = 0
+pagedStatus (paged.the-variants.Refused n) = n
+
+abbrev pub pagedTold : paged.Paged → List ℕ → List ℕ
+pagedTold (paged.the-variants.Page n e p) a = placed n e (pick p 1 0) a
+pagedTold (paged.the-variants.Refused n) a = a
+
+abbrev pub ofPaged : List ℕ → PageOutcome → PageCalled
+ofPaged a o = pageCalled (pagedStatus (o .answer)) (o .lits) (o .kinds) (o .output) (pagedTold (o .answer) a)
+
+abbrev pub pageCall : List ℤ → List ℤ → List ℕ → ℕ → List ℤ → ℕ → List ℕ → List ℕ → PageCalled
+pageCall b ls ks start preferred budget out a =
+    withRoom 3 a (pageCalled noRoom ls ks out a) (ofPaged a (pageOf b ls ks start preferred budget out))

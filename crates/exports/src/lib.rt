@@ -2,12 +2,12 @@
 ghost use mathlib.Core.Path.{_≡_};
 ghost use Rattle.formula.specs.Limits.{limits};
 ghost use Rattle.formula.specs.Block.{refusal};
-ghost use Rattle.exports.specs.Called.{called, openCall, sessionOf, stepCall, runCall};
+ghost use Rattle.exports.specs.Called.{called, openCall, sessionOf, stepCall, runCall, pageCalled, pageCall};
 use formula::Checked;
 use session::Revision;
 use words::Literal;
 
-mod numbers; // a session and its answers as numbers
+mod numbers; // sessions and answers as numbers
 
 // The status of a call whose answer has too few places. The table's numbers stay far below it.
 const NO_ROOM: u32 = 100;
@@ -86,4 +86,25 @@ pub extern "C" fn moki_run(
     let before = numbers::session_of(length, revision, state);
     let outcome = before.run(block, literals, kinds, Revision(seen), budget, preferred);
     numbers::ran(outcome, answer)
+}
+
+// The winning openings from `start` on; where the next page begins, the entries written, and 1 if paused are written to the answer.
+#[no_mangle]
+pub extern "C" fn moki_page(
+    block: &[i32],
+    literals: &mut [i32],
+    kinds: &mut [u8],
+    start: u32,
+    preferred: &[i32],
+    budget: u32,
+    output: &mut [u32],
+    answer: &mut [u64],
+) -> u32
+    ensures { λ r. ⌜ pageCalled r (now (literals .exit)) (now (kinds .exit)) (now (output .exit)) (now (answer .exit)) ≡ pageCall (now (block .entry)) (now (literals .entry)) (now (kinds .entry)) start (now (preferred .entry)) budget (now (output .entry)) (now (answer .entry)) ⌝ }
+{
+    if answer.len() < 3 {
+        return NO_ROOM;
+    }
+    let outcome = listing::page(block, literals, kinds, start, preferred, budget, output);
+    numbers::paged(outcome, answer)
 }

@@ -1,8 +1,9 @@
-// A session as three numbers, its record's length, its revision, and 0 open, 1 Valid, 2 Unsat; and what its calls answer.
+// A session as three numbers, its record's length, its revision, and 0 open, 1 Valid, 2 Unsat; and what the calls answer.
 ghost use mathlib.Core.Path.{_≡_};
 ghost use Prim.Native.Nat.{_≤_};
 ghost use lib.ListN.{length};
-ghost use Rattle.exports.specs.Called.{stateOf, numberOf, sessionOf, told, statusOf, toldBy, ranStatus, ranTold};
+ghost use Rattle.exports.specs.Called.{stateOf, numberOf, sessionOf, placed, told, statusOf, toldBy, ranStatus, ranTold, pagedStatus, pagedTold};
+use listing::Paged;
 use rules::State;
 use session::Answer;
 use session::Ran;
@@ -42,17 +43,25 @@ pub fn session_of(length: usize, revision: u64, state: u32) -> Session
     }
 }
 
-// A session's numbers, in the first three places of an answer.
+// Three numbers, in the first three places of an answer.
+fn place(x: u64, y: u64, z: u64, answer: &mut [u64])
+    requires { ⌜ 3 ≤ length (now answer) ⌝ }
+    ensures { λ r. ⌜ now (answer .exit) ≡ placed x y z (now (answer .entry)) ⌝ }
+{
+    answer[0] = x;
+    answer[1] = y;
+    answer[2] = z;
+}
+
+// A session's numbers.
 fn tell(session: Session, answer: &mut [u64])
     requires { ⌜ 3 ≤ length (now answer) ⌝ }
     ensures { λ r. ⌜ now (answer .exit) ≡ told session (now (answer .entry)) ⌝ }
 {
     let size = session.length;
-    answer[0] = size as u64;
     let revision = session.revision.0;
-    answer[1] = revision;
     let state = session.state;
-    answer[2] = number_of(state);
+    place(size as u64, revision, number_of(state), answer);
 }
 
 // What opening and a step answer: 0 and the next session's numbers, or the refusal's number alone.
@@ -81,5 +90,23 @@ pub fn ran(outcome: Ran, answer: &mut [u64]) -> u32
             0
         }
         Ran::Stopped(number) => number,
+    }
+}
+
+// What a page answers: where the next one begins, the entries written, and whether it is paused.
+pub fn paged(outcome: Paged, answer: &mut [u64]) -> u32
+    requires { ⌜ 3 ≤ length (now answer) ⌝ }
+    ensures { λ r. ⌜ (r ≡ pagedStatus outcome) × (now (answer .exit) ≡ pagedTold outcome (now (answer .entry))) ⌝ }
+{
+    match outcome {
+        Paged::Page {
+            next,
+            entries,
+            paused,
+        } => {
+            place(next as u64, entries as u64, paused as u64, answer);
+            0
+        }
+        Paged::Refused(number) => number,
     }
 }

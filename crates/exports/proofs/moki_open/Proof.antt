@@ -5,7 +5,7 @@ use Rattle.exports.proofs.moki_open.Statement.{statement}
 use Rattle.exports.proofs.moki_open.Tie as tie
 
 returns : tie.Need-returns
-returns c = no-room _ _ _ _ _ (c .if1 .taken)
+returns c = no-room _ _ _ _ (c .if1 .taken)
 
 open-requires : tie.Need-open-requires
 open-requires c κs = search needs
@@ -26,7 +26,7 @@ returns-2 : tie.Need-returns-2
 returns-2 c =
     let t = c .before .before in
     let o = t .before .before .before .before .before in
-    of-answer _ _ _ _ (o .before .before .before .if1 .left) (o .open .ensures) (t .answered .ensures .0) (t .answered .ensures .1)
+    of-answer _ _ (o .before .before .before .if1 .left) _ (o .open .ensures) (t .answered .ensures .0) (t .answered .ensures .1)
 
 pub moki-open-spec : {M : Type 1} → statement M
 moki-open-spec =

@@ -5,7 +5,7 @@ use Rattle.exports.proofs.moki_run.Statement.{statement}
 use Rattle.exports.proofs.moki_run.Tie as tie
 
 returns : tie.Need-returns
-returns c = no-room _ _ _ _ _ (c .if1 .taken)
+returns c = no-room _ _ _ _ (c .if1 .taken)
 
 session-of-requires : tie.Need-session-of-requires
 session-of-requires c κs = search needs
@@ -30,7 +30,7 @@ returns-2 c =
     let t = c .before .before in
     let o = t .before .before .before .before .before in
     let s = o .before .before .before in
-    of-ran _ _ _ _ (s .before .if1 .left) (run-of (s .session-of .ensures) _ _ _ _ _ _ (o .run .ensures)) (t .ran .ensures .0) (t .ran .ensures .1)
+    of-ran _ _ (s .before .if1 .left) _ (run-of (s .session-of .ensures) _ _ _ _ _ _ (o .run .ensures)) (t .ran .ensures .0) (t .ran .ensures .1)
 
 pub moki-run-spec : {M : Type 1} → statement M
 moki-run-spec =

@@ -7,7 +7,7 @@ use Rattle.exports.proofs.moki_step.Statement.{statement}
 use Rattle.exports.proofs.moki_step.Tie as tie
 
 returns : tie.Need-returns
-returns c = no-room _ _ _ _ _ (c .if1 .taken)
+returns c = no-room _ _ _ _ (c .if1 .taken)
 
 session-of-requires : tie.Need-session-of-requires
 session-of-requires c κs = search needs
@@ -34,7 +34,7 @@ returns-2 c =
     let s = o .before .before .before in
     let start = s .before .before .before .before in
     let kept = toZ-ofZ w32 (start .args .proposal) (start .fits .proposal) in
-    of-answer _ _ _ _ (s .before .if1 .left) (step-of (s .session-of .ensures) _ _ _ _ kept (o .step .ensures)) (t .answered .ensures .0) (t .answered .ensures .1)
+    of-answer _ _ (s .before .if1 .left) _ (step-of (s .session-of .ensures) _ _ _ _ kept (o .step .ensures)) (t .answered .ensures .0) (t .answered .ensures .1)
 
 pub moki-step-spec : {M : Type 1} → statement M
 moki-step-spec =
