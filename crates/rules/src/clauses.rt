@@ -3,6 +3,7 @@ use crate::Found;
 use crate::UnitFound;
 use crate::by_literal::LITERAL_PLACES;
 use crate::by_literal::place_at;
+use crate::tables::NO_LEVEL;
 use crate::tables::PLACES;
 use crate::variables::literal_at;
 ghost use mathlib.Core.Path.{_≡_};
@@ -75,7 +76,7 @@ fn same_at(ws: &[i32], i: usize, j: usize) -> bool
 // What the literals of a clause have shown so far.
 struct Look {
     place: usize, // of its unassigned existential literal, or the clause's end while it has none
-    above: usize, // the lowest level of its unassigned universal literals, or PLACES, above all levels, while it has none
+    above: u16, // the lowest level of its unassigned universal literals, or NO_LEVEL while it has none
     over: bool, // it has a true literal, or two different unassigned existential ones: it is no unit clause
 }
 
@@ -87,7 +88,7 @@ impl Look {
         j: usize,
         end: usize,
         statuses: &[u8; LITERAL_PLACES],
-        levels: &[usize; PLACES],
+        levels: &[u16; PLACES],
     ) -> Look
         requires { ⌜ Placed (now literals) ⌝ }
         requires { ⌜ j < end ⌝ }
@@ -117,7 +118,7 @@ impl Look {
     }
 
     // Whether all the literals up to the clause's end were seen and it is a unit clause.
-    fn is_unit(self, literals: &[i32], j: usize, end: usize, levels: &[usize; PLACES]) -> bool
+    fn is_unit(self, literals: &[i32], j: usize, end: usize, levels: &[u16; PLACES]) -> bool
         requires { ⌜ Placed (now literals) ⌝ }
         ensures { λ r. ⌜ r ≡ decidedBy (now (levels .entry)) (now (literals .entry)) j end self ⌝ }
     {
@@ -136,7 +137,7 @@ pub fn lowest_unit(
     ends: &[i32],
     literals: &[i32],
     statuses: &[u8; LITERAL_PLACES],
-    levels: &[usize; PLACES],
+    levels: &[u16; PLACES],
 ) -> UnitFound
     requires { ⌜ Clauses (now ends) (now literals) ⌝ }
     ensures { λ r. ⌜ r ≡ lowestUnitBy (statusIn (now (statuses .entry))) (levelBy (now (levels .entry))) 0 (clausesFrom (now (literals .entry)) 0 (now (ends .entry))) ⌝ }
@@ -148,7 +149,7 @@ pub fn lowest_unit(
         let end = words::size_at(ends, c);
         let mut look = Look {
             place: end,
-            above: PLACES,
+            above: NO_LEVEL,
             over: false,
         };
         let mut j = from;

@@ -11,6 +11,9 @@ ghost use Rattle.rules.specs.Tables.{signOf, Values, Universals, Levels,
 // A place for each variable, and place 0, which is no variable's.
 pub const PLACES: usize = formula::MAX_VARIABLES + 1;
 
+// More than any level: with n variables there are at most n levels.
+pub const NO_LEVEL: u16 = 257;
+
 // 1 for a positive word, 2 for a negative one.
 pub fn sign_at(ws: &[i32], i: usize) -> u8
     ensures { λ r. ⌜ r ≡ signOf (getD (now (ws .entry)) i (pos 0)) ⌝ }
@@ -51,7 +54,7 @@ pub fn universals_of(prefix: &[i32]) -> [u8; PLACES]
 }
 
 // 1 if the quantifier changes from the word at i to the next.
-fn change_at(prefix: &[i32], i: usize) -> usize
+fn change_at(prefix: &[i32], i: usize) -> u16
     requires { ⌜ i < length (now prefix) ⌝ }
     ensures { λ r. ⌜ r ≡ change (getD (now (prefix .entry)) i (pos 0)) (drop (i + 1) (now (prefix .entry))) ⌝ }
 {
@@ -67,12 +70,12 @@ fn change_at(prefix: &[i32], i: usize) -> usize
 }
 
 // The level of each variable of the prefix.
-pub fn levels_of(prefix: &[i32]) -> [usize; PLACES]
+pub fn levels_of(prefix: &[i32]) -> [u16; PLACES]
     requires { ⌜ Bound (now prefix) ⌝ }
     ensures { λ r. ⌜ Levels (now (prefix .entry)) r ⌝ }
 {
-    let mut levels = [0usize; PLACES];
-    let mut level = 0;
+    let mut levels = [0u16; PLACES];
+    let mut level: u16 = 0;
     let mut i = 0;
     while i < prefix.len() {
         let v = words::size_at(prefix, i);

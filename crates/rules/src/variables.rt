@@ -2,6 +2,7 @@
 use crate::Picked;
 use crate::by_literal::LITERAL_PLACES;
 use crate::by_literal::signs_at;
+use crate::tables::NO_LEVEL;
 use crate::tables::PLACES;
 use words::Literal;
 ghost use mathlib.Core.Path.{_≡_};
@@ -90,13 +91,13 @@ pub fn first_monotone(
     Picked::NoLiteral
 }
 
-// The lowest level of an unassigned variable, PLACES if there is none.
-fn lowest_unassigned(prefix: &[i32], values: &[u8; PLACES], levels: &[usize; PLACES]) -> usize
+// The lowest level of an unassigned variable, NO_LEVEL if there is none.
+fn lowest_unassigned(prefix: &[i32], values: &[u8; PLACES], levels: &[u16; PLACES]) -> u16
     requires { ⌜ Bound (now prefix) ⌝ }
     requires { ⌜ Levels (now prefix) (now levels) ⌝ }
     ensures { λ r. ⌜ ((ρ : Assignment) → Values ρ (now (values .entry)) → Lowest (now (prefix .entry)) ρ r) ⌝ }
 {
-    let mut lowest = PLACES;
+    let mut lowest: u16 = NO_LEVEL;
     let mut i = 0;
     while i < prefix.len() {
         let v = words::size_at(prefix, i);
@@ -115,8 +116,8 @@ fn open_variable(
     v: usize,
     prefix: &[i32],
     values: &[u8; PLACES],
-    levels: &[usize; PLACES],
-    lowest: usize,
+    levels: &[u16; PLACES],
+    lowest: u16,
 ) -> bool
     requires { ⌜ Bound (now prefix) ⌝ }
     requires { ⌜ Levels (now prefix) (now levels) ⌝ }
@@ -138,7 +139,7 @@ fn open_variable(
 pub fn is_open(
     prefix: &[i32],
     values: &[u8; PLACES],
-    levels: &[usize; PLACES],
+    levels: &[u16; PLACES],
     literal: Literal,
 ) -> bool
     requires { ⌜ Bound (now prefix) ⌝ }
@@ -154,7 +155,7 @@ pub fn is_open(
 pub fn first_open(
     prefix: &[i32],
     values: &[u8; PLACES],
-    levels: &[usize; PLACES],
+    levels: &[u16; PLACES],
     preferred: &[i32],
 ) -> Literal
     requires { ⌜ Bound (now prefix) ⌝ }

@@ -4,6 +4,7 @@ use borrow.Author.Needs.{needs}
 use native.Mathlib.Omega.{arith}
 use lib.IntN.{pos}
 use lib.ListN.{length, getD, drop}
+use Rattle.formula.specs.Limits.{variables-are}
 use Rattle.formula.specs.Prefix.{change-few, fresh-at}
 use Rattle.rules.proofs.Filled.{placed, bound-named}
 use Rattle.rules.proofs.Levels.{Levelled, begin, turn, end}
@@ -41,7 +42,7 @@ add-level c =
     let turned = c .before .before in
     let start = turned .before .before in
     let few = change-few (getD (start .args .prefix .now) (turned .before .loop .i) (pos 0)) (drop (turned .before .loop .i + 1) (start .args .prefix .now)) in
-    omega (arith, c .change-at .ensures)
+    omega (arith, c .change-at .ensures, start .pre .room, variables-are)
 
 add-i : tie.Need-add-i Inv-loop μ-loop
 add-i c = omega arith
