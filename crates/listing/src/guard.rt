@@ -3,32 +3,9 @@ ghost use mathlib.Core.Path.{_≡_};
 ghost use mathlib.Core.List.{[]};
 ghost use Rattle.formula.specs.Block.{first};
 ghost use Rattle.rules.specs.Ready.{formula};
-ghost use Rattle.session.specs.Refusals.{short, openRefusal};
 ghost use Rattle.listing.specs.Page.{pageRefusal};
 ghost use Rattle.listing.specs.Rows.{pageRows};
 use crate::openings;
-use formula::Checked;
-
-// Whether a buffer has fewer than V places.
-fn is_short(block: &[i32], lits: &[i32], kinds: &[u8]) -> bool
-    ensures { λ r. ⌜ r ≡ short (now (block .entry)) (now (lits .entry)) (now (kinds .entry)) ⌝ }
-{
-    let n = words::size_at(block, 0);
-    if lits.len() < n {
-        return true;
-    }
-    kinds.len() < n
-}
-
-// Rows 1 to 11: the number of the first that applies, 0 if none does.
-fn of_buffers(block: &[i32], lits: &[i32], kinds: &[u8]) -> u32
-    ensures { λ r. ⌜ r ≡ openRefusal (now (block .entry)) (now (lits .entry)) (now (kinds .entry)) ⌝ }
-{
-    match formula::check(block) {
-        Checked::Refused(number) => number,
-        Checked::Accepted => if is_short(block, lits, kinds) { 11 } else { 0 },
-    }
-}
 
 // Rows 18 to 21, which look at the prefix and at no clause.
 fn of_openings(prefix: &[i32], start: u32, output: &[u32]) -> u32
@@ -54,7 +31,7 @@ fn of_openings(prefix: &[i32], start: u32, output: &[u32]) -> u32
 pub fn of_page(block: &[i32], lits: &[i32], kinds: &[u8], start: u32, output: &[u32]) -> u32
     ensures { λ r. ⌜ r ≡ pageRefusal (now (block .entry)) (now (lits .entry)) (now (kinds .entry)) start (now (output .entry)) ⌝ }
 {
-    let refused = of_buffers(block, lits, kinds);
+    let refused = session::of_buffers(block, lits, kinds);
     if refused != 0 {
         return refused;
     }

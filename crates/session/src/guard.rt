@@ -24,7 +24,7 @@ fn is_short(block: &[i32], lits: &[i32], kinds: &[u8]) -> bool
     kinds.len() < n
 }
 
-// Rows 1 to 11: the number of the first that applies, 0 if none does.
+// Rows 1 to 11: the number of the first that applies, 0 if none does. A page asks them too.
 pub fn of_buffers(block: &[i32], lits: &[i32], kinds: &[u8]) -> u32
     ensures { λ r. ⌜ r ≡ openRefusal (now (block .entry)) (now (lits .entry)) (now (kinds .entry)) ⌝ }
 {

@@ -7,6 +7,7 @@ mod guard; // which row of the table turns a call away
 mod parts; // the block's parts, lent to the rules
 mod searches; // rule after rule
 
+pub use guard::of_buffers;
 use rules::Reached;
 use rules::State;
 pub use searches::Searched;
