@@ -11,9 +11,9 @@ use lib.ListN.{length, take, drop, getD}
 use borrow.Author.Tests.{lt-ltb, eq-eqb, ne-eqb}
 use Rattle.words.specs.Words.{negative}
 use Rattle.formula.specs.Limits.{Limits}
-use Rattle.formula.specs.Formula.{word, variablesOf, clauseCountOf, literalCountOf, prefixOf, endsOf, literalsOf}
+use Rattle.formula.specs.Formula.{word, variablesOf, clauseCountOf, literalCountOf, prefixOf}
 use Rattle.formula.specs.Block.{first, rows}
-use Rattle.formula.specs.Layout.{prefix-last, prefix-length, literals-length}
+use Rattle.formula.specs.Layout.{prefix-last, prefix-length, literals-length, prefix-lent, ends-lent, literals-lent}
 use Rattle.formula.specs.Tables.{partRows}
 
 -- the last of as many words as there are variables
@@ -38,18 +38,15 @@ module _ {b : List ℤ} {v c t : ℕ} (r : Read b v c t) where
     whole : length b ≡ 6 + variablesOf b + clauseCountOf b + literalCountOf b
     whole = omega arith
 
-    -- the parts as they were lent
-    pub prefix-is : take (6 + v - 6) (drop 6 b) ≡ prefixOf b
-    prefix-is = let e : 6 + v - 6 ≡ v = omega arith in rw (e, r .v-is)
+    -- the offsets as they were read
+    prefix-end : 6 + v ≡ 6 + variablesOf b
+    prefix-end = omega arith
 
-    ends-is : take (6 + v + c - (6 + v)) (drop (6 + v) b) ≡ endsOf b
-    ends-is = let e : 6 + v + c - (6 + v) ≡ c = omega arith in rw (e, r .v-is, r .c-is)
-
-    literals-is : take (length b - (6 + v + c)) (drop (6 + v + c) b) ≡ literalsOf b
-    literals-is = let e : length b - (6 + v + c) ≡ t = omega arith in rw (e, r .v-is, r .c-is, r .t-is)
+    literals-from : 6 + v + c ≡ 6 + variablesOf b + clauseCountOf b
+    literals-from = omega arith
 
     pub prefix-long : length (take (6 + v - 6) (drop 6 b)) ≡ v
-    prefix-long = ap length prefix-is ∙ prefix-length b whole ∙ sym (r .v-is)
+    prefix-long = ap length (prefix-lent b prefix-end) ∙ prefix-length b whole ∙ sym (r .v-is)
 
     pub right-length : (L : Limits) → first 4 (drop 3 (rows L b)) ≡ first 5 (partRows (take (6 + v - 6) (drop 6 b)) (take (6 + v + c - (6 + v)) (drop (6 + v) b)) (take (length b - (6 + v + c)) (drop (6 + v + c) b)))
-    right-length L = rw (prefix-is, ends-is, literals-is, eq-eqb (length b) (6 + variablesOf b + clauseCountOf b + literalCountOf b) whole, prefix-length b whole, literals-length b whole, last b)
+    right-length L = rw (prefix-lent b prefix-end, ends-lent b prefix-end literals-from, literals-lent b whole literals-from, eq-eqb (length b) (6 + variablesOf b + clauseCountOf b + literalCountOf b) whole, prefix-length b whole, literals-length b whole, last b)

@@ -85,6 +85,13 @@ module _ {L : Limits} {b : List ℤ} (a : Accepted L b) where
   pub literals-length : length (literalsOf b) ≡ literalCountOf b
   literals-length = layout.literals-length b (a .whole)
 
+  -- where the prefix ends and the literals begin is within the block
+  pub prefix-within : {e : ℕ} → e ≡ 6 + variablesOf b → e ≤ length b
+  prefix-within is = omega (arith, a .whole)
+
+  pub ends-within : {l : ℕ} → l ≡ 6 + variablesOf b + clauseCountOf b → l ≤ length b
+  ends-within is = omega (arith, a .whole)
+
   -- every prefix word and every literal names one of the V variables: at each place, and wherever a literal is met
   pub prefix-named : AllNamed (variablesOf b) (prefixOf b)
   prefix-named = all-named (variablesOf b) (prefixOf b) (a .known)

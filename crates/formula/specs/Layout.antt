@@ -75,6 +75,17 @@ module _ (b : List ℤ) (whole : length b ≡ 6 + variablesOf b + clauseCountOf 
   pub literals-length : length (literalsOf b) ≡ literalCountOf b
   literals-length = part (literalCountOf b) (6 + variablesOf b + clauseCountOf b) (omega arith)
 
+-- ---- the parts as they are lent, from one offset to the next: e is where the prefix ends, l where the literals begin
+module _ (b : List ℤ) {e : ℕ} (is : e ≡ 6 + variablesOf b) where
+  pub prefix-lent : take (e - 6) (drop 6 b) ≡ prefixOf b
+  prefix-lent = let d : e - 6 ≡ variablesOf b = omega arith in rw d
+
+  pub ends-lent : {l : ℕ} → l ≡ 6 + variablesOf b + clauseCountOf b → take (l - e) (drop e b) ≡ endsOf b
+  ends-lent {l} at = let d : l - e ≡ clauseCountOf b = omega arith in rw (d, is)
+
+pub literals-lent : (b : List ℤ) → length b ≡ 6 + variablesOf b + clauseCountOf b + literalCountOf b → {l : ℕ} → l ≡ 6 + variablesOf b + clauseCountOf b → take (length b - l) (drop l b) ≡ literalsOf b
+literals-lent b whole {l} at = let d : length b - l ≡ literalCountOf b = omega arith in rw (d, at)
+
 -- ---- the parts' words where they stand in the block
 module _ (b : List ℤ) (i : ℕ) where
   pub prefix-at : i < variablesOf b → getD (prefixOf b) i (pos 0) ≡ word b (6 + i)

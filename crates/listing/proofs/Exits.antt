@@ -14,7 +14,7 @@ use Rattle.rules.specs.Apply.{reached}
 use Rattle.rules.specs.Ready.{Bound}
 use Rattle.rules.specs.Buffers.{Room, Wiped}
 use Rattle.session.specs.Accepted.{prefix-length, accepted-bound}
-use Rattle.session.proofs.Lent.{prefix-lent}
+use Rattle.formula.specs.Layout.{prefix-lent}
 use Rattle.listing.specs.declared.Paged.{Paged}
 use Rattle.listing.specs.declared.Paged.the-variants.{Page, Refused}
 use Rattle.listing.specs.Opening.{searchOf}
@@ -109,7 +109,7 @@ module _ (b ls : List ℤ) (ks : List ℕ) (start : ℕ) (out : List ℕ) {r : �
 
     module _ {v : ℕ} (is : v ≡ variablesOf b) where
       pub on-page : {k : ℕ} → k ≡ firstGroup (take (6 + v - 6) (drop 6 b)) → OnPage b ls ks k start out
-      on-page q = record { guard = passed; group = q ∙ ap firstGroup (prefix-lent b (passed .block) (ap (λ n. 6 + n) is)) }
+      on-page q = record { guard = passed; group = q ∙ ap firstGroup (prefix-lent b (ap (λ n. 6 + n) is)) }
 
       module _ {ls′ : List ℤ} {ks′ : List ℕ} where
         pub still-room : length ls′ ≡ length ls → length ks′ ≡ length ks → Room v ls′ ks′

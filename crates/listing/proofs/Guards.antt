@@ -13,7 +13,7 @@ use Rattle.formula.specs.Formula.{word, variablesOf, formulaOf, firstGroup}
 use Rattle.formula.specs.Block.{first}
 use Rattle.rules.specs.Ready.{formula}
 use Rattle.session.specs.Refusals.{openRefusal}
-use Rattle.session.proofs.Lent.{opened, prefix-lent}
+use Rattle.formula.specs.Layout.{prefix-lent}
 use Rattle.listing.specs.Page.{after, pageRefusal}
 use Rattle.listing.specs.Rows.{pageRows}
 
@@ -57,4 +57,4 @@ module _ (b ls : List ℤ) (ks : List ℕ) (start : ℕ) (out : List ℕ) {r : �
 
   pub page-openings : (z : r ≡ 0) {v : ℕ} → v ≡ variablesOf b → {q : ℕ} → q ≡ first 18 (rowsOf (take (6 + v - 6) (drop 6 b)) start out) → q ≡ pageRefusal b ls ks start out
   unfolding pageRefusal formulaOf
-  page-openings z is p = p ∙ rw (← e, z, prefix-lent b (opened b ls ks e z .block) (ap (λ n. 6 + n) is))
+  page-openings z is p = p ∙ rw (← e, z, prefix-lent b (ap (λ n. 6 + n) is))

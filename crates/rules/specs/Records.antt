@@ -264,9 +264,6 @@ good-in {p} {ls} {ks} {n} g {e} i =
 
 -- ---- checked input, before and after row 12
 module _ {p ls : List ℤ} {ks : List ℕ} {n : ℕ} where
-  pub lent-kept : Lent p ls ks → badRecord p ls ks n ≡ false → Kept p ls ks n
-  lent-kept l h = record { prefix = l .prefix; lits-room = l .room .lits; kinds-room = l .room .kinds; good = h }
-
   pub kept-lent : Kept p ls ks n → Lent p ls ks
   kept-lent k = record { prefix = k .prefix; room = record { lits = k .lits-room; kinds = k .kinds-room } }
 

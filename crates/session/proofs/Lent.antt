@@ -1,4 +1,4 @@
--- The parts of an accepted block, as they are lent to the rules, and what the rows passed so far say of the buffers.
+-- What the rows passed so far say of the block and the buffers that are lent to the rules.
 use Prim.Native.Nat.{ℕ, _+_, _-_, _≤_}
 use mathlib.Core.Path.{_≡_, sym, _∙_}
 use mathlib.Core.Bool.{false}
@@ -26,29 +26,6 @@ use Rattle.session.specs.Refusals.{short, openRows, openRefusal}
 use Rattle.session.specs.Rows.{after-zero}
 use Rattle.session.specs.Checked.{sessionRows, sessionRefusal, BuffersOn, OnBlock, HeldOn}
 use Rattle.session.specs.Accepted.{prefix-length, accepted-bound, Guarded, guarded}
-
-module _ (b : List ℤ) (h : refusal limits b ≡ 0) where
-  -- the prefix, up to where it ends
-  module _ {e : ℕ} (is : e ≡ 6 + variablesOf b) where
-    pub prefix-within : e ≤ length b
-    prefix-within = let w = accepted limits b h .whole in omega arith
-
-    pub prefix-lent : take (e - 6) (drop 6 b) ≡ prefixOf b
-    prefix-lent = let d : e - 6 ≡ variablesOf b = omega arith in rw d
-
-    -- the clause ends, and the literals after them
-    module _ {l : ℕ} (ends-at : l ≡ 6 + variablesOf b + clauseCountOf b) where
-      pub ends-within : l ≤ length b
-      ends-within = let w = accepted limits b h .whole in omega arith
-
-      pub ends-lent : take (l - e) (drop e b) ≡ endsOf b
-      ends-lent = let d : l - e ≡ clauseCountOf b = omega arith in rw (d, is)
-
-      pub literals-lent : take (length b - l) (drop l b) ≡ literalsOf b
-      literals-lent =
-          let w = accepted limits b h .whole in
-          let d : length b - l ≡ literalCountOf b = omega arith in
-          rw (d, ends-at)
 
 -- rows 1 to 11 have passed
 pub opened : (b ls : List ℤ) (ks : List ℕ) {r : ℕ} → r ≡ openRefusal b ls ks → r ≡ 0 → BuffersOn b ls ks

@@ -113,10 +113,6 @@ unfolding rest
 rest-unset [] ρ h = refl
 rest-unset (q ∷ p) ρ h = rw (h q (here refl), rest-unset p ρ (λ x i. h x (there i)))
 
--- so under values for a prefix's first words the rest is the other words
-pub rest-split : (a b : List ℤ) (ρ : Assignment) → allAssigned a ρ ≡ true → ((x : ℤ) → In x b → assigned ρ x ≡ false) → rest (a ++ b) ρ ≡ b
-rest-split a b ρ h k = rw (rest-append a b ρ, rest-set a ρ h) (rest-unset b ρ k)
-
 -- ---- a formula under a record
 -- the value under a record is the truth of the rest
 pub value-under : (F : Formula) → Proper F → (r : Record) → valueOf F (trueIn r) ≡ trueUnder F r

@@ -118,19 +118,6 @@ module _ {A : Type 0} where
     unfolding any
     any-ended h = rw (ended xs i h)
 
-    -- and of all elements
-    pub all-failed : (d : A) → i < length xs → f (getD xs i d) ≡ false → all f (drop i xs) ≡ false
-    unfolding all
-    all-failed d h e = rw (next xs i d h, e)
-
-    pub all-past : (d : A) → i < length xs → f (getD xs i d) ≡ true → all f (drop (i + 1) xs) ≡ all f (drop i xs)
-    unfolding all
-    all-past d h e = rw (next xs i d h, e)
-
-    pub all-ended : length xs ≤ i → all f (drop i xs) ≡ true
-    unfolding all
-    all-ended h = rw (ended xs i h)
-
   -- an element by its place, and the place of an element
   pub in-at : (xs : List A) (i : ℕ) (d : A) → i < length xs → In (getD xs i d) xs
   in-at [] i d h = absurd (not-suc-le-zero h)

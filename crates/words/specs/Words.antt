@@ -48,9 +48,6 @@ eqZ-eq (negsuc m) (negsuc n) h = ap negsuc (eqb→eq m n (eq→T h))
 pub eqZ-ne : {x y : ℤ} → (x ≡ y → ⊥) → eqZ x y ≡ false
 eqZ-ne {x} {y} f = to-false _ (λ e. f (eqZ-eq x y e))
 
-pub neq : {x y : ℤ} → eqZ x y ≡ false → x ≡ y → ⊥
-neq {x} {y} h e = clash (rw e (eqZ-refl y)) h
-
 -- words of different variables differ; two words of one size are the same if their signs are
 pub other-word : (x w : ℤ) → (natAbs x ≡ natAbs w → ⊥) → eqZ x w ≡ false
 other-word x w k = eqZ-ne (λ e. k (ap natAbs e))

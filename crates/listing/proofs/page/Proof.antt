@@ -4,8 +4,7 @@ use mathlib.Core.Path.{ap}
 use native.Mathlib.Omega.{arith}
 use borrow.Author.Needs.{needs}
 use Rattle.formula.specs.Limits.{limits, variables-are}
-use Rattle.formula.specs.Accepted.{accepted, variables-most}
-use Rattle.session.proofs.Lent.{prefix-within}
+use Rattle.formula.specs.Accepted.{accepted, variables-most, prefix-within}
 use Rattle.listing.proofs.Exits.{refuses, passed, on-page, still-room, cleans}
 use Rattle.listing.proofs.page.Statement.{statement}
 use Rattle.listing.proofs.page.Tie as tie
@@ -42,7 +41,7 @@ part-first-group-start c = search needs
 part-first-group-end : tie.Need-part-first-group-end
 part-first-group-end c =
     let h = passed _ _ _ _ _ (c .before .before .of-page .ensures) (c .before .if1 .left) .block in
-    prefix-within _ h (ap (λ n. 6 + n) (c .size-at .ensures))
+    prefix-within (accepted limits _ h) (ap (λ n. 6 + n) (c .size-at .ensures))
 
 first-group-requires : tie.Need-first-group-requires
 first-group-requires c κs = search needs

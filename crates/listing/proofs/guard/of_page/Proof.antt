@@ -3,8 +3,8 @@ use Prim.Native.Nat.{_+_}
 use mathlib.Core.Path.{ap}
 use native.Mathlib.Omega.{arith}
 use Rattle.formula.specs.Limits.{limits, variables-are}
-use Rattle.formula.specs.Accepted.{accepted, variables-most}
-use Rattle.session.proofs.Lent.{opened, prefix-within}
+use Rattle.formula.specs.Accepted.{accepted, variables-most, prefix-within}
+use Rattle.session.proofs.Lent.{opened}
 use Rattle.listing.proofs.Guards.{page-buffers, page-openings}
 use borrow.Author.Needs.{needs}
 use Rattle.listing.proofs.guard.of_page.Statement.{statement}
@@ -35,7 +35,7 @@ part-of-openings-end : tie.Need-part-of-openings-end
 part-of-openings-end c =
     let o = c .before in
     let h = opened _ _ _ (o .before .of-buffers .ensures) (o .if1 .left) .block in
-    prefix-within _ h (ap (λ n. 6 + n) (c .size-at .ensures))
+    prefix-within (accepted limits _ h) (ap (λ n. 6 + n) (c .size-at .ensures))
 
 of-openings-requires : tie.Need-of-openings-requires
 of-openings-requires c κs = search needs

@@ -1,6 +1,9 @@
 -- The part that is lent is the prefix, and the due rule has a place to write to.
 use borrow.Author.Needs.{needs}
-use Rattle.session.proofs.Lent.{prefix-within, prefix-lent, fitting}
+use Rattle.formula.specs.Limits.{limits}
+use Rattle.formula.specs.Layout.{prefix-lent}
+use Rattle.formula.specs.Accepted.{accepted, prefix-within}
+use Rattle.session.proofs.Lent.{fitting}
 use Rattle.session.proofs.parts.apply.Statement.{statement}
 use Rattle.session.proofs.parts.apply.Tie as tie
 
@@ -14,13 +17,13 @@ part-apply-start : tie.Need-part-apply-start
 part-apply-start c = search needs
 
 part-apply-end : tie.Need-part-apply-end
-part-apply-end c = prefix-within _ (c .before .before .pre .0 .block) (c .prefix-end .ensures)
+part-apply-end c = prefix-within (accepted limits _ (c .before .before .pre .0 .block)) (c .prefix-end .ensures)
 
 apply-requires : tie.Need-apply-requires
 apply-requires c κs =
     let p = c .before .before .before in
     let start = p .before .before in
-    rw (prefix-lent (start .args .block .now) (start .pre .0 .block) (p .prefix-end .ensures), start .pre .1)
+    rw (prefix-lent (start .args .block .now) (p .prefix-end .ensures), start .pre .1)
     (start .pre .0 .kept, fitting (start .pre .0))
 
 same-length : tie.Need-same-length
@@ -34,7 +37,7 @@ returns c =
     let a = c .before .before .before in
     let p = a .before .before .before .before in
     let start = p .before .before in
-    rw (← prefix-lent (start .args .block .now) (start .pre .0 .block) (p .prefix-end .ensures)) (a .apply .ensures)
+    rw (← prefix-lent (start .args .block .now) (p .prefix-end .ensures)) (a .apply .ensures)
 
 pub apply-spec : {M : Type 1} → statement M
 apply-spec =

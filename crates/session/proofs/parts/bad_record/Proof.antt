@@ -1,6 +1,8 @@
 -- The part that is lent is the prefix, and rows 1 to 11 have passed.
 use borrow.Author.Needs.{needs}
-use Rattle.session.proofs.Lent.{prefix-within, prefix-lent}
+use Rattle.formula.specs.Limits.{limits}
+use Rattle.formula.specs.Layout.{prefix-lent}
+use Rattle.formula.specs.Accepted.{accepted, prefix-within}
 use Rattle.session.proofs.parts.bad_record.Statement.{statement}
 use Rattle.session.proofs.parts.bad_record.Tie as tie
 
@@ -14,17 +16,17 @@ part-bad-record-start : tie.Need-part-bad-record-start
 part-bad-record-start c = search needs
 
 part-bad-record-end : tie.Need-part-bad-record-end
-part-bad-record-end c = prefix-within _ (c .before .before .pre .block) (c .prefix-end .ensures)
+part-bad-record-end c = prefix-within (accepted limits _ (c .before .before .pre .block)) (c .prefix-end .ensures)
 
 bad-record-requires : tie.Need-bad-record-requires
 bad-record-requires c κs =
     let start = c .before .before .before in
-    rw (prefix-lent (start .args .block .now) (start .pre .block) (c .before .prefix-end .ensures)) (start .pre .lent)
+    rw (prefix-lent (start .args .block .now) (c .before .prefix-end .ensures)) (start .pre .lent)
 
 returns : tie.Need-returns
 returns c =
     let start = c .before .before .before .before in
-    rw (← prefix-lent (start .args .block .now) (start .pre .block) (c .before .before .prefix-end .ensures)) (c .bad-record .ensures)
+    rw (← prefix-lent (start .args .block .now) (c .before .before .prefix-end .ensures)) (c .bad-record .ensures)
 
 pub bad-record-spec : {M : Type 1} → statement M
 bad-record-spec =

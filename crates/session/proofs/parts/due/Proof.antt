@@ -1,19 +1,27 @@
 -- The parts that are lent are the prefix, the clause ends and the literals, and their formula is the block's.
-use Prim.Native.Nat.{_+_}
+use Prim.Native.Nat.{_+_, _≤_}
 use mathlib.Core.Path.{_≡_}
 use native.Mathlib.Omega.{arith}
+use lib.ListN.{length}
 use borrow.Author.Needs.{needs}
 use Rattle.formula.specs.Limits.{limits, variables-are, clauses-are}
 use Rattle.formula.specs.Formula.{variablesOf, clauseCountOf}
-use Rattle.formula.specs.Accepted.{accepted, variables-most, clauses-most}
+use Rattle.formula.specs.Layout.{prefix-lent, ends-lent, literals-lent}
+use Rattle.formula.specs.Accepted.{Accepted, accepted, variables-most, clauses-most, prefix-within, ends-within}
 use Rattle.session.specs.Accepted.{accepted-ready, formula-is}
-use Rattle.session.proofs.Lent.{prefix-within, prefix-lent, ends-within, ends-lent, literals-lent}
 use Rattle.session.proofs.parts.due.Statement.{statement}
 use Rattle.session.proofs.parts.due.Tie as tie
 
--- where the literals begin
+-- the block is accepted
+block : (c : tie.Start) → Accepted limits (c .args .block .now)
+block c = accepted limits (c .args .block .now) (c .pre .block)
+
+-- where the literals begin, which is within it
 ends-at : (c : tie.After-size-at) → let b = c .before .before .before .args .block .now in c .before .prefix-end .result + c .size-at .result ≡ 6 + variablesOf b + clauseCountOf b
 ends-at c = rw (c .before .prefix-end .ensures, c .size-at .ensures)
+
+ends-inside : (c : tie.After-size-at) → c .before .prefix-end .result + c .size-at .result ≤ length (c .before .before .before .args .block .now)
+ends-inside c = ends-within (block (c .before .before .before)) (ends-at c)
 
 prefix-end-requires : tie.Need-prefix-end-requires
 prefix-end-requires c κs = search needs
@@ -24,8 +32,7 @@ size-at-requires c κs = search needs
 add-literals : tie.Need-add-literals
 add-literals c =
     let start = c .before .before .before in
-    let a = accepted limits (start .args .block .now) (start .pre .block) in
-    omega (arith, variables-are, clauses-are, ends-at c, variables-most a, clauses-most a)
+    omega (arith, variables-are, clauses-are, ends-at c, variables-most (block start), clauses-most (block start))
 
 sub-due : tie.Need-sub-due
 sub-due c = search needs
@@ -34,13 +41,13 @@ part-due-start : tie.Need-part-due-start
 part-due-start c = search needs
 
 part-due-end : tie.Need-part-due-end
-part-due-end c = prefix-within _ (c .before .before .before .pre .block) (c .before .prefix-end .ensures)
+part-due-end c = prefix-within (block (c .before .before .before)) (c .before .prefix-end .ensures)
 
 mul-due : tie.Need-mul-due
 mul-due c =
     let s = c .before in
     let start = s .before .before .before in
-    omega (arith, start .good .0, prefix-within _ (start .pre .block) (s .before .prefix-end .ensures))
+    omega (arith, start .good .0, prefix-within (block start) (s .before .prefix-end .ensures))
 
 sub-due-2 : tie.Need-sub-due-2
 sub-due-2 c = search needs
@@ -49,25 +56,18 @@ part-due-start-2 : tie.Need-part-due-start-2
 part-due-start-2 c = search needs
 
 part-due-end-2 : tie.Need-part-due-end-2
-part-due-end-2 c =
-    let s = c .before in
-    ends-within _ (s .before .before .before .pre .block) (s .before .prefix-end .ensures) (ends-at s)
+part-due-end-2 c = ends-inside (c .before)
 
 mul-due-2 : tie.Need-mul-due-2
 mul-due-2 c =
     let s = c .before .before in
-    let start = s .before .before .before in
-    omega (arith, start .good .0, ends-within _ (start .pre .block) (s .before .prefix-end .ensures) (ends-at s))
+    omega (arith, s .before .before .before .good .0, ends-inside s)
 
 sub-due-3 : tie.Need-sub-due-3
-sub-due-3 c =
-    let s = c .before .before in
-    ends-within _ (s .before .before .before .pre .block) (s .before .prefix-end .ensures) (ends-at s)
+sub-due-3 c = ends-inside (c .before .before)
 
 part-due-start-3 : tie.Need-part-due-start-3
-part-due-start-3 c =
-    let s = c .before .before in
-    ends-within _ (s .before .before .before .pre .block) (s .before .prefix-end .ensures) (ends-at s)
+part-due-start-3 c = ends-inside (c .before .before)
 
 part-due-end-3 : tie.Need-part-due-end-3
 part-due-end-3 c = search needs
@@ -77,18 +77,16 @@ due-requires c κs =
     let s = c .before .before .before in
     let start = s .before .before .before in
     let b = start .args .block .now in
-    let h = start .pre .block in
     let p = s .before .prefix-end .ensures in
-    rw (prefix-lent b h p, ends-lent b h p (ends-at s), literals-lent b h p (ends-at s)) (accepted-ready b h, start .pre .kept)
+    rw (prefix-lent b p, ends-lent b p (ends-at s), literals-lent b (block start .whole) (ends-at s)) (accepted-ready b (start .pre .block), start .pre .kept)
 
 returns : tie.Need-returns
 returns c =
     let s = c .before .before .before .before in
     let start = s .before .before .before in
     let b = start .args .block .now in
-    let h = start .pre .block in
     let p = s .before .prefix-end .ensures in
-    rw (formula-is b, ← prefix-lent b h p, ← ends-lent b h p (ends-at s), ← literals-lent b h p (ends-at s)) (c .due .ensures)
+    rw (formula-is b, ← prefix-lent b p, ← ends-lent b p (ends-at s), ← literals-lent b (block start .whole) (ends-at s)) (c .due .ensures)
 
 pub due-spec : {M : Type 1} → statement M
 due-spec =

@@ -1,6 +1,8 @@
 -- The part that is lent is the prefix.
 use borrow.Author.Needs.{needs}
-use Rattle.session.proofs.Lent.{prefix-within, prefix-lent}
+use Rattle.formula.specs.Limits.{limits}
+use Rattle.formula.specs.Layout.{prefix-lent}
+use Rattle.formula.specs.Accepted.{accepted, prefix-within}
 use Rattle.session.proofs.parts.open.Statement.{statement}
 use Rattle.session.proofs.parts.open.Tie as tie
 
@@ -14,17 +16,17 @@ part-open-start : tie.Need-part-open-start
 part-open-start c = search needs
 
 part-open-end : tie.Need-part-open-end
-part-open-end c = prefix-within _ (c .before .pre .block) (c .prefix-end .ensures)
+part-open-end c = prefix-within (accepted limits _ (c .before .pre .block)) (c .prefix-end .ensures)
 
 open-requires : tie.Need-open-requires
 open-requires c κs =
     let start = c .before .before in
-    rw (prefix-lent (start .args .block .now) (start .pre .block) (c .before .prefix-end .ensures)) (start .pre .held)
+    rw (prefix-lent (start .args .block .now) (c .before .prefix-end .ensures)) (start .pre .held)
 
 returns : tie.Need-returns
 returns c =
     let start = c .before .before .before in
-    rw (← prefix-lent (start .args .block .now) (start .pre .block) (c .before .before .prefix-end .ensures)) (c .open .ensures)
+    rw (← prefix-lent (start .args .block .now) (c .before .before .prefix-end .ensures)) (c .open .ensures)
 
 pub open-spec : {M : Type 1} → statement M
 open-spec =
