@@ -1,12 +1,10 @@
 -- What a call from another language leaves: its status, and the content of each lent buffer, the numbers of the answer among them. The calls
 -- themselves are those of the crates below, by the same definitions.
 use Prim.Native.Nat.{ℕ, zero, suc}
-use mathlib.Core.Bool.{Bool, true, false}
-use mathlib.Core.List.{List, [], _∷_}
+use mathlib.Core.List.{List}
 use lib.Dec.{ltb}
 use lib.IntN.{ℤ}
 use lib.ListN.{length, set}
-use Rattle.words.specs.declared.Literal.{Literal}
 use Rattle.rules.specs.declared.State.{State}
 use Rattle.rules.specs.declared.State.the-variants.{Open, Valid, Unsat}
 use Rattle.rules.specs.Due.{pick, literal}

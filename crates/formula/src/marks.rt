@@ -2,7 +2,7 @@
 // the marks are those of the rest of the list.
 ghost use mathlib.Core.Path.{_≡_};
 ghost use mathlib.Core.Bool.{false};
-ghost use Prim.Native.Nat.{ℕ, _+_, _≤_};
+ghost use Prim.Native.Nat.{_+_, _≤_};
 ghost use lib.ListN.{length};
 ghost use Rattle.words.specs.Lists.{any};
 ghost use Rattle.formula.specs.Limits.{limits};

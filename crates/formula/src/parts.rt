@@ -1,7 +1,7 @@
 // Rows 5 to 10: the prefix, the clause ends and the literals, each a slice of its own.
 ghost use mathlib.Core.Path.{_≡_};
 ghost use mathlib.Core.Bool.{false};
-ghost use Prim.Native.Nat.{ℕ, _≤_};
+ghost use Prim.Native.Nat.{_≤_};
 ghost use lib.ListN.{length};
 ghost use Rattle.words.specs.Lists.{any};
 ghost use Rattle.formula.specs.Limits.{limits};

@@ -1,5 +1,5 @@
 -- A word raised by the number of variables is its place: in the wider type every sum here fits, and it is not negative.
-use mathlib.Core.Path.{_≡_, sym, _∙_, ap}
+use mathlib.Core.Path.{_≡_, _∙_, ap}
 use mathlib.Core.List.{List}
 use Prim.Native.Nat.{ℕ, _≤_, _<_, _^_}
 use native.Mathlib.Nat.{lt-trans}

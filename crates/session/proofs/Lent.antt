@@ -1,17 +1,16 @@
 -- What the rows passed so far say of the block and the buffers that are lent to the rules.
-use Prim.Native.Nat.{ℕ, _+_, _-_, _≤_}
+use Prim.Native.Nat.{ℕ, _-_}
 use mathlib.Core.Path.{_≡_, sym, _∙_}
 use mathlib.Core.Bool.{false}
 use mathlib.Core.List.{List}
 use native.Mathlib.Omega.{arith}
 use lib.Dec.{ltb}
 use lib.IntN.{ℤ}
-use lib.ListN.{length, take, drop}
+use lib.ListN.{length}
 use Rattle.words.specs.Bools.{or-fl, or-fr}
 use Rattle.formula.specs.Limits.{limits}
-use Rattle.formula.specs.Formula.{variablesOf, clauseCountOf, literalCountOf, prefixOf, endsOf, literalsOf, formulaOf}
+use Rattle.formula.specs.Formula.{variablesOf, prefixOf, formulaOf}
 use Rattle.formula.specs.Block.{refusal}
-use Rattle.formula.specs.Accepted.{accepted}
 use Rattle.rules.specs.declared.State.the-variants.{Open}
 use Rattle.rules.specs.Due.{due}
 use Rattle.rules.specs.Apply.{search, recordOf}

@@ -9,8 +9,8 @@ use Rattle.session.specs.declared.Answer.{Answer}
 use Rattle.session.specs.declared.Answer.the-variants.{To, Refused}
 use Rattle.session.specs.declared.Ran.{Ran}
 use Rattle.session.specs.declared.Ran.the-variants.{Until, Stopped}
-use Rattle.session.specs.Outcome.{Outcome, stepOutcome}
-use Rattle.session.specs.Run.{RunOutcome, runOf}
+use Rattle.session.specs.Outcome.{stepOutcome}
+use Rattle.session.specs.Run.{runOf}
 
 -- the latest session, the two buffers, and the accepted steps so far
 pub record Desk : Type 0 where

@@ -7,7 +7,7 @@ use lib.IntN.{ℤ, natAbs}
 use lib.ListN.{length}
 use Rattle.words.specs.declared.Literal.{Literal}
 use Rattle.formula.specs.Limits.{limits}
-use Rattle.formula.specs.Formula.{Formula, formulaOf, variablesOf, prefixOf}
+use Rattle.formula.specs.Formula.{formulaOf, variablesOf, prefixOf}
 use Rattle.formula.specs.Block.{first, refusal}
 use Rattle.theory.specs.Record.{trueIn}
 use Rattle.theory.specs.Tests.{isOpen}

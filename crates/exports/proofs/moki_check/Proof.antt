@@ -1,5 +1,5 @@
 -- A refused block's number is the one that the check gives.
-use mathlib.Core.Path.{_≡_, sym, _∙_}
+use mathlib.Core.Path.{sym, _∙_}
 use Rattle.formula.specs.Check.{checked-accepted, checked-refused}
 use borrow.Author.Needs.{needs}
 use Rattle.exports.proofs.moki_check.Statement.{statement}

@@ -1,7 +1,6 @@
 -- After i words the literals among them are marked.
 use Prim.Native.Nat.{_-_}
 use mathlib.Core.Path.{_∙_, ap}
-use borrow.Author.Needs.{needs}
 use native.Mathlib.Omega.{arith}
 use lib.ListN.{length}
 use lib.Seq.{take-length}
