@@ -33,7 +33,7 @@ fn number_of(state: State) -> u64
     }
 }
 
-pub fn session_of(length: usize, revision: u64, state: u32) -> Session
+pub(crate) fn session_of(length: usize, revision: u64, state: u32) -> Session
     ensures { λ r. ⌜ r ≡ sessionOf length revision state ⌝ }
 {
     Session {
@@ -65,7 +65,7 @@ fn tell(session: Session, answer: &mut [u64])
 }
 
 // What opening and a step answer: 0 and the next session's numbers, or the refusal's number alone.
-pub fn answered(outcome: Answer, answer: &mut [u64]) -> u32
+pub(crate) fn answered(outcome: Answer, answer: &mut [u64]) -> u32
     requires { ⌜ 3 ≤ length (now answer) ⌝ }
     ensures { λ r. ⌜ (r ≡ statusOf outcome) × (now (answer .exit) ≡ toldBy outcome (now (answer .entry))) ⌝ }
 {
@@ -79,7 +79,7 @@ pub fn answered(outcome: Answer, answer: &mut [u64]) -> u32
 }
 
 // What a run answers: the count of accepted steps stands in a fourth place.
-pub fn ran(outcome: Ran, answer: &mut [u64]) -> u32
+pub(crate) fn ran(outcome: Ran, answer: &mut [u64]) -> u32
     requires { ⌜ 4 ≤ length (now answer) ⌝ }
     ensures { λ r. ⌜ (r ≡ ranStatus outcome) × (now (answer .exit) ≡ ranTold outcome (now (answer .entry))) ⌝ }
 {
@@ -94,7 +94,7 @@ pub fn ran(outcome: Ran, answer: &mut [u64]) -> u32
 }
 
 // What a page answers: where the next one begins, the entries written, and whether it is paused.
-pub fn paged(outcome: Paged, answer: &mut [u64]) -> u32
+pub(crate) fn paged(outcome: Paged, answer: &mut [u64]) -> u32
     requires { ⌜ 3 ≤ length (now answer) ⌝ }
     ensures { λ r. ⌜ (r ≡ pagedStatus outcome) × (now (answer .exit) ≡ pagedTold outcome (now (answer .entry))) ⌝ }
 {

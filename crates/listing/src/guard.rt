@@ -28,7 +28,7 @@ fn of_openings(prefix: &[i32], start: u32, output: &[u32]) -> u32
 }
 
 // All rows of a page.
-pub fn of_page(block: &[i32], lits: &[i32], kinds: &[u8], start: u32, output: &[u32]) -> u32
+pub(crate) fn of_page(block: &[i32], lits: &[i32], kinds: &[u8], start: u32, output: &[u32]) -> u32
     ensures { λ r. ⌜ r ≡ pageRefusal (now (block .entry)) (now (lits .entry)) (now (kinds .entry)) start (now (output .entry)) ⌝ }
 {
     let refused = session::of_buffers(block, lits, kinds);

@@ -14,7 +14,7 @@ ghost use Rattle.listing.specs.Checked.{OnGroup, WritableAt, Writable};
 use rules::Reached;
 
 // The size of the first group.
-pub fn first_group(prefix: &[i32]) -> usize
+pub(crate) fn first_group(prefix: &[i32]) -> usize
     ensures { λ r. ⌜ r ≡ firstGroup (now (prefix .entry)) ⌝ }
 {
     let universal = words::negative_at(prefix, 0);
@@ -29,7 +29,7 @@ pub fn first_group(prefix: &[i32]) -> usize
 }
 
 // How many openings a group of k variables has, 2^k.
-pub fn count(k: usize) -> u32
+pub(crate) fn count(k: usize) -> u32
     requires { ⌜ k ≤ 16 ⌝ }
     ensures { λ r. ⌜ r ≡ 2 ^ k ⌝ }
 {
@@ -82,7 +82,7 @@ fn begin(block: &[i32], lits: &mut [i32], kinds: &mut [u8], k: usize, n: u32)
 }
 
 // The search of the opening n, within the budget.
-pub fn try_opening(
+pub(crate) fn try_opening(
     block: &[i32],
     lits: &mut [i32],
     kinds: &mut [u8],

@@ -34,7 +34,7 @@ fn write_entry(output: &mut [u32], entries: usize, opening: u32, ones: u32)
 }
 
 // The openings from `start` on: each is searched, and written if it wins. What the searches leave in the work record is not wiped here.
-pub fn fill(
+pub(crate) fn fill(
     block: &[i32],
     lits: &mut [i32],
     kinds: &mut [u8],

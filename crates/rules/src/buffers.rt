@@ -12,7 +12,7 @@ use crate::State;
 use words::Literal;
 
 // The place of the last entry of a kind.
-pub fn last_kind(kinds: &[u8], count: usize, kind: u8) -> Found
+pub(crate) fn last_kind(kinds: &[u8], count: usize, kind: u8) -> Found
     requires { ⌜ count ≤ length (now kinds) ⌝ }
     ensures { λ r. ⌜ r ≡ lastKind (now (kinds .entry)) kind count ⌝ }
 {
@@ -27,7 +27,7 @@ pub fn last_kind(kinds: &[u8], count: usize, kind: u8) -> Found
 }
 
 // Sets the places from .. to of both buffers to 0.
-pub fn wipe(lits: &mut [i32], kinds: &mut [u8], from: usize, to: usize)
+pub(crate) fn wipe(lits: &mut [i32], kinds: &mut [u8], from: usize, to: usize)
     requires { ⌜ Room to (now lits) (now kinds) ⌝ }
     ensures { λ r. ⌜ Wiped from to (now (lits .entry)) (now (kinds .entry)) (now (lits .exit)) (now (kinds .exit)) ⌝ }
 {
@@ -48,7 +48,7 @@ pub fn clear(lits: &mut [i32], kinds: &mut [u8], n: usize)
 }
 
 // Cuts the record at a place and puts the opposite there, kind 0.
-pub fn turn(lits: &mut [i32], kinds: &mut [u8], count: usize, at: usize) -> Reached
+pub(crate) fn turn(lits: &mut [i32], kinds: &mut [u8], count: usize, at: usize) -> Reached
     requires { ⌜ Cuttable at count (now lits) (now kinds) ⌝ }
     ensures { λ r. ⌜ reached r (now (lits .exit)) (now (kinds .exit)) ≡ spec.turn at (search (now (lits .entry)) (now (kinds .entry)) count Open) ⌝ }
 {
@@ -63,7 +63,7 @@ pub fn turn(lits: &mut [i32], kinds: &mut [u8], count: usize, at: usize) -> Reac
 }
 
 // One entry more.
-pub fn append(
+pub(crate) fn append(
     lits: &mut [i32],
     kinds: &mut [u8],
     count: usize,

@@ -15,10 +15,10 @@ const MIDDLE: usize = formula::MAX_VARIABLES;
 // The same number, for a signed word.
 const RAISE: i64 = 256;
 
-pub const LITERAL_PLACES: usize = 2 * formula::MAX_VARIABLES + 1;
+pub(crate) const LITERAL_PLACES: usize = 2 * formula::MAX_VARIABLES + 1;
 
 // The place of the literal at an index.
-pub fn place_at(ws: &[i32], i: usize) -> usize
+pub(crate) fn place_at(ws: &[i32], i: usize) -> usize
     requires { ⌜ natAbs (getD (now ws) i (pos 0)) ≤ limits .variables ⌝ }
     ensures { λ r. ⌜ r ≡ placeOf (getD (now (ws .entry)) i (pos 0)) ⌝ }
 {
@@ -30,7 +30,7 @@ pub fn place_at(ws: &[i32], i: usize) -> usize
 }
 
 // 1 for each literal that is one of the words, else 0.
-pub fn occurring(ws: &[i32]) -> [u8; LITERAL_PLACES]
+pub(crate) fn occurring(ws: &[i32]) -> [u8; LITERAL_PLACES]
     requires { ⌜ Known (now ws) ⌝ }
     ensures { λ r. ⌜ Occurring (now (ws .entry)) r ⌝ }
 {
@@ -45,7 +45,7 @@ pub fn occurring(ws: &[i32]) -> [u8; LITERAL_PLACES]
 }
 
 // The signs with which a variable occurs: 0 none, 1 positive, 2 negative, 3 both.
-pub fn signs_at(occurs: &[u8; LITERAL_PLACES], v: usize) -> u8
+pub(crate) fn signs_at(occurs: &[u8; LITERAL_PLACES], v: usize) -> u8
     requires { ⌜ v ≤ limits .variables ⌝ }
     ensures { λ r. ⌜ ((ws : List ℤ) → Occurring ws (now (occurs .entry)) → r ≡ signsOf ws v) ⌝ }
 {
@@ -72,7 +72,7 @@ fn status_of(value: u8, universal: u8, sign: u8) -> u8
 }
 
 // What each literal of the variables 1 to n is to its clause.
-pub fn statuses_of(
+pub(crate) fn statuses_of(
     n: usize,
     values: &[u8; PLACES],
     universals: &[u8; PLACES],

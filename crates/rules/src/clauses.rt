@@ -46,7 +46,11 @@ fn in_conflict(clause: &[i32], statuses: &[u8; LITERAL_PLACES]) -> bool
 }
 
 // The lowest clause in conflict.
-pub fn lowest_conflict(ends: &[i32], literals: &[i32], statuses: &[u8; LITERAL_PLACES]) -> Found
+pub(crate) fn lowest_conflict(
+    ends: &[i32],
+    literals: &[i32],
+    statuses: &[u8; LITERAL_PLACES],
+) -> Found
     requires { ⌜ Clauses (now ends) (now literals) ⌝ }
     ensures { λ r. ⌜ r ≡ lowest (conflictBy (statusIn (now (statuses .entry)))) 0 (clausesFrom (now (literals .entry)) 0 (now (ends .entry))) ⌝ }
 {
@@ -133,7 +137,7 @@ impl Look {
 }
 
 // The lowest unit clause and its literal. The search stops at the first clause that decides it.
-pub fn lowest_unit(
+pub(crate) fn lowest_unit(
     ends: &[i32],
     literals: &[i32],
     statuses: &[u8; LITERAL_PLACES],

@@ -9,20 +9,20 @@ ghost use Rattle.rules.specs.Ready.{Bound};
 ghost use Rattle.rules.specs.Tables.{signOf, Values, Universals, Levels, Written};
 
 // A place for each variable, and place 0, which is no variable's.
-pub const PLACES: usize = formula::MAX_VARIABLES + 1;
+pub(crate) const PLACES: usize = formula::MAX_VARIABLES + 1;
 
 // More than any level: with n variables there are at most n levels.
-pub const NO_LEVEL: u16 = 257;
+pub(crate) const NO_LEVEL: u16 = 257;
 
 // 1 for a positive word, 2 for a negative one.
-pub fn sign_at(ws: &[i32], i: usize) -> u8
+pub(crate) fn sign_at(ws: &[i32], i: usize) -> u8
     ensures { λ r. ⌜ r ≡ signOf (getD (now (ws .entry)) i (pos 0)) ⌝ }
 {
     if words::negative_at(ws, i) { 2 } else { 1 }
 }
 
 // The value of each variable: 0 unassigned, 1 true, 2 false.
-pub fn values_of(lits: &[i32], count: usize) -> [u8; PLACES]
+pub(crate) fn values_of(lits: &[i32], count: usize) -> [u8; PLACES]
     requires { ⌜ Written (now lits) count ⌝ }
     ensures { λ r. ⌜ Values (among (take count (now (lits .entry)))) r ⌝ }
 {
@@ -37,7 +37,7 @@ pub fn values_of(lits: &[i32], count: usize) -> [u8; PLACES]
 }
 
 // 1 for each universal variable, else 0.
-pub fn universals_of(prefix: &[i32]) -> [u8; PLACES]
+pub(crate) fn universals_of(prefix: &[i32]) -> [u8; PLACES]
     requires { ⌜ Bound (now prefix) ⌝ }
     ensures { λ r. ⌜ Universals (now (prefix .entry)) r ⌝ }
 {
@@ -70,7 +70,7 @@ fn change_at(prefix: &[i32], i: usize) -> u16
 }
 
 // The level of each variable of the prefix.
-pub fn levels_of(prefix: &[i32]) -> [u16; PLACES]
+pub(crate) fn levels_of(prefix: &[i32]) -> [u16; PLACES]
     requires { ⌜ Bound (now prefix) ⌝ }
     ensures { λ r. ⌜ Levels (now (prefix .entry)) r ⌝ }
 {

@@ -20,7 +20,7 @@ ghost use Rattle.rules.specs.Tables.{Values, Levels, Spread, Lowest};
 ghost use Rattle.rules.specs.ByLiteral.{Occurring};
 
 // The literal at an index, its opposite, and its variable made true. Past the end there is the word 0.
-pub fn literal_at(ws: &[i32], i: usize) -> Literal
+pub(crate) fn literal_at(ws: &[i32], i: usize) -> Literal
     ensures { λ r. ⌜ r ≡ literal (getD (now (ws .entry)) i (pos 0)) ⌝ }
 {
     if i < ws.len() {
@@ -49,7 +49,7 @@ fn true_at(ws: &[i32], i: usize) -> Literal
 }
 
 // The first unassigned variable in prefix order, true.
-pub fn first_unassigned(prefix: &[i32], values: &[u8; PLACES]) -> Picked
+pub(crate) fn first_unassigned(prefix: &[i32], values: &[u8; PLACES]) -> Picked
     requires { ⌜ Bound (now prefix) ⌝ }
     ensures { λ r. ⌜ ((ρ : Assignment) → Values ρ (now (values .entry)) → r ≡ firstUnassigned ρ (now (prefix .entry))) ⌝ }
 {
@@ -66,7 +66,7 @@ pub fn first_unassigned(prefix: &[i32], values: &[u8; PLACES]) -> Picked
 
 // The first unassigned variable that occurs with one sign only: the literal that it takes. An existential one takes that sign, a universal
 // one the opposite: with positive occurrences only that is the prefix's own word, with negative ones only its opposite.
-pub fn first_monotone(
+pub(crate) fn first_monotone(
     prefix: &[i32],
     values: &[u8; PLACES],
     occurs: &[u8; LITERAL_PLACES],
@@ -136,7 +136,7 @@ fn open_variable(
 }
 
 // Whether a literal is open.
-pub fn is_open(
+pub(crate) fn is_open(
     prefix: &[i32],
     values: &[u8; PLACES],
     levels: &[u16; PLACES],
@@ -152,7 +152,7 @@ pub fn is_open(
 }
 
 // The first open literal of a list of any content, 0 if it has none.
-pub fn first_open(
+pub(crate) fn first_open(
     prefix: &[i32],
     values: &[u8; PLACES],
     levels: &[u16; PLACES],
@@ -175,7 +175,7 @@ pub fn first_open(
 }
 
 // The kind of a decision on a literal: 2 if its variable is universal, else 1.
-pub fn kind_of(prefix: &[i32], literal: Literal) -> u8
+pub(crate) fn kind_of(prefix: &[i32], literal: Literal) -> u8
     requires { ⌜ Bound (now prefix) ⌝ }
     ensures { λ r. ⌜ r ≡ kindOf (now (prefix .entry)) (literal .0) ⌝ }
 {

@@ -35,7 +35,7 @@ pub fn of_buffers(block: &[i32], lits: &[i32], kinds: &[u8]) -> u32
 }
 
 // Whether a session has ended.
-pub fn is_over(state: State) -> bool
+pub(crate) fn is_over(state: State) -> bool
     ensures { λ r. ⌜ r ≡ over state ⌝ }
 {
     match state {
@@ -46,7 +46,7 @@ pub fn is_over(state: State) -> bool
 }
 
 // Whether a rule takes a proposal.
-pub fn is_decide(rule: Rule) -> bool
+pub(crate) fn is_decide(rule: Rule) -> bool
     ensures { λ r. ⌜ r ≡ decides rule ⌝ }
 {
     match rule {
@@ -64,7 +64,7 @@ pub fn is_decide(rule: Rule) -> bool
 }
 
 // Rows 1 to 14, which a step and a run share.
-pub fn of_session(
+pub(crate) fn of_session(
     session: Session,
     block: &[i32],
     lits: &[i32],
@@ -93,7 +93,13 @@ pub fn of_session(
 }
 
 // Rows 16 and 17, where a rule is due.
-pub fn of_proposal(block: &[i32], lits: &[i32], count: usize, rule: Rule, proposal: Literal) -> u32
+pub(crate) fn of_proposal(
+    block: &[i32],
+    lits: &[i32],
+    count: usize,
+    rule: Rule,
+    proposal: Literal,
+) -> u32
     requires { ⌜ HeldOn (now block) (now lits) count ⌝ }
     ensures { λ r. ⌜ r ≡ proposalRefusal (prefixOf (now (block .entry))) (among (take count (now (lits .entry)))) rule proposal ⌝ }
 {

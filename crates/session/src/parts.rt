@@ -27,7 +27,7 @@ fn prefix_end(block: &[i32]) -> usize
 }
 
 // Whether the record is turned away.
-pub fn bad_record(block: &[i32], lits: &[i32], kinds: &[u8], count: usize) -> bool
+pub(crate) fn bad_record(block: &[i32], lits: &[i32], kinds: &[u8], count: usize) -> bool
     requires { ⌜ BuffersOn (now block) (now lits) (now kinds) ⌝ }
     ensures { λ r. ⌜ r ≡ badRecord (prefixOf (now (block .entry))) (now (lits .entry)) (now (kinds .entry)) count ⌝ }
 {
@@ -36,7 +36,7 @@ pub fn bad_record(block: &[i32], lits: &[i32], kinds: &[u8], count: usize) -> bo
 }
 
 // The due rule applied, with the proposal that Decide is to take.
-pub fn apply(
+pub(crate) fn apply(
     block: &[i32],
     lits: &mut [i32],
     kinds: &mut [u8],
@@ -53,7 +53,7 @@ pub fn apply(
 }
 
 // The due rule.
-pub fn due(block: &[i32], lits: &[i32], kinds: &[u8], count: usize) -> Rule
+pub(crate) fn due(block: &[i32], lits: &[i32], kinds: &[u8], count: usize) -> Rule
     requires { ⌜ OnBlock (now block) (now lits) (now kinds) count ⌝ }
     ensures { λ r. ⌜ r ≡ rules.due (formulaOf (now (block .entry))) (recordOf (now (lits .entry)) (now (kinds .entry)) count) ⌝ }
 {
@@ -70,7 +70,7 @@ pub fn due(block: &[i32], lits: &[i32], kinds: &[u8], count: usize) -> Rule
 }
 
 // Whether a literal is open.
-pub fn open(block: &[i32], lits: &[i32], count: usize, literal: Literal) -> bool
+pub(crate) fn open(block: &[i32], lits: &[i32], count: usize, literal: Literal) -> bool
     requires { ⌜ HeldOn (now block) (now lits) count ⌝ }
     ensures { λ r. ⌜ r ≡ isOpen (prefixOf (now (block .entry))) (among (take count (now (lits .entry)))) (literal .0) ⌝ }
 {
@@ -79,7 +79,7 @@ pub fn open(block: &[i32], lits: &[i32], count: usize, literal: Literal) -> bool
 }
 
 // The first open literal of a list of any content, 0 if it has none.
-pub fn preferred(block: &[i32], lits: &[i32], count: usize, list: &[i32]) -> Literal
+pub(crate) fn preferred(block: &[i32], lits: &[i32], count: usize, list: &[i32]) -> Literal
     requires { ⌜ HeldOn (now block) (now lits) count ⌝ }
     ensures { λ r. ⌜ r ≡ rules.literal (firstOpen (prefixOf (now (block .entry))) (among (take count (now (lits .entry)))) (now (list .entry))) ⌝ }
 {
