@@ -19,7 +19,8 @@ pub data Said : Type 0 where
   listed : ℕ → ℕ → Bool → List ℕ → Said
   refused : ℕ → Said
 
--- opened at revision 0; each call, and what is said of it (of the opening too, where that is refused); how the session stands after them
+-- opened at revision 0; each call, and what is said of it (of the opening too, where that is refused); how the session stands
+-- after them, open where none was opened
 pub record Case : Type 0 where
   pub block : List ℤ
   pub calls : List Asked

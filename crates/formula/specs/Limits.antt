@@ -1,4 +1,5 @@
--- "Limits: V 256, C 1,024, T 4,096." The one place that has the numbers: every definition takes them as a parameter.
+-- "Limits: V 256, C 1,024, T 4,096." The definitions of the rows take them as a parameter, and the definitions above
+-- them take `limits`; the numbers stand here, and as constants where the code has its tables.
 use mathlib.Core.Path.{_≡_, refl}
 use Prim.Native.Nat.{ℕ, _≤_}
 use lib.Dec.{lit≤}

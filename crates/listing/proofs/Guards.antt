@@ -12,10 +12,10 @@ use Rattle.words.specs.Words.{negative}
 use Rattle.formula.specs.Formula.{word, variablesOf, formulaOf, firstGroup}
 use Rattle.formula.specs.Block.{first}
 use Rattle.rules.specs.Ready.{formula}
-use Rattle.session.specs.Refusals.{openRefusal}
+use Rattle.session.specs.Refusals.{after, openRefusal}
 use Rattle.formula.specs.Layout.{prefix-lent}
-use Rattle.listing.specs.Page.{after, pageRefusal}
-use Rattle.listing.specs.Rows.{pageRows}
+use Rattle.listing.specs.Page.{pageRefusal}
+use Rattle.listing.specs.Page.{pageRows}
 
 -- ---- rows 18 to 21
 abbrev rowsOf : List ℤ → ℕ → List ℕ → List Bool
@@ -46,7 +46,7 @@ module _ (p : List ℤ) (start : ℕ) (out : List ℕ) {u : Bool} (is : u ≡ ne
         openings-pass r = rw (first-word p, ← is, x, ← e, le-ltb 16 k h, ← t, le-ltb m start l, le-ltb (length out) 2 r)
 
 -- ---- rows 1 to 11, and then these
-after-first : (n : ℕ) (rows : List Bool) → (n ≡ 0 → ⊥) → n ≡ after n rows
+after-first : (n : ℕ) (rows : List Bool) → (n ≡ 0 → ⊥) → n ≡ after 18 n rows
 after-first zero rows f = absurd (f refl)
 after-first (suc n) rows f = refl
 

@@ -86,8 +86,8 @@ module _ (F : Formula) (preferred : List ℤ) where
       let b = few (advance F preferred t) (advance-keeps F preferred t k) in
       let (p, q) = apply-lengths (F .prefix) rule x t in
       record {
-        lits = same-places (length (F .prefix)) (pos 0) (t .lits) (u .lits) p (λ j h. apply-untouched (F .prefix) x t rule j (omega arith) (omega arith) .0);
-        kinds = same-places (length (F .prefix)) 0 (t .kinds) (u .kinds) q (λ j h. apply-untouched (F .prefix) x t rule j (omega arith) (omega arith) .1);
+        lits = same-places (length (F .prefix)) (pos 0) (t .lits) (u .lits) p (λ j h. apply-untouched (F .prefix) x t rule j (inr (omega arith, omega arith)) .0);
+        kinds = same-places (length (F .prefix)) 0 (t .kinds) (u .kinds) q (λ j h. apply-untouched (F .prefix) x t rule j (inr (omega arith, omega arith)) .1);
       }
 
   run-aside : (n : ℕ) (t : Search) (c : ℕ) → KeptIn (F .prefix) t → let u = runFrom F preferred n t c .reached in Aside (length (F .prefix)) (t .lits) (t .kinds) (u .lits) (u .kinds)

@@ -1,4 +1,4 @@
--- A page: "A page takes a start, preferences, a budget of steps for each opening and an output of unsigned 32-bit words. Each winner fills
+-- A page: "A page takes a start, preferences, a budget of steps for each opening (32 bits, unsigned) and an output of unsigned 32-bit words. Each winner fills
 -- two words: the opening, and how many ones its number has."
 use Prim.Native.Nat.{ℕ, zero, suc, _+_, _*_, _-_, _^_}
 use mathlib.Core.Bool.{Bool, true, false, _&&_}
@@ -9,12 +9,11 @@ use lib.IntN.{ℤ, pos}
 use lib.ListN.{length, set}
 use Rattle.words.specs.Words.{negative}
 use Rattle.formula.specs.Formula.{Formula, formulaOf, word, firstGroup}
-use Rattle.formula.specs.Block.{first}
 use Rattle.rules.specs.declared.State.{State}
 use Rattle.rules.specs.declared.State.the-variants.{Open, Valid, Unsat}
 use Rattle.rules.specs.Due.{pick}
 use Rattle.rules.specs.Apply.{wiped}
-use Rattle.session.specs.Refusals.{openRefusal}
+use Rattle.session.specs.Refusals.{after, openRefusal}
 use Rattle.listing.specs.declared.Paged.{Paged}
 use Rattle.listing.specs.declared.Paged.the-variants.{Page, Refused}
 use Rattle.listing.specs.Opening.{searchOf}
@@ -28,19 +27,16 @@ firstUniversal F = ltb 0 (length (F .prefix)) && negative (word (F .prefix) 0)
 abbrev pub openings : Formula → ℕ
 openings F = 2 ^ firstGroup (F .prefix)
 
-abbrev pub after : ℕ → List Bool → ℕ
-after zero rows = first 18 rows
-after (suc n) rows = suc n
-
-unfoldable pub pageRefusal : List ℤ → List ℤ → List ℕ → ℕ → List ℕ → ℕ
-pageRefusal b ls ks start out =
-    let F = formulaOf b in
-    after (openRefusal b ls ks)
-    (firstUniversal F
+abbrev pub pageRows : Formula → ℕ → List ℕ → List Bool
+pageRows F start out =
+    firstUniversal F
     ∷ ltb 16 (firstGroup (F .prefix))
     ∷ ltb (openings F) start
     ∷ ltb (length out) 2
-    ∷ [])
+    ∷ []
+
+unfoldable pub pageRefusal : List ℤ → List ℤ → List ℕ → ℕ → List ℕ → ℕ
+pageRefusal b ls ks start out = after 18 (openRefusal b ls ks) (pageRows (formulaOf b) start out)
 
 -- ---- what a page writes
 -- where a page stands: the next opening, the entries written, whether it is paused, and the output

@@ -14,16 +14,12 @@ use lib.Seq.{getD-append-add}
 use borrow.Author.Tests.{ltb-false, le-ltb}
 use Rattle.words.specs.Bools.{clash, or-fl, or-fr}
 use Rattle.formula.specs.Limits.{limits}
-use Rattle.formula.specs.Formula.{Formula, formulaOf, variablesOf, prefixOf, firstGroup}
+use Rattle.formula.specs.Formula.{formulaOf, variablesOf, prefixOf, firstGroup}
 use Rattle.formula.specs.Block.{first, rows, refusal}
-use Rattle.session.specs.Refusals.{openRows, openRefusal}
-use Rattle.session.specs.Rows.{Numbered, numbered, most, join, first-join, after-first, after-zero}
+use Rattle.session.specs.Refusals.{after, openRows, openRefusal}
+use Rattle.session.specs.Rows.{Numbered, numbered, most, join, first-join, after-join, after-first, after-zero}
 use Rattle.session.specs.Accepted.{prefix-length}
-use Rattle.listing.specs.Page.{firstUniversal, openings, after, pageRefusal}
-
--- rows 18 to 21
-abbrev pub pageRows : Formula → ℕ → List ℕ → List Bool
-pageRows F start out = firstUniversal F ∷ ltb 16 (firstGroup (F .prefix)) ∷ ltb (openings F) start ∷ ltb (length out) 2 ∷ []
+use Rattle.listing.specs.Page.{firstUniversal, pageRows, pageRefusal}
 
 -- rows 12 to 17 are not a page's
 abbrev pub skipped : List Bool
@@ -39,18 +35,13 @@ first-skipped n [] = refl
 first-skipped n (true ∷ ts) = refl
 first-skipped n (false ∷ ts) = first-skipped (suc n) ts
 
-after-join : (n : ℕ) (us : List Bool) → after n us ≡ join n (first 18 us)
-unfolding join
-after-join zero us = refl
-after-join (suc n) us = refl
-
 module _ (b ls : List ℤ) (ks : List ℕ) (start : ℕ) (out : List ℕ) where
   table-first : pageRefusal b ls ks start out ≡ first 1 (tableOf b ls ks start out)
   unfolding pageRefusal openRefusal
   table-first =
       let ts = rows limits b ++ openRows b ls ks in
       let us = pageRows (formulaOf b) start out in
-      after-join (openRefusal b ls ks) us
+      after-join 18 (openRefusal b ls ks) us
       ∙ ap (λ (n : ℕ). join n (first 18 us)) (after-first b (openRows b ls ks) ∙ sym (first-skipped 0 ts))
       ∙ first-join 0 (ts ++ skipped) us
 
@@ -95,7 +86,7 @@ module _ (b ls : List ℤ) (ks : List ℕ) (start : ℕ) (out : List ℕ) where
   unfolding pageRefusal
   opens = go (openRefusal b ls ks)
     where
-      go : (n : ℕ) → after n (pageRows (formulaOf b) start out) ≡ 0 → n ≡ 0
+      go : (n : ℕ) → after 18 n (pageRows (formulaOf b) start out) ≡ 0 → n ≡ 0
       go zero e = refl
       go (suc n) e = absurd (omega arith)
 

@@ -4,7 +4,7 @@ ghost use mathlib.Core.List.{[]};
 ghost use Rattle.formula.specs.Block.{first};
 ghost use Rattle.rules.specs.Ready.{formula};
 ghost use Rattle.listing.specs.Page.{pageRefusal};
-ghost use Rattle.listing.specs.Rows.{pageRows};
+ghost use Rattle.listing.specs.Page.{pageRows};
 use crate::openings;
 
 // Rows 18 to 21, which look at the prefix and at no clause.

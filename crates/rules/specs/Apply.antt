@@ -39,11 +39,11 @@ reached r ls ks = search ls ks (r .count) (r .state)
 unfoldable pub wiped {ℓ} : {A : Type ℓ} → A → List A → ℕ → ℕ → List A
 wiped z l from to = sets l from (replicate (to - from) z)
 
--- "Append l, kind k"
+-- "Append l", with a kind
 abbrev pub append : ℕ → ℤ → Search → Search
 append k l s = search (set (s .lits) (s .count) l) (set (s .kinds) (s .count) k) (s .count + 1) Open
 
--- "Cut the record at .. i and put the opposite there, kind 0"
+-- "Cut the record at its last kind 1 entry and put the opposite there, kind 0": at the entry i
 abbrev pub turn : ℕ → Search → Search
 turn i s =
     search

@@ -1,5 +1,5 @@
 -- Which places of the two buffers a rule writes. "A cut sets the places from the new to the old length to 0 in both buffers." "No other place
--- is written": an entry more goes to the end of the record, and a cut to the places from its own to the old length.
+-- is written": an entry more goes to the end of the record, and a cut to its own place, which is the new end, and those up to the old length.
 use Prim.Native.Nat.{ℕ, zero, suc, _+_, _-_, _≤_, _<_}
 use mathlib.Core.Path.{_≡_, refl, _∙_}
 use mathlib.Core.Logic.{_⊎_, inl, inr}
@@ -58,36 +58,49 @@ module _ {A : Type 0} where
 abbrev pub Place : ℕ → Search → ℤ → ℕ → Type 0
 Place j t l k = (getD (t .lits) j (pos 0) ≡ l) × (getD (t .kinds) j 0 ≡ k)
 
+-- place j is before the last entry of a record of m entries, or past that and the n entries that there were
+abbrev pub Aside : ℕ → ℕ → ℕ → Type 0
+Aside j n m = (j + 1 < m) ⊎ ((n ≤ j) × (m ≤ j))
+
+aside-end : (j n i : ℕ) → Aside j n (i + 1) → j ≡ i → ⊥
+aside-end j n i (inl h) e = omega arith
+aside-end j n i (inr h) e = omega (arith, h .1)
+
+aside-wiped : (j n i : ℕ) → Aside j n (i + 1) → (j < i + 1) ⊎ (n ≤ j)
+aside-wiped j n i (inl h) = inl (omega arith)
+aside-wiped j n i (inr h) = inr (h .0)
+
 -- ---- an entry more, and a cut
 module _ (t : Search) (j : ℕ) where
-  append-untouched : (kind : ℕ) (x : ℤ) → t .count + 1 ≤ j → Place j (append kind x t) (getD (t .lits) j (pos 0)) (getD (t .kinds) j 0)
-  append-untouched kind x h = (getD-set-other (t .lits) (t .count) j x (pos 0) (λ e. omega arith), getD-set-other (t .kinds) (t .count) j kind 0 (λ e. omega arith))
+  append-untouched : (kind : ℕ) (x : ℤ) → Aside j (t .count) (t .count + 1) → Place j (append kind x t) (getD (t .lits) j (pos 0)) (getD (t .kinds) j 0)
+  append-untouched kind x h = let k = aside-end j (t .count) (t .count) h in (getD-set-other (t .lits) (t .count) j x (pos 0) k, getD-set-other (t .kinds) (t .count) j kind 0 k)
 
-  module _ (i : ℕ) (h : i + 1 ≤ j) where
-    turn-untouched : t .count ≤ j → Place j (turn i t) (getD (t .lits) j (pos 0)) (getD (t .kinds) j 0)
-    turn-untouched k = (
-      turned (pos 0) (t .lits) (t .count) i j (negℤ (getD (t .lits) i (pos 0))) h ∙ wiped-outside (pos 0) (t .lits) (i + 1) (t .count) j (pos 0) (inr k),
-      turned 0 (t .kinds) (t .count) i j 0 h ∙ wiped-outside 0 (t .kinds) (i + 1) (t .count) j 0 (inr k),
-    )
+  module _ (i : ℕ) where
+    turn-untouched : Aside j (t .count) (i + 1) → Place j (turn i t) (getD (t .lits) j (pos 0)) (getD (t .kinds) j 0)
+    turn-untouched h =
+        let k = aside-end j (t .count) i h in (
+          getD-set-other (wiped (pos 0) (t .lits) (i + 1) (t .count)) i j (negℤ (getD (t .lits) i (pos 0))) (pos 0) k ∙ wiped-outside (pos 0) (t .lits) (i + 1) (t .count) j (pos 0) (aside-wiped j (t .count) i h),
+          getD-set-other (wiped 0 (t .kinds) (i + 1) (t .count)) i j 0 0 k ∙ wiped-outside 0 (t .kinds) (i + 1) (t .count) j 0 (aside-wiped j (t .count) i h),
+        )
 
-    turn-zeros : j < t .count → Place j (turn i t) (pos 0) 0
-    turn-zeros k = (
+    turn-zeros : i + 1 ≤ j → j < t .count → Place j (turn i t) (pos 0) 0
+    turn-zeros h k = (
       turned (pos 0) (t .lits) (t .count) i j (negℤ (getD (t .lits) i (pos 0))) h ∙ wiped-inside (pos 0) (t .lits) (i + 1) (t .count) j h k,
       turned 0 (t .kinds) (t .count) i j 0 h ∙ wiped-inside 0 (t .kinds) (i + 1) (t .count) j h k,
     )
 
 -- ---- any rule
 module _ (p : List ℤ) (l : ℤ) (t : Search) where
-  -- past the old and the new length nothing is written
-  pub apply-untouched : (rule : Rule) (j : ℕ) → t .count ≤ j → apply p rule l t .count ≤ j → Place j (apply p rule l t) (getD (t .lits) j (pos 0)) (getD (t .kinds) j 0)
+  -- but for the last entry and the places that are set to 0 nothing is written
+  pub apply-untouched : (rule : Rule) (j : ℕ) → Aside j (t .count) (apply p rule l t .count) → Place j (apply p rule l t) (getD (t .lits) j (pos 0)) (getD (t .kinds) j 0)
   unfolding apply
-  apply-untouched (BacktrackExists i c) j h k = turn-untouched t j i k h
-  apply-untouched (Fail c) j h k = (refl, refl)
-  apply-untouched (Unit x c) j h k = append-untouched t j 0 (x .0) k
-  apply-untouched (Monotone x) j h k = append-untouched t j 0 (x .0) k
-  apply-untouched (Decide x) j h k = append-untouched t j _ _ k
-  apply-untouched (BacktrackForall i) j h k = turn-untouched t j i k h
-  apply-untouched Succeed j h k = (refl, refl)
+  apply-untouched (BacktrackExists i c) j h = turn-untouched t j i h
+  apply-untouched (Fail c) j h = (refl, refl)
+  apply-untouched (Unit x c) j h = append-untouched t j 0 (x .0) h
+  apply-untouched (Monotone x) j h = append-untouched t j 0 (x .0) h
+  apply-untouched (Decide x) j h = append-untouched t j _ _ h
+  apply-untouched (BacktrackForall i) j h = turn-untouched t j i h
+  apply-untouched Succeed j h = (refl, refl)
 
   -- from the new to the old length both buffers are 0
   pub apply-zeros : (rule : Rule) (j : ℕ) → apply p rule l t .count ≤ j → j < t .count → Place j (apply p rule l t) (pos 0) 0

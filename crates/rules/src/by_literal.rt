@@ -1,4 +1,4 @@
-// Tables by literal, each filled by one pass. The look at a clause reads one place for each of its literals and nothing more.
+// Tables by literal, each filled by one pass. What a literal is to its clause is one read, at a place that the word itself gives.
 ghost use mathlib.Core.Path.{_≡_};
 ghost use mathlib.Core.List.{List};
 ghost use Prim.Native.Nat.{_≤_};

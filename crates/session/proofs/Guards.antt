@@ -25,7 +25,7 @@ use Rattle.session.specs.Rows.{after-passed, after-stopped}
 use Rattle.session.specs.Checked.{sessionRows, sessionRefusal, proposalRefusal}
 
 -- ---- rows 1 to 11
-after-refused : (n k : ℕ) (us : List Bool) → checkedOf n ≡ Refused k → k ≡ after n us
+after-refused : (n k : ℕ) (us : List Bool) → checkedOf n ≡ Refused k → k ≡ after 11 n us
 unfolding checkedOf
 after-refused zero k us e = let z : _≡_ {A = ℕ} 0 1 = cc in absurd (omega arith)
 after-refused (suc n) k us e = cc

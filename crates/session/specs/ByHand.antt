@@ -130,7 +130,7 @@ module _ (b : List ℤ) (d : Desk) (seen : Revision) (budget : ℕ) (preferred :
       go zero e = rw (run-accepted e) (sym (accepted-steps e))
       go (suc n) e = rw (run-refused (d .latest) b (d .lits) (d .kinds) seen budget preferred n e)
 
-  -- "it pauses exactly if it isn't ended when the budget is used": a run that is open after its steps has used its budget
+  -- "it pauses exactly if it isn't ended when the budget is used": it has paused if its session is open, and then the budget is used
   pub run-pauses : (s′ : Session) (c : ℕ) → runOf (d .latest) b (d .lits) (d .kinds) seen budget preferred .answer ≡ Until s′ c → (c ≤ budget) × (s′ .state ≡ Open → c ≡ budget)
   unfolding last
   run-pauses s′ c a = go (runRefusal (d .latest) b (d .lits) (d .kinds) seen budget) refl

@@ -1,5 +1,5 @@
 -- What the functions of a call say to each other: the rows that a step and a run share, the rows of a proposal, and checked input. A reader of
--- the outcomes needs none of it.
+-- the outcomes needs none of it; one of a run's steps by hand needs `proposalOf`.
 use Prim.Native.Nat.{ℕ}
 use mathlib.Core.Path.{_≡_}
 use mathlib.Core.Bool.{Bool, not, _&&_}
@@ -27,7 +27,7 @@ module _ (s : Session) (b ls : List ℤ) (ks : List ℕ) (seen : Revision) where
   sessionRows = openRows b ls ks ++ (badRecord (prefixOf b) ls ks (s .length) ∷ over (s .state) ∷ stale s seen ∷ [])
 
   unfoldable pub sessionRefusal : ℕ
-  sessionRefusal = after (refusal limits b) sessionRows
+  sessionRefusal = after 11 (refusal limits b) sessionRows
 
 -- rows 16 and 17, where the rule is due
 unfoldable pub proposalRefusal : List ℤ → Assignment → Rule → Literal → ℕ

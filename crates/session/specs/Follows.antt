@@ -1,5 +1,5 @@
 -- "Every accepted step is the one due rule": the search that it leaves is the due rule's, a step of the theory; the revision is one more; the
--- places from the new to the old length are 0, and no place past both is written; Fail and Succeed leave the record. And what the guard
+-- places from the new to the old length are 0, and of the others only the last entry's is written; Fail and Succeed leave the record. And what the guard
 -- has shown holds again after it. From the laws of the rules.
 use Prim.Native.Nat.{ℕ, _+_, _≤_, _<_}
 use mathlib.Core.Path.{_≡_, refl}
@@ -13,7 +13,7 @@ use Rattle.rules.specs.declared.State.the-variants.{Open}
 use Rattle.rules.specs.Due.{due}
 use Rattle.rules.specs.Apply.{Search, recordOf, apply}
 use Rattle.rules.specs.Steps.{stateOf, KeptIn, apply-lengths, due-step, due-keeps}
-use Rattle.rules.specs.Written.{apply-untouched, apply-zeros, apply-ended}
+use Rattle.rules.specs.Written.{Aside, apply-untouched, apply-zeros, apply-ended}
 use Rattle.session.specs.declared.Revision.{Revision}
 use Rattle.session.specs.declared.Session.{Session}
 use Rattle.session.specs.declared.Answer.the-variants.{To}
@@ -31,8 +31,8 @@ pub record Follows (b : List ℤ) (l : ℤ) (s s′ : Session) (ls ls′ : List 
   pub revision : s′ .revision .0 ≡ s .revision .0 + 1
   -- "A cut sets the places from the new to the old length to 0 in both buffers."
   pub zeros : (j : ℕ) → s′ .length ≤ j → j < s .length → (getD ls′ j (pos 0) ≡ pos 0) × (getD ks′ j 0 ≡ 0)
-  -- "No other place is written."
-  pub untouched : (j : ℕ) → s .length ≤ j → s′ .length ≤ j → (getD ls′ j (pos 0) ≡ getD ls j (pos 0)) × (getD ks′ j 0 ≡ getD ks j 0)
+  -- "No other place is written": but for the last entry and those, all are as they were
+  pub untouched : (j : ℕ) → Aside j (s .length) (s′ .length) → (getD ls′ j (pos 0) ≡ getD ls j (pos 0)) × (getD ks′ j 0 ≡ getD ks j 0)
   pub lengths : (length ls′ ≡ length ls) × (length ks′ ≡ length ks)
   -- "Fail and Succeed leave the record."
   pub ended : (s′ .state ≡ Open → ⊥) → (ls′ ≡ ls) × (ks′ ≡ ks) × (s′ .length ≡ s .length)

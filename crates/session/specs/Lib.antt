@@ -9,6 +9,7 @@ pub mod Advance
 pub mod Trips
 pub mod Accepted
 pub mod Refused
+pub mod Opened
 pub mod Follows
 pub mod ByHand
 pub mod History

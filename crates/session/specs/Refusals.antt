@@ -52,17 +52,17 @@ decides Succeed = false
 abbrev pub proposed : Literal → Bool
 proposed l = not (eqb (natAbs (l .0)) 0)
 
--- the block's rows first, and then the rows from 11 on
-abbrev pub after : ℕ → List Bool → ℕ
-after zero rows = first 11 rows
-after (suc n) rows = suc n
+-- the rows before, of which the first that applies has the number n (0 if none does), and then the rows from k on
+abbrev pub after : ℕ → ℕ → List Bool → ℕ
+after k zero rows = first k rows
+after k (suc n) rows = suc n
 
 -- the rows from 11 on, of each call
 abbrev pub openRows : List ℤ → List ℤ → List ℕ → List Bool
 openRows b ls ks = short b ls ks ∷ []
 
 unfoldable pub openRefusal : List ℤ → List ℤ → List ℕ → ℕ
-openRefusal b ls ks = after (refusal limits b) (openRows b ls ks)
+openRefusal b ls ks = after 11 (refusal limits b) (openRows b ls ks)
 
 module _ (s : Session) (b ls : List ℤ) (ks : List ℕ) (seen : Revision) where
   abbrev pub stepRows : Literal → List Bool
@@ -79,7 +79,7 @@ module _ (s : Session) (b ls : List ℤ) (ks : List ℕ) (seen : Revision) where
       ∷ []
 
   unfoldable pub stepRefusal : Literal → ℕ
-  stepRefusal l = after (refusal limits b) (stepRows l)
+  stepRefusal l = after 11 (refusal limits b) (stepRows l)
 
   -- 15 for a run: "revision + budget over 2^64 - 1"
   abbrev pub runRows : ℕ → List Bool
@@ -92,4 +92,4 @@ module _ (s : Session) (b ls : List ℤ) (ks : List ℕ) (seen : Revision) where
       ∷ []
 
   unfoldable pub runRefusal : ℕ → ℕ
-  runRefusal budget = after (refusal limits b) (runRows budget)
+  runRefusal budget = after 11 (refusal limits b) (runRows budget)

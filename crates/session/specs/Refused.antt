@@ -65,7 +65,7 @@ module _ (s : Session) (b ls : List ℤ) (ks : List ℕ) (seen : Revision) where
   unfolding runOf
   run-refused budget preferred n e = rw e
 
-  -- ---- "Comparing revisions with .. equal": a call that has seen another revision is refused, whatever else holds
+  -- ---- 14: "seen revision is not the session's": such a call is refused, whatever else holds
   module _ (other : seen .0 ≡ s .revision .0 → ⊥) where
     pub stale-step-refused : (l : Literal) → (n : ℕ) × (suc n ≤ 14) × (stepOutcome s b ls ks seen l ≡ outcome (Refused (suc n)) ls ks)
     stale-step-refused l =

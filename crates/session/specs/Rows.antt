@@ -84,16 +84,16 @@ first-join n [] us = let e : suc n + 0 ≡ suc n = omega arith in rw e
 first-join n (true ∷ ts) us = refl
 first-join n (false ∷ ts) us = let e : suc n + suc (length ts) ≡ suc (suc n) + length ts = omega arith in rw e (first-join (suc n) ts us)
 
-after-join : (n : ℕ) (us : List Bool) → after n us ≡ join n (first 11 us)
+pub after-join : (k n : ℕ) (us : List Bool) → after k n us ≡ join n (first k us)
 unfolding join
-after-join zero us = refl
-after-join (suc n) us = refl
+after-join k zero us = refl
+after-join k (suc n) us = refl
 
-pub after-first : (b : List ℤ) (us : List Bool) → after (refusal limits b) us ≡ first 1 (rows limits b ++ us)
+pub after-first : (b : List ℤ) (us : List Bool) → after 11 (refusal limits b) us ≡ first 1 (rows limits b ++ us)
 unfolding refusal
-after-first b us = after-join (first 1 (rows limits b)) us ∙ first-join 0 (rows limits b) us
+after-first b us = after-join 11 (first 1 (rows limits b)) us ∙ first-join 0 (rows limits b) us
 
-after-numbered : (b : List ℤ) (us : List Bool) → Numbered (rows limits b ++ us) (after (refusal limits b) us)
+after-numbered : (b : List ℤ) (us : List Bool) → Numbered (rows limits b ++ us) (after 11 (refusal limits b) us)
 after-numbered b us = rw (after-first b us) (numbered (rows limits b ++ us))
 
 -- ---- "The block check gives 1 to 10, opening 1 to 11, a step 1 to 17, a run 1 to 15", each exactly when the table says
@@ -116,19 +116,19 @@ module _ (s : Session) (b ls : List ℤ) (ks : List ℕ) (seen : Revision) where
 
 -- ---- the rows from 11 on in two parts: the first part stops the call, or the second decides
 module _ (n : ℕ) (ts us : List Bool) where
-  after-more : after n (ts ++ us) ≡ join (after n ts) (first (11 + length ts) us)
+  after-more : after 11 n (ts ++ us) ≡ join (after 11 n ts) (first (11 + length ts) us)
   unfolding join
-  after-more = after-join n (ts ++ us) ∙ go n
+  after-more = after-join 11 n (ts ++ us) ∙ go n
     where
-      go : (k : ℕ) → join k (first 11 (ts ++ us)) ≡ join (after k ts) (first (11 + length ts) us)
+      go : (k : ℕ) → join k (first 11 (ts ++ us)) ≡ join (after 11 k ts) (first (11 + length ts) us)
       go zero = sym (first-join 10 ts us)
       go (suc k) = refl
 
-  pub after-passed : after n ts ≡ 0 → after n (ts ++ us) ≡ first (11 + length ts) us
+  pub after-passed : after 11 n ts ≡ 0 → after 11 n (ts ++ us) ≡ first (11 + length ts) us
   unfolding join
   after-passed e = after-more ∙ rw e
 
-  pub after-stopped : {m : ℕ} → after n ts ≡ m → (m ≡ 0 → ⊥) → after n (ts ++ us) ≡ m
+  pub after-stopped : {m : ℕ} → after 11 n ts ≡ m → (m ≡ 0 → ⊥) → after 11 n (ts ++ us) ≡ m
   unfolding join
   after-stopped {m} e f = after-more ∙ ap (λ (k : ℕ). join k (first (11 + length ts) us)) e ∙ stays m f
     where
@@ -137,7 +137,7 @@ module _ (n : ℕ) (ts us : List Bool) where
       stays (suc k) f = refl
 
 -- an accepted call has passed the block's rows and its own
-pub after-zero : (n : ℕ) (us : List Bool) → after n us ≡ 0 → (n ≡ 0) × NoRow us
+pub after-zero : (n : ℕ) (us : List Bool) → after 11 n us ≡ 0 → (n ≡ 0) × NoRow us
 after-zero zero us e = (refl, first-none 10 us e)
 after-zero (suc n) us e = absurd (omega arith)
 

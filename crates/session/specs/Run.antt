@@ -1,5 +1,5 @@
--- "A run takes the seen revision, a budget of steps and a list of preferred literals of any content. At Decide it proposes the first open
--- one in the list, else 0. It answers the session and the count of accepted steps; it pauses exactly if it isn't ended when the budget is used."
+-- "A run takes the seen revision, a budget of steps (32 bits, unsigned) and a list of preferred literals of any content. At Decide it proposes
+-- the first open one in the list, else 0. It answers the session and the count of accepted steps; it pauses exactly if it isn't ended when the budget is used."
 use Prim.Native.Nat.{ℕ, zero, suc, _+_}
 use mathlib.Core.List.{List}
 use lib.IntN.{ℤ}

@@ -1,4 +1,4 @@
-// The rows of the table that speak of buffers, of a session and of a proposal, in its order.
+// The rows of the table that speak of buffers, of a session and of a proposal, in its order. Row 15 needs no look at them: it stands with the calls.
 ghost use mathlib.Core.Path.{_≡_};
 ghost use lib.ListN.{take};
 ghost use Rattle.formula.specs.Formula.{prefixOf};

@@ -3,7 +3,7 @@ ghost use mathlib.Core.Path.{_≡_};
 ghost use Rattle.session.specs.Outcome.{session, outcome, openOutcome, stepOutcome};
 ghost use Rattle.session.specs.Run.{runOutcome, runOf};
 
-mod guard; // which row of the table turns a call away
+mod guard; // which row of the table turns a call away, but for row 15
 mod parts; // the block's parts, lent to the rules
 mod searches; // rule after rule
 
@@ -33,7 +33,7 @@ pub enum Answer {
     Refused(u32),
 }
 
-// What a run answers: the session and the count of accepted steps.
+// What a run answers: the session and the count of accepted steps. A run has paused if its session is still open.
 pub enum Ran {
     Until { session: Session, steps: u32 },
     Stopped(u32),

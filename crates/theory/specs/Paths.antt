@@ -6,10 +6,6 @@ use Rattle.formula.specs.Formula.{Formula}
 use Rattle.theory.specs.Record.{Record}
 use Rattle.theory.specs.Rules.{State, going, Step, Path, stop, take}
 
--- n rules lead from the record r0 to the state s
-abbrev pub Reached : Formula → Record → ℕ → State → Type 0
-Reached F r0 n s = Path F n (going r0) s
-
 module _ (F : Formula) where
   pub path-append : {n m : ℕ} {s t u : State} → Path F n s t → Path F m t u → Path F (n + m) s u
   path-append {m = m} stop q = let e : 0 + m ≡ m = omega arith in rw e q

@@ -2,14 +2,14 @@
 use mathlib.Core.Path.{sym}
 use lib.IntN.{pos}
 use lib.ListN.{getD}
-use Rattle.formula.specs.Limits.{variables-are}
+use Rattle.formula.specs.Limits.{maxVariables, variables-are}
 use borrow.Author.Needs.{needs, sfits-of}
 use Rattle.rules.proofs.Raised.{place-none, word-fits, sum-fits, sum-cast, sum-place}
 use Rattle.rules.proofs.by_literal.place_at.Statement.{statement}
 use Rattle.rules.proofs.by_literal.place_at.Tie as tie
 
 returns : tie.Need-returns
-returns c = place-none (c .before .args .ws .now) _ 256 (sym variables-are) (c .if1 .taken)
+returns c = place-none (c .before .args .ws .now) _ maxVariables (sym variables-are) (c .if1 .taken)
 
 mul-word : tie.Need-mul-word
 mul-word c = search needs
@@ -25,17 +25,17 @@ cast-word c =
 add-result : tie.Need-add-result
 add-result c =
     let start = c .before .before in
-    sum-fits (getD (start .args .ws .now) (start .args .i) (pos 0)) (sfits-of (c .word .given)) (start .pre) 256 (sym variables-are)
+    sum-fits (getD (start .args .ws .now) (start .args .i) (pos 0)) (sfits-of (c .word .given)) (start .pre) maxVariables (sym variables-are)
 
 cast-result : tie.Need-cast-result
 cast-result c =
     let start = c .before .before in
-    sum-cast (getD (start .args .ws .now) (start .args .i) (pos 0)) (sfits-of (c .word .given)) (start .pre) 256 (sym variables-are)
+    sum-cast (getD (start .args .ws .now) (start .args .i) (pos 0)) (sfits-of (c .word .given)) (start .pre) maxVariables (sym variables-are)
 
 returns-2 : tie.Need-returns-2
 returns-2 c =
     let start = c .before .before in
-    sum-place (getD (start .args .ws .now) (start .args .i) (pos 0)) (sfits-of (c .word .given)) (start .pre) 256 (sym variables-are)
+    sum-place (getD (start .args .ws .now) (start .args .i) (pos 0)) (sfits-of (c .word .given)) (start .pre) maxVariables (sym variables-are)
 
 pub place-at-spec : {M : Type 1} → statement M
 place-at-spec =

@@ -1,7 +1,7 @@
 -- A variable's two places say with which signs it occurs.
 use mathlib.Core.Path.{refl, sym}
 use native.Mathlib.Omega.{arith}
-use Rattle.formula.specs.Limits.{variables-are}
+use Rattle.formula.specs.Limits.{maxVariables, variables-are}
 use Rattle.rules.proofs.Occurring.{signs-plus, signs-minus, signs-both}
 use Rattle.rules.proofs.by_literal.signs_at.Statement.{statement}
 use Rattle.rules.proofs.by_literal.signs_at.Tie as tie
@@ -19,13 +19,13 @@ element-copy-out-minus : tie.Need-element-copy-out-minus
 element-copy-out-minus c = omega arith
 
 returns : tie.Need-returns
-returns c ws said = signs-plus ws (c .before .before .before .args .occurs .now) said _ (c .before .before .before .pre) 256 (sym variables-are) _ _ refl refl (c .if1 .taken)
+returns c ws said = signs-plus ws (c .before .before .before .args .occurs .now) said _ (c .before .before .before .pre) maxVariables (sym variables-are) _ _ refl refl (c .if1 .taken)
 
 returns-2 : tie.Need-returns-2
-returns-2 c ws said = signs-minus ws (c .before .before .before .before .args .occurs .now) said _ (c .before .before .before .before .pre) 256 (sym variables-are) _ _ refl refl (c .before .if1 .left) (c .if2 .taken)
+returns-2 c ws said = signs-minus ws (c .before .before .before .before .args .occurs .now) said _ (c .before .before .before .before .pre) maxVariables (sym variables-are) _ _ refl refl (c .before .if1 .left) (c .if2 .taken)
 
 returns-3 : tie.Need-returns-3
-returns-3 c ws said = signs-both ws (c .before .before .before .before .args .occurs .now) said _ (c .before .before .before .before .pre) 256 (sym variables-are) _ _ refl refl (c .before .if1 .left) (c .if2 .left)
+returns-3 c ws said = signs-both ws (c .before .before .before .before .args .occurs .now) said _ (c .before .before .before .before .pre) maxVariables (sym variables-are) _ _ refl refl (c .before .if1 .left) (c .if2 .left)
 
 pub signs-at-spec : {M : Type 1} → statement M
 signs-at-spec =

@@ -3,7 +3,7 @@ use Prim.Native.Nat.{_+_, _-_}
 use mathlib.Core.Path.{sym}
 use borrow.Author.Needs.{needs}
 use native.Mathlib.Omega.{arith}
-use Rattle.formula.specs.Limits.{variables-are}
+use Rattle.formula.specs.Limits.{maxVariables, variables-are}
 use Rattle.rules.proofs.Statuses.{Stated, stated-begin, stated-turn, stated-end}
 use Rattle.rules.proofs.by_literal.statuses_of.Statement.{statement}
 use Rattle.rules.proofs.by_literal.statuses_of.Tie as tie
@@ -50,7 +50,7 @@ loop-less c = omega arith
 loop-again : tie.Need-loop-again Inv-loop μ-loop
 loop-again c =
     let turn = c .before .before .before .before in
-    stated-turn _ _ _ _ _ (turn .before .loop .inv) (turn .loop-test .taken) (turn .before .before .pre) 256 (sym variables-are) _ _ (c .before .status-of .ensures) (c .status-of2 .ensures)
+    stated-turn _ _ _ _ _ (turn .before .loop .inv) (turn .loop-test .taken) (turn .before .before .pre) maxVariables (sym variables-are) _ _ (c .before .status-of .ensures) (c .status-of2 .ensures)
 
 returns : tie.Need-returns Inv-loop μ-loop
 returns c = stated-end _ _ _ _ _ (c .before .loop .inv) (c .loop-test .left)

@@ -1,3 +1,4 @@
+-- The block's number, or row 11 where it is accepted.
 use borrow.Author.Needs.{needs}
 use Rattle.session.proofs.Guards.{block-refused, buffers-short, buffers-pass}
 use Rattle.session.proofs.guard.of_buffers.Statement.{statement}
