@@ -22,12 +22,13 @@ use Rattle.theory.specs.Paths.{path-snoc}
 use Rattle.theory.specs.Sound.{sound-formula}
 use Rattle.theory.specs.Good.{good-none}
 use Rattle.theory.specs.Finite.{finite-formula}
+use Rattle.theory.specs.Progress.{never-stuck}
 use Rattle.rules.specs.declared.State.the-variants.{Open, Valid, Unsat}
 use Rattle.rules.specs.Due.{literal}
 use Rattle.rules.specs.Apply.{recordOf, wiped}
 use Rattle.rules.specs.Records.{wiped-length}
 use Rattle.rules.specs.Passed.{good-kept}
-use Rattle.rules.specs.Steps.{stateOf, KeptIn}
+use Rattle.rules.specs.Steps.{stateOf, recordIn, KeptIn}
 use Rattle.session.specs.declared.Revision.{Revision}
 use Rattle.session.specs.declared.Session.{Session}
 use Rattle.session.specs.declared.Answer.{Answer}
@@ -46,6 +47,8 @@ pub record Demand (b : List ℤ) (first : ℕ) (d : Desk) : Type 0 where
   -- "accepted steps in all at most 2^(V+1) - 1", each adding one to the revision
   pub steps : d .steps < 2 ^ suc (variablesOf b)
   pub revision : d .latest .revision .0 ≡ first + d .steps
+  -- so an open one is short of them: a run with a budget of as many ends
+  pub open-fewer : d .latest .state ≡ Open → suc (d .steps) < 2 ^ suc (variablesOf b)
   -- "Valid exactly with truth, Unsat exactly without"
   pub valid-true : d .latest .state ≡ Valid → true? (formulaOf b) ≡ true
   pub unsat-false : d .latest .state ≡ Unsat → true? (formulaOf b) ≡ false
@@ -113,6 +116,7 @@ module _ (b : List ℤ) (block : refusal limits b ≡ 0) (first : ℕ) where
       let ok = accepted-proper b block in
       record {
         steps = rw (prefix-length b block) at (finite-formula F (r .path));
+        open-fewer = λ o. rw (prefix-length b block) at (finite-formula F (path-snoc F (rw o at (r .path)) (never-stuck F ok (recordIn (searchAt d)) .1)));
         revision = r .revision;
         valid-true = λ e. sound-formula F ok true (rw e at (r .path));
         unsat-false = λ e. sound-formula F ok false (rw e at (r .path));
