@@ -1,4 +1,4 @@
-// A command, done on the desk: the call that it asks for. The library is lent the desk's buffers exactly as they are.
+// A command, done on the desk. The library is lent the desk's buffers exactly as they are.
 ghost use lib.ListN.{length};
 ghost use Rattle.console.specs.Desk.{Within};
 use crate::command::Command;
@@ -20,6 +20,7 @@ pub(crate) enum Called {
     Nothing,
 }
 
+// The library's call that a command asks for.
 fn call(
     command: Command,
     session: Session,

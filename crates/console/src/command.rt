@@ -17,13 +17,13 @@ use words::Literal;
 
 // "16,384 block words, 2,048 places of record, 8,192 of output". A line has at most half as many words as bytes, which is room enough for
 // preferences.
-pub(crate) const BLOCK_ROOM: usize = 16384;
+const BLOCK_ROOM: usize = 16384;
 
-pub(crate) const RECORD_ROOM: usize = 2048;
+const RECORD_ROOM: usize = 2048;
 
-pub(crate) const OUTPUT_ROOM: usize = 8192;
+const OUTPUT_ROOM: usize = 8192;
 
-pub(crate) const PREFERRED_ROOM: usize = 131072;
+const PREFERRED_ROOM: usize = 131072;
 
 // Words for a buffer are left in the line: the command says where they begin.
 pub(crate) enum Command {

@@ -1,6 +1,5 @@
 // A line: its bytes as they come in, and its words, parted by spaces.
-ghost use mathlib.Core.Path.{_≡_};
-ghost use Prim.Native.Nat.{_<_, _≤_};
+ghost use Prim.Native.Nat.{_≤_};
 ghost use lib.ListN.{length};
 ghost use Rattle.console.specs.Line.{Ahead};
 

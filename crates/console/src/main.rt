@@ -73,10 +73,10 @@ fn serve_line(
     let done = answer(command, session, counts, called);
     let reply = done.reply;
     let on = text::write(text, reply, counts, literals, kinds, output);
-    let next = done.session;
+    let session = done.session;
     Served {
         counts,
-        session: next,
+        session,
         on,
     }
 }

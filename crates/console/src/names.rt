@@ -1,5 +1,4 @@
 // The names that a line begins with, and its answer too.
-ghost use Prim.Native.Nat.{_≤_};
 ghost use lib.ListN.{length};
 ghost use Rattle.console.specs.Line.{Ahead};
 use crate::line::Word;
@@ -22,6 +21,7 @@ pub(crate) enum Name {
     Nothing,
 }
 
+// The names in one line, each at its place.
 pub(crate) fn list() -> [u8; 54] {
     *b"block lits kinds out session open step run page show ?"
 }

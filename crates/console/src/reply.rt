@@ -96,15 +96,13 @@ fn reached(name: Name, next: Session, count: usize, steps: u32) -> Done {
     }
 }
 
-// The session stays.
-fn stays(session: Session, reply: Reply) -> Done {
-    Done { session, reply }
-}
-
 fn answered(name: Name, session: Session, answer: Answer) -> Done {
     match answer {
         Answer::To(next) => reached(name, next, 4, 0),
-        Answer::Refused(n) => stays(session, counted(name, n as u64)),
+        Answer::Refused(n) => Done {
+            session,
+            reply: counted(name, n as u64),
+        },
     }
 }
 
@@ -114,7 +112,10 @@ fn ran(session: Session, answer: Ran) -> Done {
             session: next,
             steps,
         } => reached(Name::Run, next, 5, steps),
-        Ran::Stopped(n) => stays(session, counted(Name::Run, n as u64)),
+        Ran::Stopped(n) => Done {
+            session,
+            reply: counted(Name::Run, n as u64),
+        },
     }
 }
 
@@ -144,25 +145,43 @@ fn checked(answer: Checked) -> Reply {
 }
 
 // The answer to a command that calls nothing.
-fn told(command: Command, session: Session, counts: Counts) -> Done {
+fn told(command: Command, session: Session, counts: Counts) -> Reply {
     match command {
-        Command::Literals(_) => stays(session, counted(Name::Literals, counts.literals as u64)),
-        Command::Kinds(_) => stays(session, counted(Name::Kinds, counts.kinds as u64)),
-        Command::Output(_) => stays(session, counted(Name::Output, counts.output as u64)),
-        Command::Session(next) => stays(next, bare(Name::Session)),
-        Command::Show => stays(session, shown(session)),
-        Command::Nothing => stays(session, bare(Name::Nothing)),
-        _ => stays(session, bare(Name::Unknown)),
+        Command::Literals(_) => counted(Name::Literals, counts.literals as u64),
+        Command::Kinds(_) => counted(Name::Kinds, counts.kinds as u64),
+        Command::Output(_) => counted(Name::Output, counts.output as u64),
+        Command::Session(_) => bare(Name::Session),
+        Command::Show => shown(session),
+        Command::Nothing => bare(Name::Nothing),
+        _ => bare(Name::Unknown),
     }
 }
 
+// `session LENGTH REVISION STATE` sets the session. Else it stays.
+fn kept(command: Command, session: Session) -> Session {
+    match command {
+        Command::Session(next) => next,
+        _ => session,
+    }
+}
+
+// What a command is answered, from what the library answered.
 pub(crate) fn answer(command: Command, session: Session, counts: Counts, called: Called) -> Done {
     match called {
-        Called::Checked(answer) => stays(session, checked(answer)),
+        Called::Checked(answer) => Done {
+            session,
+            reply: checked(answer),
+        },
         Called::Opened(answer) => answered(Name::Open, session, answer),
         Called::Stepped(answer) => answered(Name::Step, session, answer),
         Called::Ran(answer) => ran(session, answer),
-        Called::Paged(answer) => stays(session, paged(answer)),
-        Called::Nothing => told(command, session, counts),
+        Called::Paged(answer) => Done {
+            session,
+            reply: paged(answer),
+        },
+        Called::Nothing => Done {
+            session: kept(command, session),
+            reply: told(command, session, counts),
+        },
     }
 }

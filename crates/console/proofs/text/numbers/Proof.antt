@@ -1,13 +1,11 @@
 -- Each turn puts one of five numbers, in at most 21 bytes.
-use mathlib.Core.Path.{_≡_}
-use Prim.Native.Nat.{_+_, _*_, _-_, _≤_}
-use lib.ListN.{length}
+use Prim.Native.Nat.{_+_, _-_, _*_, _≤_}
 use borrow.Author.Needs.{needs}
 use Rattle.console.proofs.text.numbers.Statement.{statement}
 use Rattle.console.proofs.text.numbers.Tie as tie
 
 abbrev Inv-loop : tie.InvT-loop
-Inv-loop text₀ from count ns at₀ i₀ text at i = (i ≤ 5) × (at ≤ from + 21 * i) × (length text ≡ length text₀)
+Inv-loop text₀ from count ns at₀ i₀ text at i = (i ≤ 5) × (at ≤ from + 21 * i)
 
 abbrev μ-loop : tie.MeasureT-loop
 μ-loop text₀ from count ns at₀ i₀ text at i = 5 - i
@@ -33,14 +31,8 @@ loop-less c = search needs
 loop-again : tie.Need-loop-again Inv-loop μ-loop
 loop-again c = search needs
 
-same-length : tie.Need-same-length Inv-loop μ-loop
-same-length c = search needs
-
 returns : tie.Need-returns Inv-loop μ-loop
 returns c = search needs
-
-same-length-2 : tie.Need-same-length-2 Inv-loop μ-loop
-same-length-2 c = search needs
 
 returns-2 : tie.Need-returns-2 Inv-loop μ-loop
 returns-2 c = search needs
@@ -58,7 +50,5 @@ numbers-spec =
     add-i
     loop-less
     loop-again
-    same-length
     returns
-    same-length-2
     returns-2)

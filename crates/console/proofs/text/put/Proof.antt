@@ -1,5 +1,4 @@
--- A byte is put only where there is room: there is room for them all.
-use mathlib.Core.Path.{_≡_}
+-- There is room for every byte.
 use Prim.Native.Nat.{_-_, _≤_}
 use lib.ListN.{length}
 use borrow.Author.Needs.{needs}
@@ -7,7 +6,7 @@ use Rattle.console.proofs.text.put.Statement.{statement}
 use Rattle.console.proofs.text.put.Tie as tie
 
 abbrev Inv-loop : tie.InvT-loop
-Inv-loop text₀ at bytes i₀ text i = (i ≤ length bytes) × (length text ≡ length text₀)
+Inv-loop text₀ at bytes i₀ text i = (i ≤ length bytes)
 
 abbrev μ-loop : tie.MeasureT-loop
 μ-loop text₀ at bytes i₀ text i = length bytes - i
@@ -21,8 +20,8 @@ shared-slice-read-text c = search needs
 add-text : tie.Need-add-text Inv-loop μ-loop
 add-text c = search needs
 
-slice-write-text : tie.Need-slice-write-text Inv-loop μ-loop
-slice-write-text c = search needs
+element-write-text : tie.Need-element-write-text Inv-loop μ-loop
+element-write-text c = search needs
 
 add-i : tie.Need-add-i Inv-loop μ-loop
 add-i c = search needs
@@ -36,9 +35,6 @@ loop-again c = search needs
 add-result : tie.Need-add-result Inv-loop μ-loop
 add-result c = search needs
 
-same-length : tie.Need-same-length Inv-loop μ-loop
-same-length c = search needs
-
 returns : tie.Need-returns Inv-loop μ-loop
 returns c = search needs
 
@@ -51,10 +47,9 @@ put-spec =
     loop-holds
     shared-slice-read-text
     add-text
-    slice-write-text
+    element-write-text
     add-i
     loop-less
     loop-again
     add-result
-    same-length
     returns)
