@@ -20,16 +20,16 @@ pub(crate) struct Word {
 
 // Puts the bytes of a part of the input, from one place up to another or to the next line feed, behind those that the line has.
 pub(crate) fn gather(
-    part: &[u8],
+    part: &[u8; 65536],
     from: usize,
     to: usize,
-    line: &mut [u8],
+    line: &mut [u8; 262144],
     held: usize,
     over: bool,
 ) -> Gathered
-    requires { ⌜ to ≤ length (now part) ⌝ }
-    requires { ⌜ held ≤ length (now line) ⌝ }
-    ensures { λ r. ⌜ r .count ≤ length (now (line .entry)) ⌝ }
+    requires { ⌜ to ≤ 65536 ⌝ }
+    requires { ⌜ held ≤ 262144 ⌝ }
+    ensures { λ r. ⌜ r .count ≤ 262144 ⌝ }
 {
     let mut i = from;
     let mut count = held;
@@ -45,7 +45,7 @@ pub(crate) fn gather(
                 ended: true,
             };
         }
-        if count < line.len() {
+        if count < 262144 {
             line[count] = b;
             count += 1;
         } else {

@@ -1,15 +1,14 @@
 // The words of a line, put into the buffer that its command names. Each function answers how many words of its buffer are in use.
 ghost use Prim.Native.Nat.{_≤_};
-ghost use lib.ListN.{length};
 ghost use Rattle.console.specs.Desk.{Within};
 use crate::command::Command;
 use crate::desk::Counts;
 use crate::fill;
 
 // `block W..`
-fn block(command: Command, line: &[u8], old: usize, block: &mut [i32]) -> usize
-    requires { ⌜ old ≤ length (now block) ⌝ }
-    ensures { λ r. ⌜ r ≤ length (now (block .entry)) ⌝ }
+fn block(command: Command, line: &[u8], old: usize, block: &mut [i32; 16384]) -> usize
+    requires { ⌜ old ≤ 16384 ⌝ }
+    ensures { λ r. ⌜ r ≤ 16384 ⌝ }
 {
     let Command::Block(from) = command else {
         return old;
@@ -18,9 +17,9 @@ fn block(command: Command, line: &[u8], old: usize, block: &mut [i32]) -> usize
 }
 
 // `lits W..`
-fn literals(command: Command, line: &[u8], old: usize, literals: &mut [i32]) -> usize
-    requires { ⌜ old ≤ length (now literals) ⌝ }
-    ensures { λ r. ⌜ r ≤ length (now (literals .entry)) ⌝ }
+fn literals(command: Command, line: &[u8], old: usize, literals: &mut [i32; 2048]) -> usize
+    requires { ⌜ old ≤ 2048 ⌝ }
+    ensures { λ r. ⌜ r ≤ 2048 ⌝ }
 {
     let Command::Literals(from) = command else {
         return old;
@@ -29,9 +28,9 @@ fn literals(command: Command, line: &[u8], old: usize, literals: &mut [i32]) -> 
 }
 
 // `kinds B..`
-fn kinds(command: Command, line: &[u8], old: usize, kinds: &mut [u8]) -> usize
-    requires { ⌜ old ≤ length (now kinds) ⌝ }
-    ensures { λ r. ⌜ r ≤ length (now (kinds .entry)) ⌝ }
+fn kinds(command: Command, line: &[u8], old: usize, kinds: &mut [u8; 2048]) -> usize
+    requires { ⌜ old ≤ 2048 ⌝ }
+    ensures { λ r. ⌜ r ≤ 2048 ⌝ }
 {
     let Command::Kinds(from) = command else {
         return old;
@@ -40,9 +39,9 @@ fn kinds(command: Command, line: &[u8], old: usize, kinds: &mut [u8]) -> usize
 }
 
 // `out W..`
-fn output(command: Command, line: &[u8], old: usize, output: &mut [u32]) -> usize
-    requires { ⌜ old ≤ length (now output) ⌝ }
-    ensures { λ r. ⌜ r ≤ length (now (output .entry)) ⌝ }
+fn output(command: Command, line: &[u8], old: usize, output: &mut [u32; 8192]) -> usize
+    requires { ⌜ old ≤ 8192 ⌝ }
+    ensures { λ r. ⌜ r ≤ 8192 ⌝ }
 {
     let Command::Output(from) = command else {
         return old;
@@ -51,8 +50,8 @@ fn output(command: Command, line: &[u8], old: usize, output: &mut [u32]) -> usiz
 }
 
 // The preferred literals of a run or a page. They are in use for this line alone.
-fn preferred(command: Command, line: &[u8], preferred: &mut [i32]) -> usize
-    ensures { λ r. ⌜ r ≤ length (now (preferred .entry)) ⌝ }
+fn preferred(command: Command, line: &[u8], preferred: &mut [i32; 131072]) -> usize
+    ensures { λ r. ⌜ r ≤ 131072 ⌝ }
 {
     match command {
         Command::Run {

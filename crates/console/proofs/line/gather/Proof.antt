@@ -1,15 +1,11 @@
 -- A byte is kept only where the line has room left.
-use mathlib.Core.Path.{_≡_}
 use Prim.Native.Nat.{_-_, _≤_}
-use lib.ListN.{length, length-set}
-use native.Mathlib.Omega.{arith}
 use borrow.Author.Needs.{needs}
 use Rattle.console.proofs.line.gather.Statement.{statement}
 use Rattle.console.proofs.line.gather.Tie as tie
 
 abbrev Inv-loop : tie.InvT-loop
-Inv-loop part from to line₀ held over i₀ count₀ long₀ line i count long =
-    (count ≤ length line) × (length line ≡ length line₀)
+Inv-loop part from to line₀ held over i₀ count₀ long₀ line i count long = (count ≤ 262144)
 
 abbrev μ-loop : tie.MeasureT-loop
 μ-loop part from to line₀ held over i₀ count₀ long₀ line i count long = to - i
@@ -17,20 +13,17 @@ abbrev μ-loop : tie.MeasureT-loop
 loop-holds : tie.Need-loop-holds Inv-loop μ-loop
 loop-holds c = search needs
 
-shared-slice-read-b : tie.Need-shared-slice-read-b Inv-loop μ-loop
-shared-slice-read-b c = search needs
+element-copy-out-b : tie.Need-element-copy-out-b Inv-loop μ-loop
+element-copy-out-b c = search needs
 
 add-i : tie.Need-add-i Inv-loop μ-loop
 add-i c = search needs
 
-same-length : tie.Need-same-length Inv-loop μ-loop
-same-length c = search needs
-
 returns : tie.Need-returns Inv-loop μ-loop
 returns c = search needs
 
-slice-write-line : tie.Need-slice-write-line Inv-loop μ-loop
-slice-write-line c = search needs
+element-write-line : tie.Need-element-write-line Inv-loop μ-loop
+element-write-line c = search needs
 
 add-count : tie.Need-add-count Inv-loop μ-loop
 add-count c = search needs
@@ -39,16 +32,13 @@ loop-less : tie.Need-loop-less Inv-loop μ-loop
 loop-less c = search needs
 
 loop-again : tie.Need-loop-again Inv-loop μ-loop
-loop-again c = simp length-set (omega arith)
+loop-again c = search needs
 
 loop-less-2 : tie.Need-loop-less-2 Inv-loop μ-loop
 loop-less-2 c = search needs
 
 loop-again-2 : tie.Need-loop-again-2 Inv-loop μ-loop
 loop-again-2 c = search needs
-
-same-length-2 : tie.Need-same-length-2 Inv-loop μ-loop
-same-length-2 c = search needs
 
 returns-2 : tie.Need-returns-2 Inv-loop μ-loop
 returns-2 c = search needs
@@ -60,15 +50,13 @@ gather-spec =
     Inv-loop
     μ-loop
     loop-holds
-    shared-slice-read-b
+    element-copy-out-b
     add-i
-    same-length
     returns
-    slice-write-line
+    element-write-line
     add-count
     loop-less
     loop-again
     loop-less-2
     loop-again-2
-    same-length-2
     returns-2)
