@@ -1,12 +1,12 @@
 -- Places in a line only go on, and never past its end.
-use Prim.Native.Nat.{ℕ, _≤_, _<_}
-use Rattle.console.specs.declared.line.Gathered.{Gathered}
+use Prim.Native.Nat.{ℕ, _≤_}
+use Rattle.console.specs.declared.input.Taken.{Taken}
 use Rattle.console.specs.declared.line.Word.{Word}
 
--- the input goes on behind the place where it was, in a part of n bytes
-pub record Onward (from n : ℕ) (g : Gathered) : Type 0 where
-  pub later : from < g .next
-  pub within : g .next ≤ n
+-- a line is taken in from a part of the input, each within the room that it has
+pub record Takes (t : Taken) (part line : ℕ) : Type 0 where
+  pub count : t .count ≤ line
+  pub size : t .left .size ≤ part
 
 -- a word lies behind the place where the search for it began, in a line of n bytes
 pub record Ahead (from n : ℕ) (w : Word) : Type 0 where

@@ -1,14 +1,14 @@
 // A line: its bytes as they come in, and its words, parted by spaces.
-ghost use mathlib.Core.Path.{_≡_};
-ghost use Prim.Native.Nat.{_<_, _≤_};
+ghost use Prim.Native.Nat.{_≤_};
 ghost use lib.ListN.{length};
-ghost use Rattle.console.specs.Line.{Ahead, Onward};
+ghost use Rattle.console.specs.Line.{Ahead};
 
-// How far a line has come in: where the input goes on, how many bytes the line has, one more than its room if they are too many, and
-// whether its line feed has come.
+// How far a line has come in: where the input goes on, how many bytes of the line are kept, whether there were more than it has room for,
+// and whether its line feed has come.
 pub(crate) struct Gathered {
     pub(crate) next: usize,
     pub(crate) count: usize,
+    pub(crate) long: bool,
     pub(crate) ended: bool,
 }
 
@@ -18,33 +18,44 @@ pub(crate) struct Word {
     pub(crate) end: usize,
 }
 
-// Puts the bytes of a part of the input, from a place up to the next line feed, behind those that the line has.
-pub(crate) fn gather(part: &[u8], from: usize, line: &mut [u8], held: usize) -> Gathered
-    requires { ⌜ from < length (now part) ⌝ }
-    ensures { λ r. ⌜ Onward from (length (now (part .entry))) r ⌝ }
+// Puts the bytes of a part of the input, from one place up to another or to the next line feed, behind those that the line has.
+pub(crate) fn gather(
+    part: &[u8; 65536],
+    from: usize,
+    to: usize,
+    line: &mut [u8; 262144],
+    held: usize,
+    over: bool,
+) -> Gathered
+    requires { ⌜ to ≤ 65536 ⌝ }
+    requires { ⌜ held ≤ 262144 ⌝ }
+    ensures { λ r. ⌜ r .count ≤ 262144 ⌝ }
 {
     let mut i = from;
     let mut count = held;
-    while i < part.len() {
+    let mut long = over;
+    while i < to {
         let b = part[i];
         i += 1;
         if b == b'\n' {
             return Gathered {
                 next: i,
                 count,
+                long,
                 ended: true,
             };
         }
-        if count < line.len() {
+        if count < 262144 {
             line[count] = b;
             count += 1;
         } else {
-            count = line.len() + 1;
+            long = true;
         }
     }
     Gathered {
         next: i,
         count,
+        long,
         ended: false,
     }
 }

@@ -1,16 +1,16 @@
 -- The size is at most 2^31, so it and its negation fit 64 bits; what its place allows fits 32.
-use mathlib.Core.Path.{_≡_, refl, sym, ap, _∙_}
+use mathlib.Core.Path.{_≡_, refl}
 use mathlib.Core.Bool.{Bool, true, false}
 use Prim.Native.Nat.{ℕ, zero, suc, _≤_}
 use native.Mathlib.Omega.{arith}
 use lib.Dec.{lit<}
-use lib.IntN.{ℤ, pos, negsuc, negℤ, _-ℤ_, +ℤ-idl}
+use lib.IntN.{pos, negℤ, _-ℤ_, +ℤ-idl}
 use mir.Syntax.{w32, w64}
 use mir.Val.{SFits, toZ, ofZ}
 use mir.ValLaws.{toZ-ofZ}
 use Rattle.words.specs.Bools.{clash}
 use Rattle.console.specs.declared.numbers.Place.the-variants as place
-use Rattle.console.specs.Numbers.{largestOf, signedOf}
+use Rattle.console.specs.Numbers.{largestOf}
 use Rattle.console.proofs.Places.{word-most}
 use Rattle.console.proofs.numbers.signed.Statement.{statement}
 use Rattle.console.proofs.numbers.signed.Tie as tie

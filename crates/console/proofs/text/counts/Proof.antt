@@ -1,29 +1,26 @@
 -- Each turn puts one number, in at most 21 bytes.
-use mathlib.Core.Path.{_≡_}
 use Prim.Native.Nat.{_+_, _-_, _*_, _≤_}
-use native.Mathlib.Omega.{arith}
-use lib.ListN.{length}
 use borrow.Author.Needs.{needs}
 use Rattle.console.proofs.text.counts.Statement.{statement}
 use Rattle.console.proofs.text.counts.Tie as tie
 
 abbrev Inv-loop : tie.InvT-loop
-Inv-loop text₀ from ns count at₀ i₀ text at i = (i ≤ length ns) × (at ≤ from + 21 * i) × (length text ≡ length text₀)
+Inv-loop text₀ from ns count at₀ i₀ text at i = (i ≤ 8192) × (at ≤ from + 21 * i)
 
 abbrev μ-loop : tie.MeasureT-loop
-μ-loop text₀ from ns count at₀ i₀ text at i = length ns - i
+μ-loop text₀ from ns count at₀ i₀ text at i = 8192 - i
 
 loop-holds : tie.Need-loop-holds Inv-loop μ-loop
 loop-holds c = search needs
 
-mul-natural : tie.Need-mul-natural Inv-loop μ-loop
-mul-natural c = search needs
+mul-of-count : tie.Need-mul-of-count Inv-loop μ-loop
+mul-of-count c = search needs
 
-shared-slice-read-natural : tie.Need-shared-slice-read-natural Inv-loop μ-loop
-shared-slice-read-natural c = search needs
+element-copy-out-of-count : tie.Need-element-copy-out-of-count Inv-loop μ-loop
+element-copy-out-of-count c = search needs
 
-cast-natural : tie.Need-cast-natural Inv-loop μ-loop
-cast-natural c = omega (arith, c .shared-slice-known2 .given (c .before .before .before .before .loop .i))
+of-count-requires : tie.Need-of-count-requires Inv-loop μ-loop
+of-count-requires c κs = search needs
 
 natural-requires : tie.Need-natural-requires Inv-loop μ-loop
 natural-requires c κs = search needs
@@ -37,14 +34,8 @@ loop-less c = search needs
 loop-again : tie.Need-loop-again Inv-loop μ-loop
 loop-again c = search needs
 
-same-length : tie.Need-same-length Inv-loop μ-loop
-same-length c = search needs
-
 returns : tie.Need-returns Inv-loop μ-loop
 returns c = search needs
-
-same-length-2 : tie.Need-same-length-2 Inv-loop μ-loop
-same-length-2 c = search needs
 
 returns-2 : tie.Need-returns-2 Inv-loop μ-loop
 returns-2 c = search needs
@@ -56,14 +47,12 @@ counts-spec =
     Inv-loop
     μ-loop
     loop-holds
-    mul-natural
-    shared-slice-read-natural
-    cast-natural
+    mul-of-count
+    element-copy-out-of-count
+    of-count-requires
     natural-requires
     add-i
     loop-less
     loop-again
-    same-length
     returns
-    same-length-2
     returns-2)

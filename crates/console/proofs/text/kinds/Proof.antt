@@ -1,26 +1,23 @@
 -- Each turn puts one number, in at most 21 bytes.
-use mathlib.Core.Path.{_≡_}
 use Prim.Native.Nat.{_+_, _-_, _*_, _≤_}
-use native.Mathlib.Omega.{arith}
-use lib.ListN.{length}
 use borrow.Author.Needs.{needs}
 use Rattle.console.proofs.text.kinds.Statement.{statement}
 use Rattle.console.proofs.text.kinds.Tie as tie
 
 abbrev Inv-loop : tie.InvT-loop
-Inv-loop text₀ from bs count at₀ i₀ text at i = (i ≤ length bs) × (at ≤ from + 21 * i) × (length text ≡ length text₀)
+Inv-loop text₀ from bs count at₀ i₀ text at i = (i ≤ 2048) × (at ≤ from + 21 * i)
 
 abbrev μ-loop : tie.MeasureT-loop
-μ-loop text₀ from bs count at₀ i₀ text at i = length bs - i
+μ-loop text₀ from bs count at₀ i₀ text at i = 2048 - i
 
 loop-holds : tie.Need-loop-holds Inv-loop μ-loop
 loop-holds c = search needs
 
-shared-slice-read-natural : tie.Need-shared-slice-read-natural Inv-loop μ-loop
-shared-slice-read-natural c = search needs
+element-copy-out-of-kind : tie.Need-element-copy-out-of-kind Inv-loop μ-loop
+element-copy-out-of-kind c = search needs
 
-cast-natural : tie.Need-cast-natural Inv-loop μ-loop
-cast-natural c = omega (arith, c .shared-slice-known2 .given (c .before .before .before .before .loop .i))
+of-kind-requires : tie.Need-of-kind-requires Inv-loop μ-loop
+of-kind-requires c κs = search needs
 
 natural-requires : tie.Need-natural-requires Inv-loop μ-loop
 natural-requires c κs = search needs
@@ -34,14 +31,8 @@ loop-less c = search needs
 loop-again : tie.Need-loop-again Inv-loop μ-loop
 loop-again c = search needs
 
-same-length : tie.Need-same-length Inv-loop μ-loop
-same-length c = search needs
-
 returns : tie.Need-returns Inv-loop μ-loop
 returns c = search needs
-
-same-length-2 : tie.Need-same-length-2 Inv-loop μ-loop
-same-length-2 c = search needs
 
 returns-2 : tie.Need-returns-2 Inv-loop μ-loop
 returns-2 c = search needs
@@ -53,13 +44,11 @@ kinds-spec =
     Inv-loop
     μ-loop
     loop-holds
-    shared-slice-read-natural
-    cast-natural
+    element-copy-out-of-kind
+    of-kind-requires
     natural-requires
     add-i
     loop-less
     loop-again
-    same-length
     returns
-    same-length-2
     returns-2)

