@@ -8,6 +8,9 @@ mod yardstick;
 use core::slice::{from_raw_parts, from_raw_parts_mut};
 use yardstick::{run, Session};
 
+/// The status of a call whose answer has fewer places than numbers.
+const NO_ROOM: u32 = 100;
+
 /// # Safety
 ///
 /// Each pointer leads to as many places as the number after it says.
@@ -32,13 +35,16 @@ pub unsafe extern "C" fn yardstick_run(
     let session = Session {
         length,
         revision,
-        state: state as u8,
+        state: state.min(2) as u8,
     };
     let block = unsafe { from_raw_parts(block, block_length) };
     let literals = unsafe { from_raw_parts_mut(literals, literals_length) };
     let kinds = unsafe { from_raw_parts_mut(kinds, kinds_length) };
     let preferred = unsafe { from_raw_parts(preferred, preferred_length) };
     let answer = unsafe { from_raw_parts_mut(answer, answer_length) };
+    if answer.len() < 4 {
+        return NO_ROOM;
+    }
     match run(session, block, literals, kinds, seen, budget, preferred) {
         Ok((next, count)) => {
             let words = [next.length, next.revision, next.state.into(), count.into()];

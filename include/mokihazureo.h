@@ -20,14 +20,12 @@ extern "C" {
 /* The state of a session. A number over MOKI_UNSAT counts as MOKI_UNSAT. */
 enum { MOKI_OPEN = 0, MOKI_VALID = 1, MOKI_UNSAT = 2 };
 
-/* How many words a call's answer has, and the status of a call whose answer has
-   fewer places. */
-enum {
-    MOKI_SESSION_WORDS = 3,
-    MOKI_RUN_WORDS = 4,
-    MOKI_PAGE_WORDS = 3,
-    MOKI_NO_ROOM = 100
-};
+/* How many words a call's answer has. */
+enum { MOKI_SESSION_WORDS = 3, MOKI_RUN_WORDS = 4, MOKI_PAGE_WORDS = 3 };
+
+/* The status of a call whose answer has fewer places than that; no refusal has
+   this number. */
+enum { MOKI_NO_ROOM = 100 };
 
 /* Refusals 1 to 10. */
 uint32_t moki_check(const int32_t *block, size_t block_length);

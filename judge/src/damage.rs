@@ -1,6 +1,6 @@
 //! Damage to an accepted block, aimed at one row of the check each time, and to
-//! an accepted record. Not every try lands (a block may lack the part that it would break); the check
-//! says what came of it.
+//! an accepted record. Not every try lands (a block may lack the part that it
+//! would break); the check says what came of it.
 
 use crate::dice::Dice;
 use crate::record::Entry;

@@ -159,10 +159,10 @@ impl Play {
         self.formula.as_ref().map_or(3, Formula::variables)
     }
 
-    /// The record on the desk, empty if it is refused.
-    fn record(&self, formula: &Formula) -> Vec<Entry> {
+    /// The record on the desk, or its refusal.
+    fn record(&self, formula: &Formula) -> Result<Vec<Entry>, u8> {
         let desk = &self.desk;
-        record::read(formula, &desk.literals, &desk.kinds, desk.session.length).unwrap_or_default()
+        record::read(formula, &desk.literals, &desk.kinds, desk.session.length)
     }
 
     fn act(&mut self) {
@@ -201,11 +201,9 @@ impl Play {
 
     /// Whether no step can be accepted as the desk is.
     fn stuck(&self) -> bool {
-        let desk = &self.desk;
-        let session = desk.session;
-        let accepted = self.formula.as_ref().is_some_and(|formula| {
-            record::read(formula, &desk.literals, &desk.kinds, session.length).is_ok()
-        });
+        let session = self.desk.session;
+        let formula = self.formula.as_ref();
+        let accepted = formula.is_some_and(|formula| self.record(formula).is_ok());
         !accepted || session.state != State::Open || session.revision == u64::MAX
     }
 
@@ -228,7 +226,7 @@ impl Play {
         let Some(formula) = self.formula.clone() else {
             return self.step_with(0);
         };
-        let record = self.record(&formula);
+        let record = self.record(&formula).unwrap_or_default();
         let literals = formula.order().flat_map(|variable| [variable, -variable]);
         let open: Vec<i32> = literals
             .filter(|&literal| rules::open(&formula, &record, literal))
@@ -254,7 +252,8 @@ impl Play {
 
     fn decide_due(&self) -> bool {
         self.formula.as_ref().is_some_and(|formula| {
-            rules::due(formula, &self.record(formula)) == rules::Rule::Decide
+            let record = self.record(formula).unwrap_or_default();
+            rules::due(formula, &record) == rules::Rule::Decide
         })
     }
 
@@ -365,15 +364,20 @@ impl Play {
         self.say(line("kinds", &kinds));
     }
 
+    /// Steps from a session of this length.
+    fn step_at(&mut self, length: usize, state: u8) {
+        let revision = self.desk.session.revision;
+        self.say(format!("session {length} {revision} {state}"));
+        self.step_with(0);
+    }
+
     fn made_record(&mut self) {
         let Some(formula) = self.formula.clone() else {
             return self.calls_of_each_kind();
         };
         let record = shapes::record(&mut self.dice, &formula);
         self.say_record(&record, formula.variables());
-        let revision = self.desk.session.revision;
-        self.say(format!("session {} {revision} 0", record.len()));
-        self.step_with(0);
+        self.step_at(record.len(), 0);
     }
 
     /// A record with one thing wrong, a call or two on it, and a new start.
@@ -388,10 +392,8 @@ impl Play {
             let mut record = shapes::record(&mut self.dice, &formula);
             break_entry(&mut self.dice, &mut record, v as i32);
             self.say_record(&record, v);
-            let revision = self.desk.session.revision;
             let state = self.dice.pick(&[0, 0, 0, 1]);
-            self.say(format!("session {} {revision} {state}", record.len()));
-            self.step_with(0);
+            self.step_at(record.len(), state);
             self.run();
         }
         if self.dice.chance(1, 4) {

@@ -16,6 +16,8 @@ pub struct Revision(pub u64);
 #[derive(Clone, Copy, Debug, PartialEq, Eq)]
 pub struct Literal(pub i32);
 
+/// Whether a session goes on, or has ended with the formula true (`Valid`) or false
+/// (`Unsat`).
 #[derive(Clone, Copy, Debug, PartialEq, Eq)]
 pub enum State {
     Open,
