@@ -53,7 +53,7 @@ seen s t = record { heard = s; state = t }
 abbrev pub next : Said → Seen → Seen
 next x u = seen (x ∷ u .heard) (u .state)
 
-abbrev pub stepped : Session → Rule → Outcome → Answer → (Session → List ℤ → List ℕ → Seen) → Seen
+abbrev pub stepped : Session → Rule → Outcome Answer → Answer → (Session → List ℤ → List ℕ → Seen) → Seen
 stepped s r o (To t) rest = next (named r (getD (o .lits) (t .length - 1) (pos 0))) (rest t (o .lits) (o .kinds))
 stepped s r o (Refused n) rest = next (said.refused n) (rest s (o .lits) (o .kinds))
 
@@ -71,7 +71,7 @@ calling b (said.page start budget out ∷ rest) s ls ks =
     next (paged-as o (o .answer)) (calling b rest s (o .lits) (o .kinds))
 
 -- from the opening, on buffers of V places that hold something
-abbrev pub opened : List ℤ → List Asked → Outcome → Answer → Seen
+abbrev pub opened : List ℤ → List Asked → Outcome Answer → Answer → Seen
 opened b calls o (To s) = calling b calls s (o .lits) (o .kinds)
 opened b calls o (Refused n) = seen (said.refused n ∷ []) Open
 

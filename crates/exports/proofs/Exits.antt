@@ -12,11 +12,11 @@ use Rattle.session.specs.declared.Session.{Session}
 use Rattle.session.specs.declared.Answer.{Answer}
 use Rattle.session.specs.declared.Ran.{Ran}
 use Rattle.session.specs.Outcome.{Outcome, outcome, stepOutcome}
-use Rattle.session.specs.Run.{RunOutcome, runOutcome, runOf}
+use Rattle.session.specs.Run.{runOf}
 use Rattle.rules.specs.Due.{pick, literal}
 use Rattle.listing.specs.declared.Paged.{Paged}
 use Rattle.listing.specs.Page.{PageOutcome, pageOutcome}
-use Rattle.exports.specs.Called.{Called, called, withRoom, stateOf, revision, statusOf, toldBy, ofAnswer, ranStatus, ranTold, ofRan, PageCalled, pageCalled, pagedStatus, pagedTold, ofPaged}
+use Rattle.exports.specs.Called.{Called, called, withRoom, stateOf, revision, ofOutcome, PageCalled, pageCalled, pagedStatus, pagedTold, ofPaged}
 
 -- a state's number that is neither 0 nor 1
 pub state-unsat : (n : ℕ) → (n ≡ 0 → ⊥) → (n ≡ 1 → ⊥) → Unsat ≡ stateOf n
@@ -41,19 +41,16 @@ module _ {C : Type 0} (n : ℕ) (a : List ℕ) (short : C) where
 
 -- ---- what the call below leaves, and its numbers
 module _ (n : ℕ) (a : List ℕ) {ls : List ℤ} {ks a′ : List ℕ} {r : ℕ} (h : n ≤ length a) where
-  pub of-answer : (short : Called) {o : Outcome} {x : Answer} → outcome x ls ks ≡ o → r ≡ statusOf x → a′ ≡ toldBy x a → called r ls ks a′ ≡ withRoom n a short (ofAnswer a o)
-  of-answer short e p q = with-room n a short h (rw (← e, p, q))
-
-  pub of-ran : (short : Called) {o : RunOutcome} {x : Ran} → runOutcome x ls ks ≡ o → r ≡ ranStatus x → a′ ≡ ranTold x a → called r ls ks a′ ≡ withRoom n a short (ofRan a o)
-  of-ran short e p q = with-room n a short h (rw (← e, p, q))
+  pub of-outcome : {A : Type 0} (status : A → ℕ) (numbers : A → List ℕ → List ℕ) (short : Called) {o : Outcome A} {x : A} → outcome x ls ks ≡ o → r ≡ status x → a′ ≡ numbers x a → called r ls ks a′ ≡ withRoom n a short (ofOutcome status numbers a o)
+  of-outcome status numbers short e p q = with-room n a short h (rw (← e, p, q))
 
   pub of-paged : (short : PageCalled) {o : PageOutcome} {x : Paged} {out : List ℕ} → pageOutcome x ls ks out ≡ o → r ≡ pagedStatus x → a′ ≡ pagedTold x a → pageCalled r ls ks out a′ ≡ withRoom n a short (ofPaged a o)
   of-paged short e p q = with-room n a short h (rw (← e, p, q))
 
 -- the session of the three numbers
 module _ {s t : Session} (same : s ≡ t) (b ls : List ℤ) (ks : List ℕ) (seen : ℕ) where
-  pub step-of : {l m : ℤ} → l ≡ m → {o : Outcome} → o ≡ stepOutcome s b ls ks (revision seen) (literal l) → o ≡ stepOutcome t b ls ks (revision seen) (literal m)
+  pub step-of : {l m : ℤ} → l ≡ m → {o : Outcome Answer} → o ≡ stepOutcome s b ls ks (revision seen) (literal l) → o ≡ stepOutcome t b ls ks (revision seen) (literal m)
   step-of kept e = rw (← same, ← kept) e
 
-  pub run-of : (budget : ℕ) (preferred : List ℤ) {o : RunOutcome} → o ≡ runOf s b ls ks (revision seen) budget preferred → o ≡ runOf t b ls ks (revision seen) budget preferred
+  pub run-of : (budget : ℕ) (preferred : List ℤ) {o : Outcome Ran} → o ≡ runOf s b ls ks (revision seen) budget preferred → o ≡ runOf t b ls ks (revision seen) budget preferred
   run-of budget preferred e = rw (← same) e

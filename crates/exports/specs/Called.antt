@@ -15,7 +15,7 @@ use Rattle.session.specs.declared.Answer.the-variants.{To, Refused}
 use Rattle.session.specs.declared.Ran.{Ran}
 use Rattle.session.specs.declared.Ran.the-variants.{Until, Stopped}
 use Rattle.session.specs.Outcome.{session, Outcome, openOutcome, stepOutcome}
-use Rattle.session.specs.Run.{RunOutcome, runOf}
+use Rattle.session.specs.Run.{runOf}
 use Rattle.listing.specs.declared.Paged as paged
 use Rattle.listing.specs.Page.{PageOutcome, pageOf}
 
@@ -69,14 +69,15 @@ abbrev pub toldBy : Answer → List ℕ → List ℕ
 toldBy (To s) a = told s a
 toldBy (Refused n) a = a
 
-abbrev pub ofAnswer : List ℕ → Outcome → Called
-ofAnswer a o = called (statusOf (o .answer)) (o .lits) (o .kinds) (toldBy (o .answer) a)
+-- what the call below leaves, with its answer as a status and numbers
+abbrev pub ofOutcome : {A : Type 0} → (A → ℕ) → (A → List ℕ → List ℕ) → List ℕ → Outcome A → Called
+ofOutcome status numbers a o = called (status (o .answer)) (o .lits) (o .kinds) (numbers (o .answer) a)
 
 abbrev pub openCall : List ℤ → List ℤ → List ℕ → ℕ → List ℕ → Called
-openCall b ls ks first a = withRoom 3 a (called noRoom ls ks a) (ofAnswer a (openOutcome b ls ks (revision first)))
+openCall b ls ks first a = withRoom 3 a (called noRoom ls ks a) (ofOutcome statusOf toldBy a (openOutcome b ls ks (revision first)))
 
 abbrev pub stepCall : Session → List ℤ → List ℤ → List ℕ → ℕ → ℤ → List ℕ → Called
-stepCall s b ls ks seen l a = withRoom 3 a (called noRoom ls ks a) (ofAnswer a (stepOutcome s b ls ks (revision seen) (literal l)))
+stepCall s b ls ks seen l a = withRoom 3 a (called noRoom ls ks a) (ofOutcome statusOf toldBy a (stepOutcome s b ls ks (revision seen) (literal l)))
 
 -- ---- a run: the count of accepted steps stands in a fourth place
 abbrev pub ranStatus : Ran → ℕ
@@ -87,11 +88,8 @@ abbrev pub ranTold : Ran → List ℕ → List ℕ
 ranTold (Until s n) a = set (told s a) 3 n
 ranTold (Stopped n) a = a
 
-abbrev pub ofRan : List ℕ → RunOutcome → Called
-ofRan a o = called (ranStatus (o .answer)) (o .lits) (o .kinds) (ranTold (o .answer) a)
-
 abbrev pub runCall : Session → List ℤ → List ℤ → List ℕ → ℕ → ℕ → List ℤ → List ℕ → Called
-runCall s b ls ks seen budget preferred a = withRoom 4 a (called noRoom ls ks a) (ofRan a (runOf s b ls ks (revision seen) budget preferred))
+runCall s b ls ks seen budget preferred a = withRoom 4 a (called noRoom ls ks a) (ofOutcome ranStatus ranTold a (runOf s b ls ks (revision seen) budget preferred))
 
 -- ---- a page: it has an output too, and its numbers are where the next page begins, the entries written, and 1 for paused, else 0
 pub record PageCalled : Type 0 where

@@ -25,32 +25,21 @@ use Rattle.session.specs.declared.Ran.the-variants.{Until, Stopped}
 use Rattle.session.specs.Refusals.{lastRevision, openRefusal, stepRows, stepRefusal, runRows, runRefusal}
 use Rattle.session.specs.Rows.{after-passed, after-stopped}
 use Rattle.session.specs.Outcome.{session, Outcome, outcome, unless, openOutcome, stepOutcome}
-use Rattle.session.specs.Run.{RunOutcome, runOutcome, unlessRun, trip, runFrom, runOf}
+use Rattle.session.specs.Run.{trip, runFrom, runOf}
 use Rattle.session.specs.Trips.{travelled}
 use Rattle.session.specs.Checked.{sessionRows, sessionRefusal, proposalRefusal, OnBlock}
 use Rattle.session.proofs.Lent.{passed}
 
 -- a number other than 0 is answered, and nothing is written
-module _ (n : ℕ) (ls : List ℤ) (ks : List ℕ) where
-  unless-refused : (o : Outcome) → (n ≡ 0 → ⊥) → outcome (Refused n) ls ks ≡ unless n ls ks o
-  unless-refused o f = go n f
-    where
-      go : (m : ℕ) → (m ≡ 0 → ⊥) → outcome (Refused m) ls ks ≡ unless m ls ks o
-      go zero f = absurd (f refl)
-      go (suc m) f = refl
-
-  unless-stopped : (o : RunOutcome) → (n ≡ 0 → ⊥) → runOutcome (Stopped n) ls ks ≡ unlessRun n ls ks o
-  unless-stopped o f = go n f
-    where
-      go : (m : ℕ) → (m ≡ 0 → ⊥) → runOutcome (Stopped m) ls ks ≡ unlessRun m ls ks o
-      go zero f = absurd (f refl)
-      go (suc m) f = refl
+unless-number : {A : Type 0} (number : ℕ → A) (n : ℕ) (ls : List ℤ) (ks : List ℕ) (o : Outcome A) → (n ≡ 0 → ⊥) → outcome (number n) ls ks ≡ unless number n ls ks o
+unless-number number zero ls ks o f = absurd (f refl)
+unless-number number (suc n) ls ks o f = refl
 
 -- ---- opening
 module _ (b ls : List ℤ) (ks : List ℕ) (rev : Revision) {r : ℕ} (e : r ≡ openRefusal b ls ks) where
   pub open-refused : (r ≡ 0 → ⊥) → outcome (Refused r) ls ks ≡ openOutcome b ls ks rev
   unfolding openOutcome
-  open-refused f = rw (← e) (unless-refused r ls ks _ f)
+  open-refused f = rw (← e) (unless-number Refused r ls ks _ f)
 
   pub open-clears : r ≡ 0 → {n : ℕ} → n ≡ variablesOf b → {ls′ : List ℤ} {ks′ : List ℕ} → Wiped 0 n ls ks ls′ ks′ → outcome (To (session 0 (rev .0) Open)) ls′ ks′ ≡ openOutcome b ls ks rev
   unfolding openOutcome
@@ -60,7 +49,7 @@ module _ (b ls : List ℤ) (ks : List ℕ) (rev : Revision) {r : ℕ} (e : r ≡
 module _ (s : Session) (b ls : List ℤ) (ks : List ℕ) (seen : Revision) (l : Literal) {r : ℕ} (e : r ≡ sessionRefusal s b ls ks seen) where
   pub step-refused : (r ≡ 0 → ⊥) → outcome (Refused r) ls ks ≡ stepOutcome s b ls ks seen l
   unfolding stepOutcome stepRefusal sessionRefusal
-  step-refused f = rw (after-stopped (refusal limits b) (sessionRows s b ls ks seen) (drop 4 (stepRows s b ls ks seen l)) (sym e) f) (unless-refused r ls ks _ f)
+  step-refused f = rw (after-stopped (refusal limits b) (sessionRows s b ls ks seen) (drop 4 (stepRows s b ls ks seen l)) (sym e) f) (unless-number Refused r ls ks _ f)
 
   module _ (z : r ≡ 0) where
     step-from-15 : stepRefusal s b ls ks seen l ≡ first 15 (drop 4 (stepRows s b ls ks seen l))
@@ -84,7 +73,7 @@ module _ (s : Session) (b ls : List ℤ) (ks : List ℕ) (seen : Revision) (l : 
 
         pub step-improper : (q ≡ 0 → ⊥) → outcome (Refused q) ls ks ≡ stepOutcome s b ls ks seen l
         unfolding stepOutcome
-        step-improper f = rw step-from-16 (unless-refused q ls ks _ f)
+        step-improper f = rw step-from-16 (unless-number Refused q ls ks _ f)
 
         pub step-moves : q ≡ 0 → (t : Reached) (ls′ : List ℤ) (ks′ : List ℕ)
             → reached t ls′ ks′ ≡ apply (prefixOf b) rule (l .0) (search ls ks (s .length) Open)
@@ -97,23 +86,23 @@ module _ (s : Session) (b ls : List ℤ) (ks : List ℕ) (seen : Revision) (l : 
 
 -- ---- a run
 module _ (s : Session) (b ls : List ℤ) (ks : List ℕ) (seen : Revision) (budget : ℕ) (preferred : List ℤ) {r : ℕ} (e : r ≡ sessionRefusal s b ls ks seen) where
-  pub run-refused : (r ≡ 0 → ⊥) → runOutcome (Stopped r) ls ks ≡ runOf s b ls ks seen budget preferred
+  pub run-refused : (r ≡ 0 → ⊥) → outcome (Stopped r) ls ks ≡ runOf s b ls ks seen budget preferred
   unfolding runOf runRefusal sessionRefusal
-  run-refused f = rw (after-stopped (refusal limits b) (sessionRows s b ls ks seen) (drop 4 (runRows s b ls ks seen budget)) (sym e) f) (unless-stopped r ls ks _ f)
+  run-refused f = rw (after-stopped (refusal limits b) (sessionRows s b ls ks seen) (drop 4 (runRows s b ls ks seen budget)) (sym e) f) (unless-number Stopped r ls ks _ f)
 
   module _ (z : r ≡ 0) {w : ℕ} (is : w ≡ budget) where
     run-from-15 : runRefusal s b ls ks seen budget ≡ first 15 (drop 4 (runRows s b ls ks seen budget))
     unfolding runRefusal sessionRefusal
     run-from-15 = after-passed (refusal limits b) (sessionRows s b ls ks seen) (drop 4 (runRows s b ls ks seen budget)) (sym e ∙ z)
 
-    pub run-over : lastRevision - s .revision .0 < w → runOutcome (Stopped 15) ls ks ≡ runOf s b ls ks seen budget preferred
+    pub run-over : lastRevision - s .revision .0 < w → outcome (Stopped 15) ls ks ≡ runOf s b ls ks seen budget preferred
     unfolding runOf
     run-over h = rw (run-from-15, lt-ltb lastRevision (s .revision .0 + budget) (omega arith))
 
     pub run-moves : s .revision .0 ≤ lastRevision → w ≤ lastRevision - s .revision .0
         → (t : Reached) (steps : ℕ) (ls′ : List ℤ) (ks′ : List ℕ) → trip (reached t ls′ ks′) steps ≡ runFrom (formulaOf b) preferred budget (search ls ks (s .length) Open) 0
         → {v : ℕ} → v ≡ steps → {s′ : Session} → s′ ≡ session (t .count) (s .revision .0 + v) (t .state)
-        → runOutcome (Until s′ steps) ls′ ks′ ≡ runOf s b ls ks seen budget preferred
+        → outcome (Until s′ steps) ls′ ks′ ≡ runOf s b ls ks seen budget preferred
     unfolding runOf
     run-moves m h t steps ls′ ks′ a q d =
         let g = passed s b ls ks seen e z in

@@ -81,7 +81,7 @@ module _ (b : List ℤ) (first : ℕ) where
   unfolding call
   step-reached d seen l r = go (stepOutcome (d .latest) b (d .lits) (d .kinds) seen l .answer) refl
     where
-      o : Outcome
+      o : Outcome Answer
       o = stepOutcome (d .latest) b (d .lits) (d .kinds) seen l
 
       go : (a : Answer) → o .answer ≡ a → Reached b first (afterStep d a (o .lits) (o .kinds))
@@ -122,10 +122,10 @@ module _ (b : List ℤ) (block : refusal limits b ≡ 0) (first : ℕ) where
         unsat-false = λ e. sound-formula F ok false (rw e at (r .path));
         accepted = λ o h.
             let e = step-passes (d .latest) b (d .lits) (d .kinds) (d .latest .revision) (guard d r o) h (literal (pos 0)) (inl refl) (inl refl) in
-            (_, ap (λ (o : Outcome). o .answer) (accepted-is (d .latest) b (d .lits) (d .kinds) (d .latest .revision) (literal (pos 0)) e));
+            (_, ap (λ (o : Outcome Answer). o .answer) (accepted-is (d .latest) b (d .lits) (d .kinds) (d .latest .revision) (literal (pos 0)) e));
         refused = λ o h.
             let e = step-last (d .latest) b (d .lits) (d .kinds) (d .latest .revision) (guard d r o) h (literal (pos 0)) in
-            ap (λ (o : Outcome). o .answer) (step-refused (d .latest) b (d .lits) (d .kinds) (d .latest .revision) (literal (pos 0)) 14 e);
+            ap (λ (o : Outcome Answer). o .answer) (step-refused (d .latest) b (d .lits) (d .kinds) (d .latest .revision) (literal (pos 0)) 14 e);
       }
 
 -- ---- a fresh desk

@@ -10,7 +10,7 @@ use Rattle.session.specs.declared.Session.{Session}
 use Rattle.session.specs.declared.Answer.{Answer}
 use Rattle.session.specs.declared.Ran.{Ran}
 use Rattle.session.specs.Outcome.{Outcome, outcome, openOutcome, stepOutcome}
-use Rattle.session.specs.Run.{RunOutcome, runOutcome, runOf}
+use Rattle.session.specs.Run.{runOf}
 
 -- what a call answers, and what it leaves in the buffers, are the same twice
 pub record Same {A : Type 0} (a a′ : A) (ls ls′ : List ℤ) (ks ks′ : List ℕ) : Type 0 where
@@ -19,11 +19,8 @@ pub record Same {A : Type 0} (a a′ : A) (ls ls′ : List ℤ) (ks ks′ : List
   pub kinds : ks ≡ ks′
 
 module _ (ls ls′ : List ℤ) (ks ks′ : List ℕ) where
-  same : (a a′ : Answer) (o : Outcome) → outcome a ls ks ≡ o → outcome a′ ls′ ks′ ≡ o → Same a a′ ls ls′ ks ks′
-  same a a′ o p q = let e = p ∙ sym q in record { answer = ap (λ (o : Outcome). o .answer) e; lits = ap (λ (o : Outcome). o .lits) e; kinds = ap (λ (o : Outcome). o .kinds) e }
-
-  same-run : (a a′ : Ran) (o : RunOutcome) → runOutcome a ls ks ≡ o → runOutcome a′ ls′ ks′ ≡ o → Same a a′ ls ls′ ks ks′
-  same-run a a′ o p q = let e = p ∙ sym q in record { answer = ap (λ (o : RunOutcome). o .answer) e; lits = ap (λ (o : RunOutcome). o .lits) e; kinds = ap (λ (o : RunOutcome). o .kinds) e }
+  same : {A : Type 0} (a a′ : A) (o : Outcome A) → outcome a ls ks ≡ o → outcome a′ ls′ ks′ ≡ o → Same a a′ ls ls′ ks ks′
+  same {A} a a′ o p q = let e = p ∙ sym q in record { answer = ap (λ (o : Outcome A). o .answer) e; lits = ap (λ (o : Outcome A). o .lits) e; kinds = ap (λ (o : Outcome A). o .kinds) e }
 
   pub only-open : (a a′ : Answer) (b xs : List ℤ) (ys : List ℕ) (rev : Revision)
       → outcome a ls ks ≡ openOutcome b xs ys rev → outcome a′ ls′ ks′ ≡ openOutcome b xs ys rev → Same a a′ ls ls′ ks ks′
@@ -34,5 +31,5 @@ module _ (ls ls′ : List ℤ) (ks ks′ : List ℕ) where
   only-step a a′ s b xs ys seen l = same a a′ (stepOutcome s b xs ys seen l)
 
   pub only-run : (a a′ : Ran) (s : Session) (b xs : List ℤ) (ys : List ℕ) (seen : Revision) (budget : ℕ) (preferred : List ℤ)
-      → runOutcome a ls ks ≡ runOf s b xs ys seen budget preferred → runOutcome a′ ls′ ks′ ≡ runOf s b xs ys seen budget preferred → Same a a′ ls ls′ ks ks′
-  only-run a a′ s b xs ys seen budget preferred = same-run a a′ (runOf s b xs ys seen budget preferred)
+      → outcome a ls ks ≡ runOf s b xs ys seen budget preferred → outcome a′ ls′ ks′ ≡ runOf s b xs ys seen budget preferred → Same a a′ ls ls′ ks ks′
+  only-run a a′ s b xs ys seen budget preferred = same a a′ (runOf s b xs ys seen budget preferred)

@@ -1,6 +1,6 @@
 -- A refused call: "Each returns its number alone and leaves all memory and the session as they were", and a call whose seen revision is not
 -- the session's is always one. By the two cases of the number, 0 and not 0.
-use mathlib.Core.Path.{_≡_, refl}
+use mathlib.Core.Path.{_≡_, refl, sym}
 use mathlib.Core.List.{List}
 use Prim.Native.Nat.{ℕ, zero, suc, _≤_}
 use native.Mathlib.Omega.{arith}
@@ -10,12 +10,13 @@ use Rattle.words.specs.Bools.{not-f}
 use Rattle.words.specs.declared.Literal.{Literal}
 use Rattle.session.specs.declared.Revision.{Revision}
 use Rattle.session.specs.declared.Session.{Session}
+use Rattle.session.specs.declared.Answer.{Answer}
 use Rattle.session.specs.declared.Answer.the-variants.{To, Refused}
 use Rattle.session.specs.declared.Ran.the-variants.{Until, Stopped}
 use Rattle.session.specs.Refusals.{openRefusal, stepRefusal, runRefusal}
 use Rattle.session.specs.Rows.{at-most, step-numbered, run-numbered}
 use Rattle.session.specs.Outcome.{Outcome, outcome, unless, openOutcome, stepOutcome}
-use Rattle.session.specs.Run.{runOutcome, unlessRun, runOf}
+use Rattle.session.specs.Run.{runOf}
 
 -- the number given, n, is the table's, and the buffers are as they were
 pub record Left (table n : ℕ) (ls ls′ : List ℤ) (ks ks′ : List ℕ) : Type 0 where
@@ -23,19 +24,27 @@ pub record Left (table n : ℕ) (ls ls′ : List ℤ) (ks ks′ : List ℕ) : Ty
   pub lits : ls′ ≡ ls
   pub kinds : ks′ ≡ ks
 
--- the two forms of an answer, taken apart
-unless-left : (m : ℕ) (ls ls′ : List ℤ) (ks ks′ : List ℕ) (s : Session) (n : ℕ) → let o = unless m ls ks (outcome (To s) ls′ ks′) in
-    o .answer ≡ Refused n → Left m n ls (o .lits) ks (o .kinds)
-unless-left zero ls ls′ ks ks′ s n e = let z : _≡_ {A = ℕ} 0 1 = cc in absurd (omega arith)
-unless-left (suc m) ls ls′ ks ks′ s n e = record { number = cc; lits = refl; kinds = refl }
+-- the two forms of an answer, taken apart. An accepted one is no number's, and different numbers have different ones
+module _ {A : Type 0} (number : ℕ → A) (told : (m n : ℕ) → number m ≡ number n → m ≡ n) where
+  unless-left : (m : ℕ) (ls : List ℤ) (ks : List ℕ) (o : Outcome A) (n : ℕ) → (o .answer ≡ number n → ⊥) → let u = unless number m ls ks o in
+      u .answer ≡ number n → Left m n ls (u .lits) ks (u .kinds)
+  unless-left zero ls ks o n none e = absurd (none e)
+  unless-left (suc m) ls ks o n none e = record { number = sym (told (suc m) n e); lits = refl; kinds = refl }
 
-unlessRun-left : (m : ℕ) (ls ls′ : List ℤ) (ks ks′ : List ℕ) (s : Session) (c n : ℕ) → let o = unlessRun m ls ks (runOutcome (Until s c) ls′ ks′) in
-    o .answer ≡ Stopped n → Left m n ls (o .lits) ks (o .kinds)
-unlessRun-left zero ls ls′ ks ks′ s c n e = let z : _≡_ {A = ℕ} 0 1 = cc in absurd (omega arith)
-unlessRun-left (suc m) ls ls′ ks ks′ s c n e = record { number = cc; lits = refl; kinds = refl }
+refused-told : (m n : ℕ) → Refused m ≡ Refused n → m ≡ n
+refused-told m n e = cc
+
+stopped-told : (m n : ℕ) → Stopped m ≡ Stopped n → m ≡ n
+stopped-told m n e = cc
+
+accepted-none : (s : Session) (n : ℕ) → To s ≡ Refused n → ⊥
+accepted-none s n e = let z : _≡_ {A = ℕ} 0 1 = cc in omega arith
+
+ran-none : (s : Session) (c n : ℕ) → Until s c ≡ Stopped n → ⊥
+ran-none s c n e = let z : _≡_ {A = ℕ} 0 1 = cc in omega arith
 
 -- and a session is answered only where no row applies
-pub unless-to : (m : ℕ) (ls : List ℤ) (ks : List ℕ) (o : Outcome) (s : Session) → unless m ls ks o .answer ≡ To s → m ≡ 0
+pub unless-to : (m : ℕ) (ls : List ℤ) (ks : List ℕ) (o : Outcome Answer) (s : Session) → unless Refused m ls ks o .answer ≡ To s → m ≡ 0
 unless-to zero ls ks o s e = refl
 unless-to (suc m) ls ks o s e = let z : _≡_ {A = ℕ} 0 1 = cc in absurd (omega arith)
 
@@ -43,25 +52,25 @@ unless-to (suc m) ls ks o s e = let z : _≡_ {A = ℕ} 0 1 = cc in absurd (omeg
 pub open-refused-leaves : (b ls : List ℤ) (ks : List ℕ) (rev : Revision) (n : ℕ) → let o = openOutcome b ls ks rev in
     o .answer ≡ Refused n → Left (openRefusal b ls ks) n ls (o .lits) ks (o .kinds)
 unfolding openOutcome
-open-refused-leaves b ls ks rev n = unless-left (openRefusal b ls ks) ls _ ks _ _ n
+open-refused-leaves b ls ks rev n = unless-left Refused refused-told (openRefusal b ls ks) ls ks _ n (accepted-none _ n)
 
 module _ (s : Session) (b ls : List ℤ) (ks : List ℕ) (seen : Revision) where
   pub step-refused-leaves : (l : Literal) (n : ℕ) → let o = stepOutcome s b ls ks seen l in
       o .answer ≡ Refused n → Left (stepRefusal s b ls ks seen l) n ls (o .lits) ks (o .kinds)
   unfolding stepOutcome
-  step-refused-leaves l n = unless-left (stepRefusal s b ls ks seen l) ls _ ks _ _ n
+  step-refused-leaves l n = unless-left Refused refused-told (stepRefusal s b ls ks seen l) ls ks _ n (accepted-none _ n)
 
   pub run-refused-leaves : (budget : ℕ) (preferred : List ℤ) (n : ℕ) → let o = runOf s b ls ks seen budget preferred in
       o .answer ≡ Stopped n → Left (runRefusal s b ls ks seen budget) n ls (o .lits) ks (o .kinds)
   unfolding runOf
-  run-refused-leaves budget preferred n = unlessRun-left (runRefusal s b ls ks seen budget) ls _ ks _ _ _ n
+  run-refused-leaves budget preferred n = unless-left Stopped stopped-told (runRefusal s b ls ks seen budget) ls ks _ n (ran-none _ _ n)
 
   -- ---- a number other than 0 is answered
   pub step-refused : (l : Literal) (n : ℕ) → stepRefusal s b ls ks seen l ≡ suc n → stepOutcome s b ls ks seen l ≡ outcome (Refused (suc n)) ls ks
   unfolding stepOutcome
   step-refused l n e = rw e
 
-  pub run-refused : (budget : ℕ) (preferred : List ℤ) (n : ℕ) → runRefusal s b ls ks seen budget ≡ suc n → runOf s b ls ks seen budget preferred ≡ runOutcome (Stopped (suc n)) ls ks
+  pub run-refused : (budget : ℕ) (preferred : List ℤ) (n : ℕ) → runRefusal s b ls ks seen budget ≡ suc n → runOf s b ls ks seen budget preferred ≡ outcome (Stopped (suc n)) ls ks
   unfolding runOf
   run-refused budget preferred n e = rw e
 
@@ -72,7 +81,7 @@ module _ (s : Session) (b ls : List ℤ) (ks : List ℕ) (seen : Revision) where
         let r = at-most (step-numbered s b ls ks seen l) 13 (not-f (ne-eqb (seen .0) (s .revision .0) other)) in
         (r .0, (let h = r .1 in omega arith), step-refused l (r .0) (r .2))
 
-    pub stale-run-refused : (budget : ℕ) (preferred : List ℤ) → (n : ℕ) × (suc n ≤ 14) × (runOf s b ls ks seen budget preferred ≡ runOutcome (Stopped (suc n)) ls ks)
+    pub stale-run-refused : (budget : ℕ) (preferred : List ℤ) → (n : ℕ) × (suc n ≤ 14) × (runOf s b ls ks seen budget preferred ≡ outcome (Stopped (suc n)) ls ks)
     stale-run-refused budget preferred =
         let r = at-most (run-numbered s b ls ks seen budget) 13 (not-f (ne-eqb (seen .0) (s .revision .0) other)) in
         (r .0, (let h = r .1 in omega arith), run-refused budget preferred (r .0) (r .2))

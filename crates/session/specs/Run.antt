@@ -15,15 +15,7 @@ use Rattle.session.specs.declared.Session.{Session}
 use Rattle.session.specs.declared.Ran.{Ran}
 use Rattle.session.specs.declared.Ran.the-variants.{Until, Stopped}
 use Rattle.session.specs.Refusals.{runRefusal}
-use Rattle.session.specs.Outcome.{moved, searchOf}
-
-pub record RunOutcome : Type 0 where
-  pub answer : Ran
-  pub lits : List ℤ
-  pub kinds : List ℕ
-
-abbrev pub runOutcome : Ran → List ℤ → List ℕ → RunOutcome
-runOutcome a ls ks = record { answer = a; lits = ls; kinds = ks }
+use Rattle.session.specs.Outcome.{Outcome, outcome, unless, moved, searchOf}
 
 -- where a number of steps lead, and how many they are
 pub record Trip : Type 0 where
@@ -50,14 +42,10 @@ module _ (F : Formula) (preferred : List ℤ) where
   runFrom zero t steps = trip t steps
   runFrom (suc n) t steps = whileOpen (t .state) (runFrom n (advance t) (steps + 1)) (trip t steps)
 
-abbrev pub ran : Session → Trip → RunOutcome
-ran s u = runOutcome (Until (moved s (u .steps) (u .reached)) (u .steps)) (u .reached .lits) (u .reached .kinds)
+abbrev pub ran : Session → Trip → Outcome Ran
+ran s u = outcome (Until (moved s (u .steps) (u .reached)) (u .steps)) (u .reached .lits) (u .reached .kinds)
 
-abbrev pub unlessRun : ℕ → List ℤ → List ℕ → RunOutcome → RunOutcome
-unlessRun zero ls ks o = o
-unlessRun (suc n) ls ks o = runOutcome (Stopped (suc n)) ls ks
-
-unfoldable pub runOf : Session → List ℤ → List ℤ → List ℕ → Revision → ℕ → List ℤ → RunOutcome
+unfoldable pub runOf : Session → List ℤ → List ℤ → List ℕ → Revision → ℕ → List ℤ → Outcome Ran
 runOf s b ls ks seen budget preferred =
-    unlessRun (runRefusal s b ls ks seen budget) ls ks
+    unless Stopped (runRefusal s b ls ks seen budget) ls ks
     (ran s (runFrom (formulaOf b) preferred budget (searchOf s ls ks) 0))

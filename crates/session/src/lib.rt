@@ -1,7 +1,7 @@
 // A session that goes step by step, and the run with a budget.
 ghost use mathlib.Core.Path.{_≡_};
 ghost use Rattle.session.specs.Outcome.{session, outcome, openOutcome, stepOutcome};
-ghost use Rattle.session.specs.Run.{runOutcome, runOf};
+ghost use Rattle.session.specs.Run.{runOf};
 
 mod guard; // which row of the table turns a call away, but for row 15
 mod parts; // the block's parts, lent to the rules
@@ -95,7 +95,7 @@ impl Session {
         budget: u32,
         preferred: &[i32],
     ) -> Ran
-        ensures { λ r. ⌜ runOutcome r (now (literals .exit)) (now (kinds .exit)) ≡ runOf self (now (block .entry)) (now (literals .entry)) (now (kinds .entry)) seen budget (now (preferred .entry)) ⌝ }
+        ensures { λ r. ⌜ outcome r (now (literals .exit)) (now (kinds .exit)) ≡ runOf self (now (block .entry)) (now (literals .entry)) (now (kinds .entry)) seen budget (now (preferred .entry)) ⌝ }
     {
         let refused = guard::of_session(self, block, literals, kinds, seen);
         if refused != 0 {

@@ -1,5 +1,6 @@
 -- Too few places, or what opening leaves and its numbers.
-use Rattle.exports.proofs.Exits.{no-room, of-answer}
+use Rattle.exports.proofs.Exits.{no-room, of-outcome}
+use Rattle.exports.specs.Called.{statusOf, toldBy}
 use borrow.Author.Needs.{needs}
 use Rattle.exports.proofs.moki_open.Statement.{statement}
 use Rattle.exports.proofs.moki_open.Tie as tie
@@ -26,7 +27,7 @@ returns-2 : tie.Need-returns-2
 returns-2 c =
     let t = c .before .before in
     let o = t .before .before .before .before .before in
-    of-answer _ _ (o .before .before .before .if1 .left) _ (o .open .ensures) (t .answered .ensures .0) (t .answered .ensures .1)
+    of-outcome _ _ (o .before .before .before .if1 .left) statusOf toldBy _ (o .open .ensures) (t .answered .ensures .0) (t .answered .ensures .1)
 
 pub moki-open-spec : {M : Type 1} → statement M
 moki-open-spec =

@@ -1,5 +1,6 @@
 -- Too few places, or what the run leaves and its numbers.
-use Rattle.exports.proofs.Exits.{no-room, of-ran, run-of}
+use Rattle.exports.proofs.Exits.{no-room, of-outcome, run-of}
+use Rattle.exports.specs.Called.{ranStatus, ranTold}
 use borrow.Author.Needs.{needs}
 use Rattle.exports.proofs.moki_run.Statement.{statement}
 use Rattle.exports.proofs.moki_run.Tie as tie
@@ -30,7 +31,7 @@ returns-2 c =
     let t = c .before .before in
     let o = t .before .before .before .before .before in
     let s = o .before .before .before in
-    of-ran _ _ (s .before .if1 .left) _ (run-of (s .session-of .ensures) _ _ _ _ _ _ (o .run .ensures)) (t .ran .ensures .0) (t .ran .ensures .1)
+    of-outcome _ _ (s .before .if1 .left) ranStatus ranTold _ (run-of (s .session-of .ensures) _ _ _ _ _ _ (o .run .ensures)) (t .ran .ensures .0) (t .ran .ensures .1)
 
 pub moki-run-spec : {M : Type 1} → statement M
 moki-run-spec =

@@ -1,7 +1,8 @@
 -- Too few places, or what the step leaves and its numbers.
-use Rattle.exports.proofs.Exits.{no-room, of-answer, step-of}
+use Rattle.exports.proofs.Exits.{no-room, of-outcome, step-of}
 use mir.ValLaws.{toZ-ofZ}
 use mir.Syntax.{w32}
+use Rattle.exports.specs.Called.{statusOf, toldBy}
 use borrow.Author.Needs.{needs}
 use Rattle.exports.proofs.moki_step.Statement.{statement}
 use Rattle.exports.proofs.moki_step.Tie as tie
@@ -34,7 +35,7 @@ returns-2 c =
     let s = o .before .before .before in
     let start = s .before .before .before .before in
     let kept = toZ-ofZ w32 (start .args .proposal) (start .fits .proposal) in
-    of-answer _ _ (s .before .if1 .left) _ (step-of (s .session-of .ensures) _ _ _ _ kept (o .step .ensures)) (t .answered .ensures .0) (t .answered .ensures .1)
+    of-outcome _ _ (s .before .if1 .left) statusOf toldBy _ (step-of (s .session-of .ensures) _ _ _ _ kept (o .step .ensures)) (t .answered .ensures .0) (t .answered .ensures .1)
 
 pub moki-step-spec : {M : Type 1} → statement M
 moki-step-spec =
