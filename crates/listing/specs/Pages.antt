@@ -24,7 +24,7 @@ use Rattle.listing.specs.Refused.{sheetOf, page-accepted}
 use Rattle.listing.specs.Accepted.{Turned, accepted-page}
 
 -- ---- what a page is given besides the block and its start: a work record, preferences, a budget and an output, each its own
-pub record Lent : Type 0 where
+pub record Given : Type 0 where
   pub lits : List ℤ
   pub kinds : List ℕ
   pub preferred : List ℤ
@@ -45,17 +45,17 @@ afterPage l (Page n e p) out = ledger n (l .written ++ take (2 * e) out)
 afterPage l (Refused n) out = l
 
 -- "each begun where the last stopped"
-unfoldable pub turnPage : List ℤ → Ledger → Lent → Ledger
+unfoldable pub turnPage : List ℤ → Ledger → Given → Ledger
 turnPage b l p =
     let o = pageOf b (p .lits) (p .kinds) (l .next) (p .preferred) (p .budget) (p .output) in
     afterPage l (o .answer) (o .output)
 
-unfoldable pub pages : List ℤ → Ledger → List Lent → Ledger
+unfoldable pub pages : List ℤ → Ledger → List Given → Ledger
 pages b l [] = l
 pages b l (p ∷ ps) = pages b (turnPage b l p) ps
 
 -- "from opening 0 on"
-abbrev pub pagesFrom0 : List ℤ → List Lent → Ledger
+abbrev pub pagesFrom0 : List ℤ → List Given → Ledger
 pagesFrom0 b ps = pages b (ledger 0 []) ps
 
 -- ---- what is claimed of it
@@ -70,7 +70,7 @@ module _ (b : List ℤ) where
   listed : (l : Ledger) → l .next ≤ openings (formulaOf b) → l .written ≡ listing (formulaOf b) (l .next) → Listed b l
   listed l h e = record { upTo = h; exactly = e; whole = λ z. e ∙ ap (listing (formulaOf b)) z }
 
-  turn-listed : (l : Ledger) (p : Lent) → Listed b l → Listed b (turnPage b l p)
+  turn-listed : (l : Ledger) (p : Given) → Listed b l → Listed b (turnPage b l p)
   unfolding turnPage
   turn-listed l p h = go (pageOf b (p .lits) (p .kinds) (l .next) (p .preferred) (p .budget) (p .output) .answer) refl
     where
@@ -83,30 +83,30 @@ module _ (b : List ℤ) where
           listed (ledger n (l .written ++ take (2 * e) (o .output))) (t .upTo) (rw (h .exactly) (t .listed))
       go (Refused n) z = h
 
-  pages-listed : (ps : List Lent) (l : Ledger) → Listed b l → Listed b (pages b l ps)
+  pages-listed : (ps : List Given) (l : Ledger) → Listed b l → Listed b (pages b l ps)
   unfolding pages
   pages-listed [] l h = h
   pages-listed (p ∷ ps) l h = pages-listed ps (turnPage b l p) (turn-listed l p h)
 
   -- Demand 3
-  pub any-pages : (ps : List Lent) → Listed b (pagesFrom0 b ps)
+  pub any-pages : (ps : List Given) → Listed b (pagesFrom0 b ps)
   unfolding winners entries
   any-pages ps = pages-listed ps (ledger 0 []) (listed (ledger 0 []) (omega arith) refl)
 
   -- "So two listings that finish give the same list."
-  pub same-listing : (ps qs : List Lent) → pagesFrom0 b ps .next ≡ openings (formulaOf b) → pagesFrom0 b qs .next ≡ openings (formulaOf b) → pagesFrom0 b ps .written ≡ pagesFrom0 b qs .written
+  pub same-listing : (ps qs : List Given) → pagesFrom0 b ps .next ≡ openings (formulaOf b) → pagesFrom0 b qs .next ≡ openings (formulaOf b) → pagesFrom0 b ps .written ≡ pagesFrom0 b qs .written
   same-listing ps qs x y = any-pages ps .whole x ∙ sym (any-pages qs .whole y)
 
 -- ---- a listing does finish: pages with room for an entry and with the budget that is always enough, one for each opening at most
 -- what a page needs, wherever it begins, to be accepted and not to pause
-pub record Ample (b : List ℤ) (p : Lent) : Type 0 where
+pub record Ample (b : List ℤ) (p : Given) : Type 0 where
   pub lits-room : length (prefixOf b) ≤ length (p .lits)
   pub kinds-room : length (prefixOf b) ≤ length (p .kinds)
   pub room : 2 ≤ length (p .output)
   pub enough : 2 ^ (variablesOf b + 1 - firstGroup (prefixOf b)) - 1 ≤ p .budget
 
 module _ (b : List ℤ) (block : refusal limits b ≡ 0) (exists : firstUniversal (formulaOf b) ≡ false) (narrow : firstGroup (prefixOf b) ≤ 16) where
-  module _ (l : Ledger) (p : Lent) (h : l .next ≤ openings (formulaOf b)) (a : Ample b p) where
+  module _ (l : Ledger) (p : Given) (h : l .next ≤ openings (formulaOf b)) (a : Ample b p) where
     -- its sheet
     s : Sheet
     s = sheetOf b (p .lits) (p .kinds) (l .next) (p .preferred) (p .budget) (p .output)
@@ -150,7 +150,7 @@ module _ (b : List ℤ) (block : refusal limits b ≡ 0) (exists : firstUniversa
         go out (no-room q h x z y) = let c = claims .few in absurd (omega arith)
         go out (unended q h x o) = clash q (claims .never-pauses (a .enough))
 
-  pages-end : (ps : List Lent) (l : Ledger) → ((p : Lent) → In p ps → Ample b p) → l .next ≤ openings (formulaOf b) → openings (formulaOf b) ≤ l .next + length ps → pages b l ps .next ≡ openings (formulaOf b)
+  pages-end : (ps : List Given) (l : Ledger) → ((p : Given) → In p ps → Ample b p) → l .next ≤ openings (formulaOf b) → openings (formulaOf b) ≤ l .next + length ps → pages b l ps .next ≡ openings (formulaOf b)
   unfolding pages
   pages-end [] l f h k = omega arith
   pages-end (p ∷ ps) l f h k = pages-end ps (turnPage b l p) (λ q i. f q (there i)) (turn-upTo l p h (f p (here refl))) (further (decLt (l .next) (openings (formulaOf b))))
@@ -159,5 +159,5 @@ module _ (b : List ℤ) (block : refusal limits b ≡ 0) (exists : firstUniversa
       further (yes i) = let x = turn-moves l p h (f p (here refl)) i in omega arith
       further (no i) = let x = turn-from l p h (f p (here refl)) in omega arith
 
-  pub finishes : (ps : List Lent) → ((p : Lent) → In p ps → Ample b p) → openings (formulaOf b) ≤ length ps → pagesFrom0 b ps .next ≡ openings (formulaOf b)
+  pub finishes : (ps : List Given) → ((p : Given) → In p ps → Ample b p) → openings (formulaOf b) ≤ length ps → pagesFrom0 b ps .next ≡ openings (formulaOf b)
   finishes ps f k = pages-end ps (ledger 0 []) f (omega arith) (omega arith)
