@@ -11,24 +11,25 @@ use Rattle.formula.specs.Formula.{clausesFrom}
 use Rattle.formula.specs.Block.{badEnds, bothSigns}
 use Rattle.formula.specs.Ends.{good-end}
 use Rattle.formula.specs.Clauses.{clauses-at, clauses-ended}
+use Rattle.formula.specs.Places.{literalPlaces}
 use Rattle.formula.specs.Tables.{Fresh}
 
-pub record Looked (ls es : List ℤ) (n : ℕ) (marks : List ℕ) (from i : ℕ) : Type 0 where
+pub record Looked (ls es : List ℤ) (marks : List ℕ) (from i : ℕ) : Type 0 where
   pub at : i ≤ length es
-  pub fresh : Fresh n (i + 1) marks
+  pub fresh : Fresh (i + 1) marks
   pub good : badEnds (length ls) from (drop i es) ≡ false
   pub same : any bothSigns (clausesFrom ls from (drop i es)) ≡ any bothSigns (clausesFrom ls 0 es)
 
-pub begin : (ls es : List ℤ) (n : ℕ) → badEnds (length ls) 0 es ≡ false → Looked ls es n (replicate (n + n + 2) 0) 0 0
-begin ls es n good =
+pub begin : (ls es : List ℤ) → badEnds (length ls) 0 es ≡ false → Looked ls es (replicate literalPlaces 0) 0 0
+begin ls es good =
     record {
       at = omega arith;
-      fresh = record { room = length-replicate {A = ℕ} (n + n + 2) 0; under = λ k. omega (arith, blank {A = ℕ} 0 (n + n + 2) k) };
+      fresh = record { room = length-replicate {A = ℕ} literalPlaces 0; under = λ k. omega (arith, blank {A = ℕ} 0 literalPlaces k) };
       good = good;
       same = refl;
     }
 
-module _ (ls es : List ℤ) (n : ℕ) (marks : List ℕ) (from i : ℕ) (p : Looked ls es n marks from i) where
+module _ (ls es : List ℤ) (marks : List ℕ) (from i : ℕ) (p : Looked ls es marks from i) where
   pub end : length es ≤ i → false ≡ any bothSigns (clausesFrom ls 0 es)
   unfolding any
   end h = rw (clauses-ended ls from es i h) at (p .same)
@@ -46,7 +47,7 @@ module _ (ls es : List ℤ) (n : ℕ) (marks : List ℕ) (from i : ℕ) (p : Loo
       unfolding any
       hit t = rw (clauses-at ls from es i h, ← is, ← found, t) at (p .same)
 
-      pub more : r ≡ false → (marks′ : List ℕ) → Fresh n (i + 1 + 1) marks′ → Looked ls es n marks′ e (i + 1)
+      pub more : r ≡ false → (marks′ : List ℕ) → Fresh (i + 1 + 1) marks′ → Looked ls es marks′ e (i + 1)
       unfolding any
       more f marks′ fresh =
           record {

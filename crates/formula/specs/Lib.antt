@@ -11,6 +11,7 @@ pub mod Proper
 pub mod Prefix
 pub mod Permuted
 pub mod Check
+pub mod Places
 pub mod Tables
 pub mod Accepted
 pub mod Truth

@@ -6,11 +6,15 @@ ghost use Rattle.formula.specs.Check.{checkedOf};
 
 mod header; // the counts and the offsets
 mod parts; // the prefix, the clause ends and the literals
+mod places; // the place of a literal in a table
 mod marks; // which variables or literals were seen
 
-// Inner doors: row 12 asks the same of a record's words as rows 5 and 6 of the prefix's.
+// Inner doors: row 12 asks the same of a record's words as rows 5 and 6 of the prefix's, and the rules have tables by literal too.
 pub use marks::variable_twice;
 pub use parts::some_stranger;
+pub use places::LITERAL_PLACES;
+pub use places::MIDDLE;
+pub use places::place_at;
 
 // What the check answers: a refused block has the number of the first row that applies to it.
 pub enum Checked {

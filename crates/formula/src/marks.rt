@@ -2,14 +2,16 @@
 // the marks are those of the rest of the list.
 ghost use mathlib.Core.Path.{_≡_};
 ghost use mathlib.Core.Bool.{false};
-ghost use Prim.Native.Nat.{_+_, _≤_};
+ghost use Prim.Native.Nat.{_+_};
 ghost use lib.ListN.{length};
 ghost use Rattle.words.specs.Lists.{any};
 ghost use Rattle.formula.specs.Limits.{limits};
 ghost use Rattle.formula.specs.Formula.{clausesFrom};
 ghost use Rattle.formula.specs.Block.{twice, badEnds, bothSigns};
 ghost use Rattle.formula.specs.Named.{AllNamed};
-ghost use Rattle.formula.specs.Tables.{placeOf, Fresh};
+ghost use Rattle.formula.specs.Tables.{Fresh};
+use crate::places::LITERAL_PLACES;
+use crate::places::place_at;
 
 // Whether some variable stands twice.
 pub fn variable_twice(ws: &[i32]) -> bool
@@ -29,35 +31,21 @@ pub fn variable_twice(ws: &[i32]) -> bool
     false
 }
 
-// Where a literal is marked.
-fn place(v: usize, negative: bool) -> usize
-    requires { ⌜ v ≤ limits .variables ⌝ }
-    ensures { λ r. ⌜ r ≡ placeOf negative v ⌝ }
-{
-    if negative { v + v + 1 } else { v + v }
-}
-
 // Whether a clause has both signs of a variable. A literal seen in it is marked by the clause's stamp, which no mark has yet.
-fn both_signs(
-    clause: &[i32],
-    marks: &mut [usize; 2 * crate::MAX_VARIABLES + 2],
-    stamp: usize,
-) -> bool
+fn both_signs(clause: &[i32], marks: &mut [usize; LITERAL_PLACES], stamp: usize) -> bool
     requires { ⌜ AllNamed (limits .variables) (now clause) ⌝ }
-    requires { ⌜ Fresh (limits .variables) stamp (now marks) ⌝ }
+    requires { ⌜ Fresh stamp (now marks) ⌝ }
     ensures { λ r. ⌜ r ≡ bothSigns (now (clause .entry)) ⌝ }
-    ensures { λ r. ⌜ Fresh (limits .variables) (stamp + 1) (now (marks .exit)) ⌝ }
+    ensures { λ r. ⌜ Fresh (stamp + 1) (now (marks .exit)) ⌝ }
 {
     let mut i = clause.len();
     while 0 < i {
         i -= 1;
-        let v = words::size_at(clause, i);
-        let negative = words::negative_at(clause, i);
-        let other = place(v, !negative);
+        let own = place_at(clause, i);
+        let other = 2 * crate::MAX_VARIABLES - own;
         if marks[other] == stamp {
             return true;
         }
-        let own = place(v, negative);
         marks[own] = stamp;
     }
     false
@@ -69,7 +57,7 @@ pub(crate) fn clause_with_both_signs(literals: &[i32], ends: &[i32]) -> bool
     requires { ⌜ badEnds (length (now literals)) 0 (now ends) ≡ false ⌝ }
     ensures { λ r. ⌜ r ≡ any bothSigns (clausesFrom (now (literals .entry)) 0 (now (ends .entry))) ⌝ }
 {
-    let mut marks = [0usize; 2 * crate::MAX_VARIABLES + 2];
+    let mut marks = [0usize; LITERAL_PLACES];
     let mut from = 0;
     let mut i = 0;
     while i < ends.len() {

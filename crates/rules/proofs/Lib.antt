@@ -2,7 +2,6 @@
 pub mod Filled
 pub mod Values
 pub mod Universals
-pub mod Raised
 pub mod Occurring
 pub mod Statuses
 pub mod Levels

@@ -10,9 +10,10 @@ use lib.ListN.{length, getD, take, set, replicate}
 use Rattle.words.specs.Words.{mem, eqZ-ne, mem-here, mem-other, natAbs-neg}
 use Rattle.formula.specs.Limits.{limits, variables-are}
 use Rattle.formula.specs.Named.{all-named}
+use Rattle.formula.specs.Places.{literalPlaces, placeOf, wordAt, place-word, word-place, place-within, place-plus, place-minus}
 use Rattle.rules.specs.Due.{pick}
 use Rattle.rules.specs.Tables.{Known, signsOf}
-use Rattle.rules.specs.ByLiteral.{literalPlaces, placeOf, wordAt, Occurring, place-word, word-place, place-within, place-plus, place-minus}
+use Rattle.rules.specs.ByLiteral.{Occurring}
 use Rattle.rules.proofs.Filled.{Filled, begin, turn}
 
 -- what the words say of a place

@@ -2,32 +2,14 @@
 ghost use mathlib.Core.Path.{_≡_};
 ghost use mathlib.Core.List.{List};
 ghost use Prim.Native.Nat.{_≤_};
-ghost use lib.IntN.{ℤ, pos, natAbs};
-ghost use lib.ListN.{getD};
+ghost use lib.IntN.{ℤ};
 ghost use Rattle.formula.specs.Limits.{limits};
 ghost use Rattle.rules.specs.Tables.{Known, signsOf};
-ghost use Rattle.rules.specs.ByLiteral.{placeOf, Occurring, statusOf, Statuses};
+ghost use Rattle.rules.specs.ByLiteral.{Occurring, statusOf, Statuses};
 use crate::tables::PLACES;
-
-// The place of the word 0, which is no literal. Variable v has its place v above it, and the opposite of v has it v below.
-const MIDDLE: usize = formula::MAX_VARIABLES;
-
-// The same number, for a signed word.
-const RAISE: i64 = 256;
-
-pub(crate) const LITERAL_PLACES: usize = 2 * formula::MAX_VARIABLES + 1;
-
-// The place of the literal at an index.
-pub(crate) fn place_at(ws: &[i32], i: usize) -> usize
-    requires { ⌜ natAbs (getD (now ws) i (pos 0)) ≤ limits .variables ⌝ }
-    ensures { λ r. ⌜ r ≡ placeOf (getD (now (ws .entry)) i (pos 0)) ⌝ }
-{
-    if ws.len() <= i {
-        return MIDDLE;
-    }
-    let word = ws[i] as i64;
-    (word + RAISE) as usize
-}
+pub(crate) use formula::LITERAL_PLACES;
+use formula::MIDDLE;
+use formula::place_at;
 
 // 1 for each literal that is one of the words, else 0.
 pub(crate) fn occurring(ws: &[i32]) -> [u8; LITERAL_PLACES]

@@ -1,11 +1,11 @@
 // The clauses in conflict, and the unit clauses. Clause c has the literal words from the end before it to its own.
 use crate::Found;
 use crate::UnitFound;
-use crate::by_literal::LITERAL_PLACES;
-use crate::by_literal::place_at;
 use crate::tables::NO_LEVEL;
 use crate::tables::PLACES;
 use crate::variables::literal_at;
+use formula::LITERAL_PLACES;
+use formula::place_at;
 ghost use mathlib.Core.Path.{_≡_};
 ghost use Prim.Native.Nat.{_≤_, _<_};
 ghost use lib.IntN.{pos, natAbs};

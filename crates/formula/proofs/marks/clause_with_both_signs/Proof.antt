@@ -2,20 +2,20 @@
 use Prim.Native.Nat.{_-_, _≤_}
 use native.Mathlib.Omega.{arith}
 use lib.ListN.{length}
-use Rattle.formula.specs.Limits.{limits, variables-are}
+use Rattle.formula.specs.Limits.{limits}
 use Rattle.formula.specs.Named.{named-part}
 use Rattle.formula.proofs.Looked.{Looked, begin, end, rises, fits, hit, more}
 use Rattle.formula.proofs.marks.clause_with_both_signs.Statement.{statement}
 use Rattle.formula.proofs.marks.clause_with_both_signs.Tie as tie
 
 abbrev Inv-loop : tie.InvT-loop
-Inv-loop literals ends marks₀ from₀ i₀ marks from i = Looked literals ends (limits .variables) marks from i
+Inv-loop literals ends marks₀ from₀ i₀ marks from i = Looked literals ends marks from i
 
 abbrev μ-loop : tie.MeasureT-loop
 μ-loop literals ends marks₀ from₀ i₀ marks from i = length ends - i
 
 loop-holds : tie.Need-loop-holds Inv-loop μ-loop
-loop-holds c = rw variables-are (begin _ _ _ (c .pre .1))
+loop-holds c = begin _ _ (c .pre .1)
 
 size-at-requires : tie.Need-size-at-requires Inv-loop μ-loop
 size-at-requires c κs = tt
@@ -23,10 +23,10 @@ size-at-requires c κs = tt
 -- the clause lies within the literals
 module _ (c : tie.After-size-at Inv-loop μ-loop) where
   start-within : c .before .before .loop .from ≤ c .size-at .result
-  start-within = rises _ _ _ _ _ _ (c .before .before .loop .inv) (c .before .loop-test .taken) _ (c .size-at .ensures)
+  start-within = rises _ _ _ _ _ (c .before .before .loop .inv) (c .before .loop-test .taken) _ (c .size-at .ensures)
 
   end-within : c .size-at .result ≤ length (c .before .before .before .args .literals .now)
-  end-within = fits _ _ _ _ _ _ (c .before .before .loop .inv) (c .before .loop-test .taken) _ (c .size-at .ensures)
+  end-within = fits _ _ _ _ _ (c .before .before .loop .inv) (c .before .loop-test .taken) _ (c .size-at .ensures)
 
 mul-both-signs : tie.Need-mul-both-signs Inv-loop μ-loop
 mul-both-signs c = omega (arith, start-within c, end-within c, c .before .before .before .good)
@@ -54,7 +54,7 @@ returns c =
     let called = c .before in
     let read = called .before .before .before in
     let turn = read .before in
-    hit _ _ _ _ _ _ (turn .before .loop .inv) (turn .loop-test .taken) _ (read .size-at .ensures) _ (called .both-signs .ensures .0) (c .if1 .taken)
+    hit _ _ _ _ _ (turn .before .loop .inv) (turn .loop-test .taken) _ (read .size-at .ensures) _ (called .both-signs .ensures .0) (c .if1 .taken)
 
 add-i : tie.Need-add-i Inv-loop μ-loop
 add-i c = omega arith
@@ -67,11 +67,11 @@ loop-again c =
     let called = c .before in
     let read = called .before .before .before in
     let turn = read .before in
-    more _ _ _ _ _ _ (turn .before .loop .inv) (turn .loop-test .taken) _ (read .size-at .ensures) _ (called .both-signs .ensures .0) (c .if1 .left) _
+    more _ _ _ _ _ (turn .before .loop .inv) (turn .loop-test .taken) _ (read .size-at .ensures) _ (called .both-signs .ensures .0) (c .if1 .left) _
     (called .both-signs .ensures .1)
 
 returns-2 : tie.Need-returns-2 Inv-loop μ-loop
-returns-2 c = end _ _ _ _ _ _ (c .before .loop .inv) (c .loop-test .left)
+returns-2 c = end _ _ _ _ _ (c .before .loop .inv) (c .loop-test .left)
 
 pub clause-with-both-signs-spec : {M : Type 1} → statement M
 clause-with-both-signs-spec =

@@ -2,11 +2,11 @@
 use mathlib.Core.Path.{sym}
 use lib.IntN.{pos}
 use lib.ListN.{getD}
 use Rattle.formula.specs.Limits.{maxVariables, variables-are}
 use borrow.Author.Needs.{needs, sfits-of}
-use Rattle.rules.proofs.Raised.{place-none, word-fits, sum-fits, sum-cast, sum-place}
-use Rattle.rules.proofs.by_literal.place_at.Statement.{statement}
-use Rattle.rules.proofs.by_literal.place_at.Tie as tie
+use Rattle.formula.proofs.Raised.{place-none, word-fits, sum-fits, sum-cast, sum-place}
+use Rattle.formula.proofs.places.place_at.Statement.{statement}
+use Rattle.formula.proofs.places.place_at.Tie as tie
 
 returns : tie.Need-returns
 returns c = place-none (c .before .args .ws .now) _ maxVariables (sym variables-are) (c .if1 .taken)
