@@ -1,14 +1,14 @@
 -- The value of a formula under an assignment: truth that passes over the prefix variables that are assigned already. Records assign inner
 -- variables early, so the laws are about the value; `value-rest` says that it is the truth of what is left of the formula.
-use mathlib.Core.Path.{_≡_, refl, sym, _∙_, ap, fun-ext}
+use mathlib.Core.Path.{_≡_, refl, sym, _∙_}
 use mathlib.Core.Logic.{inl, inr}
-use mathlib.Core.Bool.{Bool, true, false, cond, _||_}
+use mathlib.Core.Bool.{Bool, true, false, cond}
 use mathlib.Core.List.{List, [], _∷_, _++_}
 use lib.Dec.{eqb}
 use lib.IntN.{ℤ, negℤ, natAbs}
 use Rattle.words.specs.Bools.{clash, look, or-fl, or-fr}
 use Rattle.words.specs.Lists.{In, here, there, all, any}
-use Rattle.words.specs.Words.{negative, eqZ, mem, negneg, var-cases}
+use Rattle.words.specs.Words.{negative, mem, negneg, var-cases}
 use Rattle.formula.specs.Formula.{Formula}
 use Rattle.formula.specs.Block.{twice}
 use Rattle.formula.specs.Prefix.{stands, stands-neg, twice-head, twice-tail}
@@ -54,16 +54,6 @@ pub value-full : (p : List ℤ) (m : List (List ℤ)) (ρ : Assignment) → allA
 unfolding value allAssigned all
 value-full [] m ρ h = refl
 value-full (q ∷ p) m ρ h = elim (look (assigned ρ q)) [ inl a ↦ rw a (value-full p m ρ (rw a at h)) | inr a ↦ clash (rw a at h) refl ]
-
--- truth looks at its list through membership alone
-pub truth-same : (p : List ℤ) (m : List (List ℤ)) (σ τ : List ℤ) → ((x : ℤ) → mem x σ ≡ mem x τ) → truth p m σ ≡ truth p m τ
-unfolding truth mem
-truth-same [] m σ τ h = ap (λ (ρ : Assignment). all (any ρ) m) (fun-ext h)
-truth-same (q ∷ p) m σ τ h =
-    rw (
-      truth-same p m (q ∷ σ) (q ∷ τ) (λ x. ap (λ (b : Bool). eqZ x q || b) (h x)),
-      truth-same p m (negℤ q ∷ σ) (negℤ q ∷ τ) (λ x. ap (λ (b : Bool). eqZ x (negℤ q) || b) (h x)),
-    )
 
 -- ---- what is left
 -- a literal of another variable leaves what was left

@@ -82,18 +82,6 @@ natAbs-neg (pos zero) = refl
 natAbs-neg (pos (suc n)) = refl
 natAbs-neg (negsuc n) = refl
 
--- the negation of a literal has the other sign; a word is known by its sign and size
-pub sign-neg : (x : ℤ) → 0 < natAbs x → negative (negℤ x) ≡ not (negative x)
-sign-neg (pos zero) h = absurd (omega arith)
-sign-neg (pos (suc n)) h = refl
-sign-neg (negsuc n) h = refl
-
-pub word-eq : (x y : ℤ) → negative x ≡ negative y → natAbs x ≡ natAbs y → x ≡ y
-word-eq (pos m) (pos n) g e = ap pos e
-word-eq (pos m) (negsuc n) g e = clash refl (sym g)
-word-eq (negsuc m) (pos n) g e = clash refl g
-word-eq (negsuc m) (negsuc n) g e = let z : m ≡ n = omega arith in ap negsuc z
-
 -- two literals of one variable are the same or opposites
 pub var-cases : (x y : ℤ) → natAbs x ≡ natAbs y → (x ≡ y) ⊎ (x ≡ negℤ y)
 var-cases (pos m) (pos n) e = inl (ap pos e)
