@@ -9,10 +9,11 @@ use lib.Dec.{ltb}
 use lib.IntN.{ℤ, pos}
 use lib.ListN.{length, take, drop, getD}
 use borrow.Author.Tests.{lt-ltb, eq-eqb, ne-eqb}
+use Rattle.words.specs.Rows.{refusalOf}
 use Rattle.words.specs.Words.{negative}
 use Rattle.formula.specs.Limits.{Limits}
 use Rattle.formula.specs.Formula.{word, variablesOf, clauseCountOf, literalCountOf, prefixOf}
-use Rattle.formula.specs.Block.{first, rows}
+use Rattle.formula.specs.Block.{rows}
 use Rattle.formula.specs.Layout.{prefix-last, prefix-length, literals-length, prefix-lent, ends-lent, literals-lent}
 use Rattle.formula.specs.Tables.{partRows}
 
@@ -31,7 +32,7 @@ pub record Read (b : List ℤ) (v c t : ℕ) : Type 0 where
   pub t-is : t ≡ literalCountOf b
 
 module _ {b : List ℤ} {v c t : ℕ} (r : Read b v c t) where
-  pub wrong-length : (length b ≡ 6 + v + c + t → ⊥) → (L : Limits) → first 4 (drop 3 (rows L b)) ≡ 4
+  pub wrong-length : (length b ≡ 6 + v + c + t → ⊥) → (L : Limits) → refusalOf (drop 3 (rows L b)) ≡ 4
   wrong-length k L = rw (← r .v-is, ← r .c-is, ← r .t-is, ne-eqb (length b) (6 + v + c + t) k)
 
   module _ (all : length b ≡ 6 + v + c + t) where
@@ -48,5 +49,5 @@ module _ {b : List ℤ} {v c t : ℕ} (r : Read b v c t) where
     pub prefix-long : length (take (6 + v - 6) (drop 6 b)) ≡ v
     prefix-long = ap length (prefix-lent b prefix-end) ∙ prefix-length b whole ∙ sym (r .v-is)
 
-    pub right-length : (L : Limits) → first 4 (drop 3 (rows L b)) ≡ first 5 (partRows (take (6 + v - 6) (drop 6 b)) (take (6 + v + c - (6 + v)) (drop (6 + v) b)) (take (length b - (6 + v + c)) (drop (6 + v + c) b)))
+    pub right-length : (L : Limits) → refusalOf (drop 3 (rows L b)) ≡ refusalOf (partRows (take (6 + v - 6) (drop 6 b)) (take (6 + v + c - (6 + v)) (drop (6 + v) b)) (take (length b - (6 + v + c)) (drop (6 + v + c) b)))
     right-length L = rw (prefix-lent b prefix-end, ends-lent b prefix-end literals-from, literals-lent b whole literals-from, eq-eqb (length b) (6 + variablesOf b + clauseCountOf b + literalCountOf b) whole, prefix-length b whole, literals-length b whole, last b)

@@ -2,6 +2,7 @@
 pub mod Limits
 pub mod Formula
 pub mod Block
+pub mod Rows
 pub mod Named
 pub mod Ends
 pub mod Once

@@ -6,6 +6,7 @@ use Prim.Native.Nat.{ℕ, _-_, _<_}
 use lib.IntN.{ℤ, pos}
 use lib.ListN.{length, getD}
 use Rattle.words.specs.Lists.{any}
+use Rattle.words.specs.Rows.{Row, row}
 use Rattle.words.specs.Words.{negative}
 use Rattle.formula.specs.Formula.{clausesFrom}
 use Rattle.formula.specs.Block.{noVariable, twice, badEnds, bothSigns}
@@ -15,14 +16,14 @@ use Rattle.formula.specs.Places.{literalPlaces}
 abbrev pub lastNegative : List ℤ → Bool
 lastNegative p = negative (getD p (length p - 1) (pos 0))
 
-abbrev pub partRows : List ℤ → List ℤ → List ℤ → List Bool
+abbrev pub partRows : List ℤ → List ℤ → List ℤ → List Row
 partRows p es ls =
-    any (noVariable (length p)) p
-    ∷ twice p
-    ∷ lastNegative p
-    ∷ badEnds (length ls) 0 es
-    ∷ any (noVariable (length p)) ls
-    ∷ any bothSigns (clausesFrom ls 0 es)
+    row 5 (any (noVariable (length p)) p)
+    ∷ row 6 (twice p)
+    ∷ row 7 (lastNegative p)
+    ∷ row 8 (badEnds (length ls) 0 es)
+    ∷ row 9 (any (noVariable (length p)) ls)
+    ∷ row 10 (any bothSigns (clausesFrom ls 0 es))
     ∷ []
 
 -- a table by literal, in which no mark has the stamp yet, nor a later one

@@ -6,8 +6,9 @@ use native.Mathlib.Omega.{arith}
 use lib.IntN.{ℤ}
 use lib.ListN.{length, drop}
 use borrow.Author.Tests.{lt-ltb, le-ltb}
+use Rattle.words.specs.Rows.{refusalOf}
 use Rattle.formula.specs.Limits.{limits, variables-are, clauses-are, literals-are}
-use Rattle.formula.specs.Block.{first, rows, refusal}
+use Rattle.formula.specs.Block.{rows, refusal}
 use Rattle.formula.specs.Layout.{Counts, good-counts}
 use Rattle.formula.specs.Check.{checkedOf}
 use Rattle.formula.proofs.Whole.{Read, wrong-length, prefix-long, right-length}
@@ -19,14 +20,14 @@ abbrev blockOf : tie.Start → List ℤ
 blockOf s = s .args .block .now
 
 -- what is left of the rows after each test
-past1 : (c : tie.Else1) → refusal limits (blockOf (c .before)) ≡ first 2 (drop 1 (rows limits (blockOf (c .before))))
+past1 : (c : tie.Else1) → refusal limits (blockOf (c .before)) ≡ refusalOf (drop 1 (rows limits (blockOf (c .before))))
 unfolding refusal
 past1 c = rw (le-ltb (length (blockOf (c .before))) 6 (c .if1 .left))
 
-past2 : (c : tie.Else2) → let b = blockOf (c .before .before .before) in refusal limits b ≡ first 3 (drop 2 (rows limits b))
+past2 : (c : tie.Else2) → let b = blockOf (c .before .before .before) in refusal limits b ≡ refusalOf (drop 2 (rows limits b))
 past2 c = past1 (c .before .before) ∙ rw (sym (c .before .bad-counts .ensures) ∙ c .if2 .left)
 
-past3 : (c : tie.Else3) → let b = blockOf (c .before .before .before .before .before .before .before) in refusal limits b ≡ first 4 (drop 3 (rows limits b))
+past3 : (c : tie.Else3) → let b = blockOf (c .before .before .before .before .before .before .before) in refusal limits b ≡ refusalOf (drop 3 (rows limits b))
 past3 c = past2 (c .before .before .before .before) ∙ rw (sym (c .before .bad-offsets .ensures) ∙ c .if3 .left)
 
 returns : tie.Need-returns

@@ -1,33 +1,32 @@
 -- Each row that does not hold leaves the rows after it; the first that holds is answered.
 use mathlib.Core.Path.{_≡_, sym, _∙_}
-use mathlib.Core.Bool.{Bool}
 use mathlib.Core.List.{List}
 use lib.ListN.{drop}
+use Rattle.words.specs.Rows.{Row, refusalOf}
 use Rattle.formula.specs.Limits.{limits}
-use Rattle.formula.specs.Block.{first}
 use Rattle.formula.specs.Named.{all-named, named-up}
 use Rattle.formula.specs.Check.{checkedOf}
 use Rattle.formula.specs.Tables.{partRows}
 use Rattle.formula.proofs.parts.check_parts.Statement.{statement}
 use Rattle.formula.proofs.parts.check_parts.Tie as tie
 
-abbrev rows : tie.Start → List Bool
+abbrev rows : tie.Start → List Row
 rows s = partRows (s .args .prefix .now) (s .args .ends .now) (s .args .literals .now)
 
 -- what is left of the rows after each test
-past5 : (c : tie.Else1) → first 5 (rows (c .before .before)) ≡ first 6 (drop 1 (rows (c .before .before)))
+past5 : (c : tie.Else1) → refusalOf (rows (c .before .before)) ≡ refusalOf (drop 1 (rows (c .before .before)))
 past5 c = rw (sym (c .before .some-stranger .ensures) ∙ c .if1 .left)
 
-past6 : (c : tie.Else2) → first 5 (rows (c .before .before .before .before)) ≡ first 7 (drop 2 (rows (c .before .before .before .before)))
+past6 : (c : tie.Else2) → refusalOf (rows (c .before .before .before .before)) ≡ refusalOf (drop 2 (rows (c .before .before .before .before)))
 past6 c = past5 (c .before .before) ∙ rw (sym (c .before .variable-twice .ensures) ∙ c .if2 .left)
 
-past7 : (c : tie.Else3) → first 5 (rows (c .before .before .before .before .before .before)) ≡ first 8 (drop 3 (rows (c .before .before .before .before .before .before)))
+past7 : (c : tie.Else3) → refusalOf (rows (c .before .before .before .before .before .before)) ≡ refusalOf (drop 3 (rows (c .before .before .before .before .before .before)))
 past7 c = past6 (c .before .before) ∙ rw (sym (c .before .last-negative .ensures) ∙ c .if3 .left)
 
-past8 : (c : tie.Else4) → first 5 (rows (c .before .before .before .before .before .before .before .before)) ≡ first 9 (drop 4 (rows (c .before .before .before .before .before .before .before .before)))
+past8 : (c : tie.Else4) → refusalOf (rows (c .before .before .before .before .before .before .before .before)) ≡ refusalOf (drop 4 (rows (c .before .before .before .before .before .before .before .before)))
 past8 c = past7 (c .before .before) ∙ rw (sym (c .before .bad-ends .ensures) ∙ c .if4 .left)
 
-past9 : (c : tie.Else5) → first 5 (rows (c .before .before .before .before .before .before .before .before .before .before)) ≡ first 10 (drop 5 (rows (c .before .before .before .before .before .before .before .before .before .before)))
+past9 : (c : tie.Else5) → refusalOf (rows (c .before .before .before .before .before .before .before .before .before .before)) ≡ refusalOf (drop 5 (rows (c .before .before .before .before .before .before .before .before .before .before)))
 past9 c = past8 (c .before .before) ∙ rw (sym (c .before .some-stranger2 .ensures) ∙ c .if5 .left)
 
 some-stranger-requires : tie.Need-some-stranger-requires
