@@ -8,6 +8,8 @@ pub record Limits : Type 0 where
   pub variables : ℕ
   pub clauses : ℕ
   pub literals : ℕ
+  -- of variables in a listing's first group
+  pub group : ℕ
 
 -- the constants of the code are these
 abbrev pub maxVariables : ℕ
@@ -19,8 +21,11 @@ maxClauses = 1024
 abbrev pub maxLiterals : ℕ
 maxLiterals = 4096
 
+abbrev pub maxGroup : ℕ
+maxGroup = 16
+
 unfoldable pub limits : Limits
-limits = record { variables = maxVariables; clauses = maxClauses; literals = maxLiterals }
+limits = record { variables = maxVariables; clauses = maxClauses; literals = maxLiterals; group = maxGroup }
 
 -- a proof about a table's size knows no more of the limits than this
 pub variables-are : limits .variables ≡ maxVariables
@@ -34,6 +39,10 @@ clauses-are = refl
 pub literals-are : limits .literals ≡ maxLiterals
 unfolding limits
 literals-are = refl
+
+pub group-is : limits .group ≡ maxGroup
+unfolding limits
+group-is = refl
 
 -- a variable is far from the least word
 pub variables-small : limits .variables ≤ 2147483647

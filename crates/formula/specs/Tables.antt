@@ -1,9 +1,10 @@
 -- What the code's inner functions say to each other; a reader of `refusal` needs none of it.
 use mathlib.Core.Path.{_≡_}
-use mathlib.Core.Bool.{Bool}
+use mathlib.Core.Bool.{Bool, _||_}
 use mathlib.Core.List.{List, [], _∷_}
 use Prim.Native.Nat.{ℕ, _-_, _<_}
-use lib.IntN.{ℤ, pos}
+use lib.Dec.{ltb}
+use lib.IntN.{ℤ, pos, natAbs}
 use lib.ListN.{length, getD}
 use Rattle.words.specs.Lists.{any}
 use Rattle.words.specs.Rows.{Row, row}
@@ -25,6 +26,10 @@ partRows p es ls =
     ∷ row 9 (any (noVariable (length p)) ls)
     ∷ row 10 (any bothSigns (clausesFrom ls 0 es))
     ∷ []
+
+-- a word of size over n, or two of one size
+abbrev pub repeated : ℕ → List ℤ → Bool
+repeated n ws = any (λ w. ltb n (natAbs w)) ws || twice ws
 
 -- a table by literal, in which no mark has the stamp yet, nor a later one
 pub record Fresh (stamp : ℕ) (marks : List ℕ) : Type 0 where

@@ -10,7 +10,7 @@ ghost use Rattle.formula.specs.Places.{placeOf};
 pub const MIDDLE: usize = crate::MAX_VARIABLES;
 
 // The same number, for a signed word.
-const RAISE: i64 = 256;
+const RAISE: i64 = crate::MAX_VARIABLES as i64;
 
 pub const LITERAL_PLACES: usize = 2 * crate::MAX_VARIABLES + 1;
 
