@@ -1,6 +1,6 @@
 -- The tests that the rules make of a clause, of a literal and of a record. p is the prefix, m the clauses, ρ says which literals are true.
-use mathlib.Core.Bool.{Bool, not, _&&_, _||_}
-use mathlib.Core.List.{List}
+use mathlib.Core.Bool.{Bool, not, cond, _&&_, _||_}
+use mathlib.Core.List.{List, [], _∷_}
 use lib.Dec.{leb, ltb}
 use lib.IntN.{ℤ, negℤ}
 use Rattle.words.specs.Lists.{any, all}
@@ -41,6 +41,14 @@ oneSign m l = occurs m l && not (occurs m (negℤ l))
 -- "An existential one takes that sign, a universal one the opposite."
 unfoldable pub monotone : List ℤ → List (List ℤ) → Assignment → ℤ → Bool
 monotone p m ρ l = (unassignedE p ρ l && oneSign m l) || (unassignedU p ρ l && oneSign m (negℤ l))
+
+-- the same over the clauses with no true literal
+unfoldable pub untrueOf : Assignment → List (List ℤ) → List (List ℤ)
+untrueOf ρ [] = []
+untrueOf ρ (C ∷ m) = cond (any ρ C) (untrueOf ρ m) (C ∷ untrueOf ρ m)
+
+unfoldable pub monotoneOpen : List ℤ → List (List ℤ) → Assignment → ℤ → Bool
+monotoneOpen p m ρ l = monotone p (untrueOf ρ m) ρ l
 
 -- the widest that is sound: l stands in no clause that lacks a true literal
 unfoldable pub absent : List (List ℤ) → Assignment → ℤ → Bool

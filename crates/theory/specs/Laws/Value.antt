@@ -17,8 +17,8 @@ use Rattle.formula.specs.Truth.{asked, truth, true?}
 use Rattle.theory.specs.Record.{Record, literals, Assignment, among, trueIn, assigned}
 use Rattle.theory.specs.Tests.{allAssigned}
 use Rattle.theory.specs.Start.{rest, trueUnder}
-use Rattle.theory.specs.Assignment.{put, assigned-var, assigned-own, assigned-other}
-use Rattle.theory.specs.Asked.{asked-comm}
+use Rattle.theory.specs.Laws.Assignment.{put, assigned-var, assigned-own, assigned-other}
+use Rattle.theory.specs.Laws.Asked.{asked-comm}
 
 unfoldable pub value : List ℤ → List (List ℤ) → Assignment → Bool
 value [] m ρ = all (any ρ) m

@@ -1,19 +1,19 @@
 -- What the tests say, taken apart, and what one more literal leaves of it. Each from its definition in Tests.
-use mathlib.Core.Path.{_≡_, refl}
+use mathlib.Core.Path.{_≡_}
 use mathlib.Core.Logic.{_⊎_, inl, inr}
 use mathlib.Core.Bool.{Bool, true, false, not, _&&_, _||_}
 use mathlib.Core.List.{List}
 use Prim.Native.Nat.{_≤_, _<_}
 use lib.Dec.{leb, ltb, leb→le, ltb→lt, le→leb}
 use lib.IntN.{ℤ, negℤ}
-use Rattle.words.specs.Bools.{clash, T→eq, eq→T, and-l, and-r, and-i, or-e, or-l, or-r, not-t, to-false}
+use Rattle.words.specs.Bools.{clash, look, T→eq, eq→T, and-l, and-r, and-i, or-e, or-l, or-r, not-t, to-false}
 use Rattle.words.specs.Lists.{In, all, any, all-e, all-i, any-i, any-f, any-more}
 use Rattle.words.specs.Words.{eqZ, eqZ-eq, mem, mem-i, mem-e}
 use Rattle.formula.specs.Formula.{existential, universal, level}
-use Rattle.formula.specs.Prefix.{stands, existential-stands, universal-stands}
+use Rattle.formula.specs.Prefix.{stands, stands-bound, existential-stands, universal-stands}
 use Rattle.theory.specs.Record.{Assignment, assigned}
 use Rattle.theory.specs.Tests.{unassignedE, unassignedU, inConflict, unitOn, absent, monotoneWide, isOpen}
-use Rattle.theory.specs.Assignment.{put, put-old, put-e, assigned-still}
+use Rattle.theory.specs.Laws.Assignment.{put, put-old, put-e, assigned-still}
 
 -- ---- an unassigned literal of a quantifier
 parts : (b a : Bool) → (b && not a) ≡ true → (b ≡ true) × (a ≡ false)
@@ -36,7 +36,7 @@ unfolding unassignedU
 unassignedU-i p ρ x e a = rw (e, a)
 
 -- what is unassigned after one more literal was so before
-still-unassigned : (y : ℤ) (ρ : Assignment) (x : ℤ) → assigned (put y ρ) x ≡ false → assigned ρ x ≡ false
+pub still-unassigned : (y : ℤ) (ρ : Assignment) (x : ℤ) → assigned (put y ρ) x ≡ false → assigned ρ x ≡ false
 still-unassigned y ρ x h = to-false (assigned ρ x) (λ e. clash (assigned-still y ρ x e) h)
 
 pub unassignedE-put : (p : List ℤ) (y : ℤ) (ρ : Assignment) (x : ℤ) → unassignedE p (put y ρ) x ≡ true → unassignedE p ρ x ≡ true
@@ -101,8 +101,8 @@ unit-e p ρ C l h =
       inside = mem-e l C (and-l (mem l C) (unassignedE p ρ l) (and-r a b h2));
       exists = u .0;
       unset = u .1;
-      only = λ x i e. eqZ-eq x l (given (unassignedE p ρ x) (eqZ x l) (all-e isOnly C (and-r (a && b) c h3) i) e);
-      deeper = λ x i e. ltb→lt (level p l) (level p x) (eq→T (given (unassignedU p ρ x) (ltb (level p l) (level p x)) (all-e isDeeper C d i) e));
+      only = λ x i e. eqZ-eq x l (rw e at (all-e isOnly C (and-r (a && b) c h3) i));
+      deeper = λ x i e. ltb→lt (level p l) (level p x) (eq→T (rw e at (all-e isDeeper C d i)));
     }
   where
     a : Bool
@@ -120,14 +120,10 @@ unit-e p ρ C l h =
     c : Bool
     c = all isOnly C
 
-    given : (s t : Bool) → (not s || t) ≡ true → s ≡ true → t ≡ true
-    given true t h e = h
-    given false t h e = clash e refl
-
 -- ---- an open literal: unassigned, of the prefix, and no unassigned variable has a lower level
 -- no unassigned variable of the part p has a lower level than l's
 abbrev pub Lowest : List ℤ → Assignment → ℤ → List ℤ → Type 0
-Lowest P ρ l p = (x : ℤ) → In x p → (assigned ρ x ≡ true) ⊎ (level P l ≤ level P x)
+Lowest P ρ l p = (x : ℤ) → In x p → assigned ρ x ≡ false → level P l ≤ level P x
 
 pub record OpenAt (p : List ℤ) (ρ : Assignment) (l : ℤ) : Type 0 where
   pub bound : stands p l ≡ true
@@ -146,22 +142,20 @@ pub open-e : (p : List ℤ) (ρ : Assignment) (l : ℤ) → isOpen p ρ l ≡ tr
 unfolding isOpen
 open-e p ρ l h =
     let u = unassigned-e p ρ l (or-e (unassignedE p ρ l) (unassignedU p ρ l) (and-l (unassignedE p ρ l || unassignedU p ρ l) (all (notBelow p ρ l) p) h)) in
-    record { bound = u .0; unset = u .1; lowest = λ x i. least x (all-e (notBelow p ρ l) p (and-r (unassignedE p ρ l || unassignedU p ρ l) (all (notBelow p ρ l) p) h) i) }
-  where
-    least : (x : ℤ) → notBelow p ρ l x ≡ true → (assigned ρ x ≡ true) ⊎ (level p l ≤ level p x)
-    least x t = elim (or-e (assigned ρ x) (leb (level p l) (level p x)) t) [ inl e ↦ inl e | inr e ↦ inr (leb→le (level p l) (level p x) (eq→T e)) ]
+    record { bound = u .0; unset = u .1; lowest = λ x i a. leb→le (level p l) (level p x) (eq→T (rw a at (all-e (notBelow p ρ l) p (and-r (unassignedE p ρ l || unassignedU p ρ l) (all (notBelow p ρ l) p) h) i))) }
 
-pub open-i : (p : List ℤ) (ρ : Assignment) (l : ℤ) → (unassignedE p ρ l ≡ true) ⊎ (unassignedU p ρ l ≡ true) → Lowest p ρ l p → isOpen p ρ l ≡ true
+pub open-i : (p : List ℤ) (ρ : Assignment) (l : ℤ) → stands p l ≡ true → assigned ρ l ≡ false → Lowest p ρ l p → isOpen p ρ l ≡ true
 unfolding isOpen
-open-i p ρ l u h = and-i {a = unassignedE p ρ l || unassignedU p ρ l} {b = all (notBelow p ρ l) p} (unset u) (all-i (notBelow p ρ l) p (λ x i. least x (h x i)))
+open-i p ρ l b a h =
+    and-i {a = unassignedE p ρ l || unassignedU p ρ l} {b = all (notBelow p ρ l) p} (unset (stands-bound p l b)) (all-i (notBelow p ρ l) p (λ x i. least x i (look (assigned ρ x))))
   where
-    unset : (unassignedE p ρ l ≡ true) ⊎ (unassignedU p ρ l ≡ true) → (unassignedE p ρ l || unassignedU p ρ l) ≡ true
-    unset (inl e) = or-l (unassignedU p ρ l) e
-    unset (inr e) = or-r (unassignedE p ρ l) e
+    unset : (existential p l ≡ true) ⊎ (universal p l ≡ true) → (unassignedE p ρ l || unassignedU p ρ l) ≡ true
+    unset (inl e) = or-l (unassignedU p ρ l) (unassignedE-i p ρ l e a)
+    unset (inr e) = or-r (unassignedE p ρ l) (unassignedU-i p ρ l e a)
 
-    least : (x : ℤ) → (assigned ρ x ≡ true) ⊎ (level p l ≤ level p x) → notBelow p ρ l x ≡ true
-    least x (inl e) = or-l (leb (level p l) (level p x)) e
-    least x (inr e) = or-r (assigned ρ x) (T→eq (le→leb (level p l) (level p x) e))
+    least : (x : ℤ) → In x p → (assigned ρ x ≡ true) ⊎ (assigned ρ x ≡ false) → notBelow p ρ l x ≡ true
+    least x i (inl e) = or-l (leb (level p l) (level p x)) e
+    least x i (inr e) = or-r (assigned ρ x) (T→eq (le→leb (level p l) (level p x) (h x i e)))
 
 -- ---- a literal that stands in no clause without a true literal
 abbrev pub Absent : List (List ℤ) → ℤ → Assignment → Type 0

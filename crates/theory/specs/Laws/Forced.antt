@@ -19,11 +19,11 @@ use Rattle.formula.specs.Prefix.{stands, stands-e, stands-cons, stands-none, ex
 use Rattle.formula.specs.Truth.{asked}
 use Rattle.theory.specs.Record.{Assignment, assigned}
 use Rattle.theory.specs.Tests.{unassignedE, unitOn, absent, monotoneWide}
-use Rattle.theory.specs.Assignment.{put, unset-put, put-new, put-old, put-e, put-comm, assigned-var, assigned-own, assigned-still, assigned-put, assigned-other, assigned-sign}
-use Rattle.theory.specs.Asked.{asked-first, asked-more}
-use Rattle.theory.specs.Value.{value, valueOf, value-set, value-ask, value-at, value-own}
-use Rattle.theory.specs.Tested.{unassignedE-e, unassignedU-e, unassignedE-i, unassignedU-i, unassignedE-put, unassignedU-put, untrue-put, true-put, Dead, UnitAt, unit-e, Absent, absent-e, absent-put, wide-e}
-use Rattle.theory.specs.Conflict.{dead-false}
+use Rattle.theory.specs.Laws.Assignment.{put, unset-put, put-new, put-old, put-e, put-comm, assigned-var, assigned-own, assigned-still, assigned-put, assigned-other, assigned-sign}
+use Rattle.theory.specs.Laws.Asked.{asked-first, asked-more}
+use Rattle.theory.specs.Laws.Value.{value, valueOf, value-set, value-ask, value-at, value-own}
+use Rattle.theory.specs.Laws.Tested.{unassignedE-e, unassignedU-e, unassignedE-i, unassignedU-i, unassignedE-put, unassignedU-put, untrue-put, true-put, Dead, UnitAt, unit-e, Absent, absent-e, absent-put, wide-e}
+use Rattle.theory.specs.Laws.Conflict.{dead-false}
 
 -- an unassigned variable q of the prefix P that stands above l's, and a literal y of it
 record Above (P : List ℤ) (l : ℤ) (ρ : Assignment) (q y : ℤ) : Type 0 where
@@ -112,14 +112,14 @@ serves-put m ρ τ y h C i = elim (h C i) [
 ]
 
 -- then it will do in its place, if it assigns the same variables
-instead : (m : List (List ℤ)) (p : List ℤ) (ρ τ : Assignment) → ((x : ℤ) → assigned ρ x ≡ assigned τ x) → Serves m ρ τ → value p m ρ ≡ true → value p m τ ≡ true
+serves-value : (m : List (List ℤ)) (p : List ℤ) (ρ τ : Assignment) → ((x : ℤ) → assigned ρ x ≡ assigned τ x) → Serves m ρ τ → value p m ρ ≡ true → value p m τ ≡ true
 unfolding value
-instead m [] ρ τ ha hs v = all-i (any τ) m (λ C i. elim (hs C i) [ inl e ↦ e | inr f ↦ any-more ρ τ C f (all-e (any ρ) m v i) ])
-instead m (q ∷ p) ρ τ ha hs v = elim (look (assigned ρ q)) [
-  | inl a ↦ value-set q p m τ (sym (ha q) ∙ a) ∙ instead m p ρ τ ha hs (sym (value-set q p m ρ a) ∙ v)
+serves-value m [] ρ τ ha hs v = all-i (any τ) m (λ C i. elim (hs C i) [ inl e ↦ e | inr f ↦ any-more ρ τ C f (all-e (any ρ) m v i) ])
+serves-value m (q ∷ p) ρ τ ha hs v = elim (look (assigned ρ q)) [
+  | inl a ↦ value-set q p m τ (sym (ha q) ∙ a) ∙ serves-value m p ρ τ ha hs (sym (value-set q p m ρ a) ∙ v)
   | inr a ↦ value-ask q p m τ (sym (ha q) ∙ a) ∙ asked-more (negative q) _ _ _ _
-      (instead m p (put q ρ) (put q τ) (both q) (serves-put m ρ τ q hs))
-      (instead m p (put (negℤ q) ρ) (put (negℤ q) τ) (both (negℤ q)) (serves-put m ρ τ (negℤ q) hs))
+      (serves-value m p (put q ρ) (put q τ) (both q) (serves-put m ρ τ q hs))
+      (serves-value m p (put (negℤ q) ρ) (put (negℤ q) τ) (both (negℤ q)) (serves-put m ρ τ (negℤ q) hs))
       (sym (value-ask q p m ρ a) ∙ v)
 ]
   where
@@ -129,7 +129,7 @@ instead m (q ∷ p) ρ τ ha hs v = elim (look (assigned ρ q)) [
 -- a literal that no clause needs may give way to another of its variable
 give-way : (m : List (List ℤ)) (p : List ℤ) (ρ : Assignment) (a b : ℤ) → ((x : ℤ) → assigned (put a ρ) x ≡ assigned (put b ρ) x) → Absent m a ρ
     → value p m (put a ρ) ≡ true → value p m (put b ρ) ≡ true
-give-way m p ρ a b ha h = instead m p (put a ρ) (put b ρ) ha serves
+give-way m p ρ a b ha h = serves-value m p (put a ρ) (put b ρ) ha serves
   where
     serves : Serves m (put a ρ) (put b ρ)
     serves C i = elim (h C i) [

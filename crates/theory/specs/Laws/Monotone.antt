@@ -3,22 +3,13 @@
 use mathlib.Core.Path.{_≡_}
 use mathlib.Core.Logic.{_⊎_, inl, inr}
 use mathlib.Core.Bool.{Bool, true, false, not, cond, _&&_, _||_}
-use mathlib.Core.List.{List, [], _∷_}
+use mathlib.Core.List.{List, _∷_}
 use lib.IntN.{ℤ, negℤ}
 use Rattle.words.specs.Bools.{clash, look, and-l, and-r, and-i, or-e, or-l, or-r, not-t, not-f, to-false}
 use Rattle.words.specs.Lists.{In, here, there, any, all-i, any-i}
 use Rattle.words.specs.Words.{mem, negneg}
 use Rattle.theory.specs.Record.{Assignment}
-use Rattle.theory.specs.Tests.{unassignedE, unassignedU, occurs, oneSign, monotone, absent, monotoneWide}
-
--- the clauses with no true literal
-unfoldable pub untrueOf : Assignment → List (List ℤ) → List (List ℤ)
-untrueOf ρ [] = []
-untrueOf ρ (C ∷ m) = cond (any ρ C) (untrueOf ρ m) (C ∷ untrueOf ρ m)
-
--- Monotone that counts only those
-unfoldable pub monotoneOpen : List ℤ → List (List ℤ) → Assignment → ℤ → Bool
-monotoneOpen p m ρ l = monotone p (untrueOf ρ m) ρ l
+use Rattle.theory.specs.Tests.{unassignedE, unassignedU, occurs, oneSign, monotone, untrueOf, monotoneOpen, absent, monotoneWide}
 
 -- any count that leaves out no clause that lacks a true literal: m is the matrix, n what is counted
 module _ (m n : List (List ℤ)) (ρ : Assignment) (counted : (C : List ℤ) → In C m → any ρ C ≡ false → In C n) where

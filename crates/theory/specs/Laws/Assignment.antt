@@ -2,14 +2,16 @@
 -- From the definition of `assigned`: a variable is assigned if one of its two literals is true.
 use mathlib.Core.Path.{_≡_, refl, sym, _∙_, ap, fun-ext}
 use mathlib.Core.Logic.{_⊎_, inl, inr}
-use mathlib.Core.Bool.{Bool, true, false, _||_, or-comm, or-false}
+use mathlib.Core.Bool.{Bool, true, false, _||_, or-comm, or-assoc, or-false}
 use mathlib.Core.List.{List, [], _∷_, _++_, append-nil, append-assoc}
 use lib.Dec.{eqb}
 use lib.IntN.{ℤ, negℤ, natAbs}
 use Rattle.words.specs.Bools.{or-e, or-r, eqb-same}
 use Rattle.words.specs.Words.{eqZ, eqZ-refl, eqZ-eq, mem, mem-append, negneg, natAbs-neg, var-cases, same-variable}
 use Rattle.formula.specs.Prefix.{stands, stands-mem}
+use Rattle.formula.specs.Truth.{asked}
 use Rattle.theory.specs.Record.{Entry, Record, literals, Assignment, among, trueIn, assigned}
+use Rattle.theory.specs.Laws.Asked.{asked-exchange}
 
 -- l becomes true
 unfoldable pub put : ℤ → Assignment → Assignment
@@ -38,9 +40,7 @@ unfolding put
 put-comm a b ρ = fun-ext (λ x. swap (eqZ x a) (eqZ x b) (ρ x))
   where
     swap : (u v w : Bool) → (u || (v || w)) ≡ (v || (u || w))
-    swap true true w = refl
-    swap true false w = refl
-    swap false v w = refl
+    swap u v w = sym (or-assoc u v w) ∙ ap (λ (b : Bool). b || w) (or-comm u v) ∙ or-assoc v u w
 
 -- ---- which variables are assigned
 pub assigned-neg : (ρ : Assignment) (x : ℤ) → assigned ρ (negℤ x) ≡ assigned ρ x
@@ -53,14 +53,8 @@ assigned-var ρ x y e = elim (var-cases x y e) [ inl z ↦ rw z | inr z ↦ rw z
 
 -- one more literal assigns its own variable and no other
 pub assigned-put : (l : ℤ) (ρ : Assignment) (x : ℤ) → assigned (put l ρ) x ≡ (eqb (natAbs l) (natAbs x) || assigned ρ x)
-unfolding assigned put
-assigned-put l ρ x = rw (← same-variable x l) (swap (eqZ x l) (ρ x) (eqZ (negℤ x) l) (ρ (negℤ x)))
-  where
-    swap : (a b c d : Bool) → ((a || b) || (c || d)) ≡ ((a || c) || (b || d))
-    swap true b c d = refl
-    swap false true true d = refl
-    swap false true false d = refl
-    swap false false c d = refl
+unfolding assigned put asked
+assigned-put l ρ x = rw (← same-variable x l) (asked-exchange false (eqZ x l) (ρ x) (eqZ (negℤ x) l) (ρ (negℤ x)))
 
 pub assigned-own : (l : ℤ) (ρ : Assignment) → assigned (put l ρ) l ≡ true
 assigned-own l ρ = rw (assigned-put l ρ l, eqb-same (natAbs l))

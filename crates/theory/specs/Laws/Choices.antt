@@ -1,26 +1,25 @@
 -- The laws of the prefix alone, whatever the clauses are. Group exchange: neighbours of one quantifier may change places. Decide: a variable
--- of the outermost open group may be asked first. Early choices: an existential variable set early makes nothing true that was not, a
--- universal one nothing false. Each by induction on the prefix; decide by exchange.
+-- of the outermost open group may be asked first, by exchange.
 use mathlib.Core.Path.{_≡_, refl, sym, _∙_}
 use mathlib.Core.Logic.{inl, inr}
 use mathlib.Core.Bool.{true, false}
-use mathlib.Core.List.{List, [], _∷_}
+use mathlib.Core.List.{List, _∷_}
 use native.Mathlib.Omega.{arith}
 use lib.Dec.{eqb}
 use lib.IntN.{ℤ, negℤ, natAbs}
-use Rattle.words.specs.Bools.{clash, look, eqb-ne, eqb-comm}
+use Rattle.words.specs.Bools.{look, eqb-ne, eqb-comm}
 use Rattle.words.specs.Lists.{In, here, there}
 use Rattle.words.specs.Words.{negative, natAbs-neg}
-use Rattle.formula.specs.Formula.{Formula, existential, universal}
+use Rattle.formula.specs.Formula.{Formula, universal}
 use Rattle.formula.specs.Proper.{Proper}
-use Rattle.formula.specs.Prefix.{stands, stands-e, stands-cons, stands-none, other, universal-var, level-var, existential-stands, existential-universal, universal-stands, word-universal, Ordered, more, ordered}
+use Rattle.formula.specs.Prefix.{stands-e, other, universal-var, level-var, word-universal, Ordered, more, ordered}
 use Rattle.formula.specs.Truth.{asked}
 use Rattle.theory.specs.Record.{Assignment, assigned}
 use Rattle.theory.specs.Tests.{isOpen}
-use Rattle.theory.specs.Assignment.{put, unset-put, put-comm, assigned-var, assigned-still}
-use Rattle.theory.specs.Asked.{asked-exchange, Toward, asked-toward, toward-asked}
-use Rattle.theory.specs.Value.{value, valueOf, value-set, value-ask, value-at, value-own}
-use Rattle.theory.specs.Tested.{Lowest, open-e}
+use Rattle.theory.specs.Laws.Assignment.{put, unset-put, put-comm, assigned-var, assigned-still}
+use Rattle.theory.specs.Laws.Asked.{asked-exchange}
+use Rattle.theory.specs.Laws.Value.{value, valueOf, value-set, value-ask, value-at, value-own}
+use Rattle.theory.specs.Laws.Tested.{still-unassigned, Lowest, open-e}
 
 module _ (m : List (List ℤ)) where
   -- a variable further on that is assigned may be left out
@@ -80,24 +79,10 @@ module _ (m : List (List ℤ)) where
 
         -- q is unassigned too, so it is of w's level, and of w's group
         group : assigned ρ q ≡ false → negative q ≡ negative w
-        group b = elim (h q (here refl)) [ inl z ↦ clash z b | inr z ↦ let k = s w j .0 in s w j .1 (omega arith) ]
+        group b = let k = s w j .0 in let z = h q (here refl) b in s w j .1 (omega arith)
 
         still : (y : ℤ) → Lowest P (put y ρ) w p
-        still y x i = elim (h x (there i)) [ inl z ↦ inl (assigned-still y ρ x z) | inr z ↦ inr z ]
-
-    -- early choices: the value with a literal is on the way to the value without
-    early : (l : ℤ) (p : List ℤ) → Ordered P p → stands p l ≡ true → (ρ : Assignment) → assigned ρ l ≡ false → Toward (universal P l) (value p m (put l ρ)) (value p m ρ)
-    early l [] o i ρ a = clash i (stands-none l)
-    early l (q ∷ p) (more f u e s o) i ρ a = elim (stands-cons q p l i) [
-      | inl z ↦ rw (value-own q p m ρ l z, value-at q p m ρ l z (sym (assigned-var ρ l q z) ∙ a), ← u, universal-var P l q z) (asked-toward (universal P q) _ _)
-      | inr z ↦ elim (look (assigned ρ q)) [
-        | inl b ↦ rw (value-set q p m ρ b, value-set q p m (put l ρ) (assigned-still l ρ q b)) (early l p o (z .1) ρ a)
-        | inr b ↦
-            let ul = unset-put q ρ l (eqb-comm (natAbs q) (natAbs l) ∙ z .0) a in
-            rw (value-ask q p m ρ b, value-ask q p m (put l ρ) (unset-put l ρ q (z .0) b .0), put-comm q l ρ, put-comm (negℤ q) l ρ)
-            (toward-asked (universal P l) (negative q) _ _ _ _ (early l p o (z .1) (put q ρ) (ul .0)) (early l p o (z .1) (put (negℤ q) ρ) (ul .1)))
-      ]
-    ]
+        still y x i a = h x (there i) (still-unassigned y ρ x a)
 
 module _ (F : Formula) (ok : Proper F) (ρ : Assignment) (l : ℤ) where
   -- decide
@@ -107,13 +92,6 @@ module _ (F : Formula) (ok : Proper F) (ρ : Assignment) (l : ℤ) where
       let o = open-e P ρ l h in
       let (w, i, e) = stands-e P l (o .bound) in
       let a : assigned ρ w ≡ false = sym (assigned-var ρ l w e) ∙ o .unset in
-      let low : Lowest P ρ w P = λ x j. rw (level-var P l w e) at (o .lowest x j) in
+      let low : Lowest P ρ w P = λ x j u. rw (level-var P l w e) at (o .lowest x j u) in
       let u : negative w ≡ universal P l = sym (word-universal ok w i) ∙ sym (universal-var P l w e) in
       pull (F .clauses) P w P (ordered ok) i ρ a low ∙ rw u at (value-at w P (F .clauses) ρ l e a)
-
-  -- early choices
-  pub early-∃ : existential (F .prefix) l ≡ true → assigned ρ l ≡ false → valueOf F (put l ρ) ≡ true → valueOf F ρ ≡ true
-  early-∃ e a = rw (existential-universal ok l e) at (early (F .clauses) (F .prefix) l (F .prefix) (ordered ok) (existential-stands (F .prefix) l e) ρ a)
-
-  pub early-∀ : universal (F .prefix) l ≡ true → assigned ρ l ≡ false → valueOf F ρ ≡ true → valueOf F (put l ρ) ≡ true
-  early-∀ e a = rw e at (early (F .clauses) (F .prefix) l (F .prefix) (ordered ok) (universal-stands (F .prefix) l e) ρ a)

@@ -14,10 +14,10 @@ use Rattle.formula.specs.Proper.{Proper}
 use Rattle.formula.specs.Prefix.{stands-e, existential-neg, existential-stands, both-signs, Ordered, more, ordered}
 use Rattle.theory.specs.Record.{Assignment, assigned}
 use Rattle.theory.specs.Tests.{unassignedE, inConflict, conflict, allAssigned}
-use Rattle.theory.specs.Assignment.{put, assigned-neg, assigned-var}
-use Rattle.theory.specs.Value.{value, valueOf, value-set, value-ask, value-full}
-use Rattle.theory.specs.Asked.{asked-false, asked-both-false}
-use Rattle.theory.specs.Tested.{unassignedE-e, unassignedE-i, Dead, dead-e, dead-i, dead-put}
+use Rattle.theory.specs.Laws.Assignment.{put, assigned-neg, assigned-var}
+use Rattle.theory.specs.Laws.Value.{value, valueOf, value-set, value-ask, value-full}
+use Rattle.theory.specs.Laws.Asked.{asked-false, asked-both-false}
+use Rattle.theory.specs.Laws.Tested.{unassignedE-e, unassignedE-i, Dead, dead-e, dead-i, dead-put}
 
 -- a dead clause, down the prefix. Here `plain` is used: at a universal variable the clause does not have both literals, so one of them sets
 -- nothing in it

@@ -2,7 +2,7 @@
 use mathlib.Core.Path.{_≡_, refl, sym}
 use mathlib.Core.Logic.{_⊎_, inl, inr}
 use mathlib.Core.Bool.{Bool, true, false, and-comm, or-comm}
-use Rattle.words.specs.Bools.{and-l, and-r, and-i, or-l, or-r}
+use Rattle.words.specs.Bools.{and-l, and-r, and-i, or-r}
 use Rattle.formula.specs.Truth.{asked}
 
 -- either literal may come first
@@ -17,15 +17,11 @@ unfolding asked
 asked-exchange false true y z w = refl
 asked-exchange false false true true w = refl
 asked-exchange false false true false w = refl
-asked-exchange false false false true w = refl
-asked-exchange false false false false w = refl
-asked-exchange true true true true w = refl
-asked-exchange true true true false w = refl
+asked-exchange false false false z w = refl
+asked-exchange true true true z w = refl
 asked-exchange true true false true w = refl
 asked-exchange true true false false w = refl
-asked-exchange true false y true w = refl
-asked-exchange true false true false w = refl
-asked-exchange true false false false w = refl
+asked-exchange true false y z w = refl
 
 -- the second answer adds nothing
 pub asked-first : (b x y : Bool) → (b ≡ false → y ≡ true → x ≡ true) → (b ≡ true → x ≡ true → y ≡ true) → asked b x y ≡ x
@@ -54,19 +50,3 @@ unfolding asked
 asked-more false true y z w f g h = rw (f refl)
 asked-more false false y z w f g h = or-r z (g h)
 asked-more true x y z w f g h = and-i (f (and-l x y h)) (g (and-r x y h))
-
--- x is on the way to y: from below for an existential variable, from above for a universal one
-abbrev pub Toward : Bool → Bool → Bool → Type 0
-Toward false x y = x ≡ true → y ≡ true
-Toward true x y = y ≡ true → x ≡ true
-
--- one answer is on the way to the result
-pub asked-toward : (b x y : Bool) → Toward b x (asked b x y)
-unfolding asked
-asked-toward false x y = or-l y
-asked-toward true x y = and-l x y
-
--- and so are results of answers that are, whatever the question
-pub toward-asked : (b c x y z w : Bool) → Toward b x z → Toward b y w → Toward b (asked c x y) (asked c z w)
-toward-asked false c x y z w f g = asked-more c x y z w f g
-toward-asked true c x y z w f g = asked-more c z w x y f g
