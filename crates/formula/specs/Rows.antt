@@ -4,7 +4,8 @@ use mathlib.Core.List.{List, [], _∷_}
 use Prim.Native.Nat.{ℕ}
 use lib.IntN.{ℤ}
 use Rattle.words.specs.Lists.{In}
-use Rattle.words.specs.Rows.{Numbered, numbered, given}
+use Rattle.words.specs.Rows.{Numbered}
+use Rattle.words.specs.Laws.Rows.{numbered, given}
 use Rattle.formula.specs.Limits.{Limits}
 use Rattle.formula.specs.Block.{rows, refusal}
 

@@ -8,8 +8,8 @@ ghost use Rattle.words.specs.Lists.{any};
 ghost use Rattle.formula.specs.Limits.{limits};
 ghost use Rattle.formula.specs.Formula.{clausesFrom};
 ghost use Rattle.formula.specs.Block.{badEnds, bothSigns};
-ghost use Rattle.formula.specs.Named.{AllNamed};
-ghost use Rattle.formula.specs.Tables.{repeated, Fresh};
+ghost use Rattle.formula.specs.Inner.Named.{AllNamed};
+ghost use Rattle.formula.specs.Inner.Tables.{repeated, Fresh};
 use crate::places::LITERAL_PLACES;
 use crate::places::place_at;
 

@@ -8,7 +8,7 @@ ghost use Rattle.words.specs.Rows.{refusalOf};
 ghost use Rattle.formula.specs.Limits.{limits};
 ghost use Rattle.formula.specs.Block.{noVariable, badEnds};
 ghost use Rattle.formula.specs.Check.{checkedOf};
-ghost use Rattle.formula.specs.Tables.{lastNegative, partRows};
+ghost use Rattle.formula.specs.Inner.Tables.{lastNegative, partRows};
 
 // Whether some word is 0 or of size over n.
 pub fn some_stranger(ws: &[i32], n: usize) -> bool

@@ -8,12 +8,13 @@ use lib.Dec.{ltb}
 use lib.IntN.{ℤ}
 use lib.ListN.{length, take, drop}
 use borrow.Author.Tests.{lt-ltb, le-ltb}
-use Rattle.words.specs.Rows.{Row, refusalOf, stops, goes-on}
+use Rattle.words.specs.Rows.{Row, refusalOf}
+use Rattle.words.specs.Laws.Rows.{stops, goes-on}
 use Rattle.words.specs.Words.{negative}
 use Rattle.formula.specs.Formula.{word, variablesOf, formulaOf, firstGroup}
 use Rattle.rules.specs.Ready.{formula}
 use Rattle.session.specs.Refusals.{openRows, openRefusal}
-use Rattle.formula.specs.Layout.{prefix-lent}
+use Rattle.formula.specs.Laws.Layout.{prefix-lent}
 use Rattle.listing.specs.Page.{ofPage, pageRefusal}
 
 -- ---- rows 18 to 21

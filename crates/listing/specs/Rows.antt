@@ -7,7 +7,8 @@ use lib.IntN.{ℤ}
 use lib.ListN.{length}
 use borrow.Author.Tests.{ltb-false, le-ltb}
 use Rattle.words.specs.Lists.{In}
-use Rattle.words.specs.Rows.{Numbered, numbered, given, goes-on, first-part, passed}
+use Rattle.words.specs.Rows.{Numbered}
+use Rattle.words.specs.Laws.Rows.{numbered, given, goes-on, first-part, passed}
 use Rattle.formula.specs.Limits.{limits}
 use Rattle.formula.specs.Formula.{formulaOf, prefixOf, firstGroup}
 use Rattle.formula.specs.Block.{refusal}

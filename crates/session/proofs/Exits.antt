@@ -7,7 +7,8 @@ use lib.IntN.{ℤ}
 use lib.ListN.{take}
 use borrow.Author.Tests.{eq-eqb, ne-eqb, lt-ltb, le-ltb}
 use Rattle.words.specs.Outcomes.{outcome, unless-number}
-use Rattle.words.specs.Rows.{refusalOf, stops, goes-on}
+use Rattle.words.specs.Rows.{refusalOf}
+use Rattle.words.specs.Laws.Rows.{stops, goes-on}
 use Rattle.words.specs.declared.Literal.{Literal}
 use Rattle.formula.specs.Formula.{variablesOf, prefixOf, formulaOf}
 use Rattle.theory.specs.Record.{among}

@@ -6,14 +6,16 @@ use mathlib.Core.List.{List}
 use native.Mathlib.Omega.{arith}
 use lib.IntN.{ℤ, natAbs}
 use borrow.Author.Tests.{eq-eqb, ne-eqb}
-use Rattle.words.specs.Rows.{refusalOf, stops, goes-on}
+use Rattle.words.specs.Rows.{refusalOf}
+use Rattle.words.specs.Laws.Rows.{stops, goes-on}
 use Rattle.words.specs.declared.Literal.{Literal}
 use Rattle.formula.specs.declared.Checked.{Checked}
 use Rattle.formula.specs.declared.Checked.the-variants.{Accepted, Refused}
 use Rattle.formula.specs.Limits.{limits}
 use Rattle.formula.specs.Formula.{prefixOf}
 use Rattle.formula.specs.Block.{rows, refusal}
-use Rattle.formula.specs.Check.{checkedOf, checked-accepted, checked-refused}
+use Rattle.formula.specs.Check.{checkedOf}
+use Rattle.formula.specs.Laws.Check.{checked-accepted, checked-refused}
 use Rattle.theory.specs.Record.{Assignment}
 use Rattle.theory.specs.Tests.{isOpen}
 use Rattle.rules.specs.declared.Rule.{Rule}

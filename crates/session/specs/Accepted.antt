@@ -8,14 +8,15 @@ use lib.Dec.{eqb, ltb}
 use lib.IntN.{ℤ, natAbs}
 use lib.ListN.{length}
 use borrow.Author.Tests.{eqb-true, eqb-false, ltb-false, not-false, le-ltb, eq-eqb, ne-eqb}
-use Rattle.words.specs.Bools.{clash, look, or-fl, or-fr, not-f}
-use Rattle.words.specs.Rows.{refusalOf, goes-on, first-part, passed}
+use Rattle.words.specs.Laws.Bools.{clash, look, or-fl, or-fr, not-f}
+use Rattle.words.specs.Rows.{refusalOf}
+use Rattle.words.specs.Laws.Rows.{goes-on, first-part, passed}
 use Rattle.words.specs.declared.Literal.{Literal}
 use Rattle.formula.specs.Limits.{limits}
 use Rattle.formula.specs.Formula.{variablesOf, prefixOf, endsOf, literalsOf, formulaOf}
 use Rattle.formula.specs.Block.{rows, refusal}
 use Rattle.formula.specs.Proper.{Proper}
-use Rattle.formula.specs.Accepted as block
+use Rattle.formula.specs.Laws.Accepted as block
 use Rattle.theory.specs.Record.{trueIn}
 use Rattle.theory.specs.Tests.{isOpen}
 use Rattle.rules.specs.declared.State.{State}

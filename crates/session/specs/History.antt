@@ -15,11 +15,8 @@ use Rattle.formula.specs.Formula.{formulaOf, variablesOf, prefixOf}
 use Rattle.formula.specs.Block.{refusal}
 use Rattle.formula.specs.Truth.{true?}
 use Rattle.theory.specs.Rules.{going, Path, stop}
-use Rattle.theory.specs.Paths.{path-snoc}
-use Rattle.theory.specs.Sound.{sound-formula}
-use Rattle.theory.specs.Good.{good-none}
-use Rattle.theory.specs.Finite.{finite-formula}
-use Rattle.theory.specs.Progress.{never-stuck}
+use Rattle.theory.specs.Laws.Moves.{path-snoc, good-none}
+use Rattle.theory.specs.Theorem.{sound-formula, finite-formula, never-stuck}
 use Rattle.rules.specs.declared.State.the-variants.{Open, Valid, Unsat}
 use Rattle.rules.specs.Due.{literal}
 use Rattle.rules.specs.Apply.{recordOf, wiped}

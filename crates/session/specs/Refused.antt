@@ -7,10 +7,11 @@ use Prim.Native.Nat.{ℕ, zero, suc}
 use native.Mathlib.Omega.{arith}
 use lib.IntN.{ℤ}
 use borrow.Author.Tests.{ne-eqb}
-use Rattle.words.specs.Bools.{not-f}
+use Rattle.words.specs.Laws.Bools.{not-f}
 use Rattle.words.specs.Lists.{In}
 use Rattle.words.specs.Outcomes.{Outcome, outcome, unless, Left, unless-left}
-use Rattle.words.specs.Rows.{upTo, refused-by}
+use Rattle.words.specs.Rows.{upTo}
+use Rattle.words.specs.Laws.Rows.{refused-by}
 use Rattle.words.specs.declared.Literal.{Literal}
 use Rattle.session.specs.declared.Revision.{Revision}
 use Rattle.session.specs.declared.Session.{Session}

@@ -11,7 +11,7 @@ use Rattle.words.specs.Rows.{Row, row}
 use Rattle.words.specs.Words.{negative}
 use Rattle.formula.specs.Formula.{clausesFrom}
 use Rattle.formula.specs.Block.{noVariable, twice, badEnds, bothSigns}
-use Rattle.formula.specs.Places.{literalPlaces}
+use Rattle.formula.specs.Inner.Places.{literalPlaces}
 
 -- rows 5 to 10 of the three parts: the prefix, the ends and the literals
 abbrev pub lastNegative : List ℤ → Bool

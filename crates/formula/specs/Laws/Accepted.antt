@@ -9,19 +9,22 @@ use lib.Dec.{eqb}
 use lib.IntN.{ℤ, pos, natAbs}
 use lib.ListN.{length, getD}
 use borrow.Author.Tests.{ltb-false, lt-ltb, eqb-true, not-false}
-use Rattle.words.specs.Bools.{to-false}
-use Rattle.words.specs.Lists.{In, any, any-e, in-at, at-in}
-use Rattle.words.specs.Rows.{passed}
-use Rattle.words.specs.Words.{negative, mem, mem-e}
+use Rattle.words.specs.Laws.Bools.{to-false}
+use Rattle.words.specs.Lists.{In, any}
+use Rattle.words.specs.Laws.Lists.{any-e, in-at, at-in}
+use Rattle.words.specs.Laws.Rows.{passed}
+use Rattle.words.specs.Words.{negative, mem}
+use Rattle.words.specs.Laws.Words.{mem-e}
 use Rattle.formula.specs.Limits.{Limits}
 use Rattle.formula.specs.Formula.{word, variablesOf, clauseCountOf, literalCountOf, prefixOf, endsOf, literalsOf, clausesFrom, formulaOf, existential, universal}
 use Rattle.formula.specs.Block.{noVariable, names, twice, badEnds, bothSigns, rows, refusal}
-use Rattle.formula.specs.Named.{Named, AllNamed, named, in-named, all-named}
-use Rattle.formula.specs.Ends.{GoodEnd, startOf, good-at}
-use Rattle.formula.specs.Clauses.{clauses-in}
-use Rattle.formula.specs.Layout as layout
-use Rattle.formula.specs.Prefix.{once-at, existential-in}
-use Rattle.formula.specs.Permuted as bound
+use Rattle.formula.specs.Inner.Named.{Named, AllNamed}
+use Rattle.formula.specs.Laws.Named.{named, in-named, all-named}
+use Rattle.formula.specs.Laws.Ends.{GoodEnd, clauseStart, good-at}
+use Rattle.formula.specs.Laws.Clauses.{clauses-in}
+use Rattle.formula.specs.Laws.Layout as layout
+use Rattle.formula.specs.Laws.Prefix.{once-at, existential-in}
+use Rattle.formula.specs.Laws.Permuted as bound
 use Rattle.formula.specs.Proper.{Proper}
 
 pub record Accepted (L : Limits) (b : List ℤ) : Type 0 where
@@ -123,7 +126,7 @@ module _ {L : Limits} {b : List ℤ} (a : Accepted L b) where
   last-existential h = ap negative (layout.prefix-last b h) ∙ a .last h
 
   -- each clause lies within the literals
-  pub clause-within : (c : ℕ) → c < clauseCountOf b → GoodEnd (literalCountOf b) (startOf (endsOf b) c) (endsOf b) c
+  pub clause-within : (c : ℕ) → c < clauseCountOf b → GoodEnd (literalCountOf b) (clauseStart (endsOf b) c) (endsOf b) c
   clause-within c h = good-at (literalCountOf b) (endsOf b) (a .ends) c (rw ends-length h)
 
   -- what the theory of the rules asks
