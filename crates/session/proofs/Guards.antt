@@ -18,13 +18,14 @@ use Rattle.formula.specs.Check.{checkedOf}
 use Rattle.formula.specs.Laws.Check.{checked-accepted, checked-refused}
 use Rattle.theory.specs.Record.{Assignment}
 use Rattle.theory.specs.Tests.{isOpen}
-use Rattle.rules.specs.declared.Rule.{Rule}
+use Rattle.rules.specs.declared.rule.Rule.{Rule}
 use Rattle.rules.specs.Check.{badRecord}
+use Rattle.rules.specs.Preferred.{decides}
 use Rattle.session.specs.declared.Revision.{Revision}
 use Rattle.session.specs.declared.Session.{Session}
 use Rattle.session.specs.Memory.{Memory}
-use Rattle.session.specs.Refusals.{short, over, decides, ofBuffers, openRows, openRefusal, ofSession}
-use Rattle.session.specs.Checked.{sessionRefusal, proposalRefusal}
+use Rattle.session.specs.Refusals.{short, over, ofBuffers, openRows, openRefusal, ofSession}
+use Rattle.session.specs.Inner.Guards.{sessionRefusal, proposalRefusal}
 
 -- ---- rows 1 to 11
 refused-some : (n k : ℕ) → checkedOf n ≡ Refused k → k ≡ 0 → ⊥

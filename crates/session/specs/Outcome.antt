@@ -1,12 +1,12 @@
 -- Opening and a step: the answer, the next session in it, and the content of each lent buffer, for every input.
 use Prim.Native.Nat.{ℕ, _+_}
 use mathlib.Core.List.{List}
-use lib.IntN.{ℤ, pos}
+use lib.IntN.{ℤ}
 use Rattle.words.specs.Outcomes.{Outcome, outcome, unless}
 use Rattle.words.specs.declared.Literal.{Literal}
 use Rattle.formula.specs.Formula.{formulaOf, variablesOf, prefixOf}
-use Rattle.rules.specs.declared.State.{State}
-use Rattle.rules.specs.declared.State.the-variants.{Open}
+use Rattle.rules.specs.declared.rule.State.{State}
+use Rattle.rules.specs.declared.rule.State.the-variants.{Open}
 use Rattle.rules.specs.Due.{due}
 use Rattle.rules.specs.Trail.{wipedTrail}
 use Rattle.rules.specs.Search.{Search, search, recordIn}
@@ -15,7 +15,7 @@ use Rattle.session.specs.declared.Revision.{Revision}
 use Rattle.session.specs.declared.Session.{Session}
 use Rattle.session.specs.declared.Answer.{Answer}
 use Rattle.session.specs.declared.Answer.the-variants.{To, Refused}
-use Rattle.session.specs.Memory.{Memory, memory, memoryOf}
+use Rattle.session.specs.Memory.{Memory, memoryOf}
 use Rattle.session.specs.Refusals.{openRefusal, stepRefusal}
 
 abbrev pub session : ℕ → ℕ → State → Session

@@ -12,10 +12,9 @@ use Rattle.formula.specs.Formula.{formulaOf, variablesOf, prefixOf}
 use Rattle.formula.specs.Block.{rows}
 use Rattle.theory.specs.Record.{Assignment, trueIn}
 use Rattle.theory.specs.Tests.{isOpen}
-use Rattle.rules.specs.declared.State.{State}
-use Rattle.rules.specs.declared.State.the-variants.{Open, Valid, Unsat}
-use Rattle.rules.specs.declared.Rule.{Rule}
-use Rattle.rules.specs.declared.Rule.the-variants.{BacktrackExists, Fail, Unit, Monotone, Decide, BacktrackForall, Succeed}
+use Rattle.rules.specs.declared.rule.State.{State}
+use Rattle.rules.specs.declared.rule.State.the-variants.{Open, Valid, Unsat}
+use Rattle.rules.specs.declared.rule.Rule.{Rule}
 use Rattle.rules.specs.Trail.{recordOf}
 use Rattle.rules.specs.Due.{due}
 use Rattle.rules.specs.Preferred.{decides}

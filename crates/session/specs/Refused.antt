@@ -1,6 +1,6 @@
 -- A refused call: "Each returns its number alone and leaves all memory and the session as they were", and a call whose seen revision is not
 -- the session's is always one. By the two cases of the number, 0 and not 0.
-use mathlib.Core.Path.{_≡_, refl, sym}
+use mathlib.Core.Path.{_≡_, refl}
 use mathlib.Core.Bool.{true}
 use mathlib.Core.List.{List}
 use Prim.Native.Nat.{ℕ, zero, suc}

@@ -6,8 +6,8 @@ use lib.IntN.{ℤ}
 use Rattle.words.specs.Outcomes.{Outcome, outcome, unless}
 use Rattle.formula.specs.Formula.{Formula, formulaOf}
 use Rattle.theory.specs.Record.{trueIn}
-use Rattle.rules.specs.declared.State.{State}
-use Rattle.rules.specs.declared.State.the-variants.{Open, Valid, Unsat}
+use Rattle.rules.specs.declared.rule.State.{State}
+use Rattle.rules.specs.declared.rule.State.the-variants.{Open, Valid, Unsat}
 use Rattle.rules.specs.Due.{due}
 use Rattle.rules.specs.Search.{Search, recordIn}
 use Rattle.rules.specs.Preferred.{proposalOf}

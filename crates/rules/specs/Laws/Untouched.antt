@@ -21,10 +21,10 @@ use Rattle.rules.specs.declared.rule.Rule.the-variants.{BacktrackExists,
 put-other : (t : Trail) (i j : ℕ) (e : Entry) → (j ≡ i → ⊥) → entryAt (put t i e) j ≡ entryAt t j
 put-other t i j e h = rw (getD-set-other (t .lits) i j (e .literal) (pos 0) h, getD-set-other (t .kinds) i j (e .kind) 0 h)
 
-wiped-other : (t : Trail) (from to j : ℕ) → (j < from) ⊎ (to ≤ j) → entryAt (wipedTrail t from to) j ≡ entryAt t j
+pub wiped-other : (t : Trail) (from to j : ℕ) → (j < from) ⊎ (to ≤ j) → entryAt (wipedTrail t from to) j ≡ entryAt t j
 wiped-other t from to j h = rw (wiped-outside (pos 0) (t .lits) from to j (pos 0) h, wiped-outside 0 (t .kinds) from to j 0 h)
 
-wiped-blank : (t : Trail) (from to j : ℕ) → from ≤ j → j < to → entryAt (wipedTrail t from to) j ≡ noEntry
+pub wiped-blank : (t : Trail) (from to j : ℕ) → from ≤ j → j < to → entryAt (wipedTrail t from to) j ≡ noEntry
 wiped-blank t from to j h k = rw (wiped-inside (pos 0) (t .lits) from to j h k, wiped-inside 0 (t .kinds) from to j h k)
 
 -- place j is neither the last entry of a record of m entries nor, where there were n, one of those cut off

@@ -13,75 +13,44 @@ use Rattle.words.specs.Rows.{refusalOf}
 use Rattle.words.specs.Laws.Rows.{goes-on, first-part, passed}
 use Rattle.words.specs.declared.Literal.{Literal}
 use Rattle.formula.specs.Limits.{limits}
-use Rattle.formula.specs.Formula.{variablesOf, prefixOf, endsOf, literalsOf, formulaOf}
+use Rattle.formula.specs.Formula.{variablesOf, prefixOf, formulaOf}
 use Rattle.formula.specs.Block.{rows, refusal}
-use Rattle.formula.specs.Proper.{Proper}
-use Rattle.formula.specs.Laws.Accepted as block
 use Rattle.theory.specs.Record.{trueIn}
 use Rattle.theory.specs.Tests.{isOpen}
-use Rattle.rules.specs.declared.State.{State}
-use Rattle.rules.specs.declared.State.the-variants.{Open, Valid, Unsat}
+use Rattle.rules.specs.declared.rule.State.{State}
+use Rattle.rules.specs.declared.rule.State.the-variants.{Open, Valid, Unsat}
 use Rattle.rules.specs.Due.{due}
-use Rattle.rules.specs.Apply.{recordOf}
-use Rattle.rules.specs.Ready.{formula, Bound, Ready}
-use Rattle.rules.specs.Steps.{KeptIn, Permitted}
+use Rattle.rules.specs.Trail.{recordOf}
+use Rattle.rules.specs.Inner.Ready.{KeptIn, Permitted}
+use Rattle.rules.specs.Preferred.{decides}
+use Rattle.rules.specs.Inner.Ready.{OnBuffers}
 use Rattle.session.specs.declared.Revision.{Revision}
 use Rattle.session.specs.declared.Session.{Session}
 use Rattle.session.specs.Memory.{Memory}
-use Rattle.session.specs.Refusals.{lastRevision, short, over, decides, proposed, ofBuffers, openRows, openRefusal, ofSession, sessionRows, ofStep, stepRows, stepRefusal, ofRun, runRows, runRefusal}
-use Rattle.session.specs.Checked.{OnBuffers, sessionRefusal}
+use Rattle.session.specs.Refusals.{lastRevision, short, over, proposed, ofBuffers, openRows, openRefusal, ofSession, sessionRows, ofStep, stepRows, stepRefusal, ofRun, runRows, runRefusal}
+use Rattle.session.specs.Inner.Guards.{sessionRefusal}
 use Rattle.session.specs.Outcome.{searchOf}
-
-module _ (b : List ℤ) (h : refusal limits b ≡ 0) where
-  -- the prefix has V words
-  pub prefix-length : length (prefixOf b) ≡ variablesOf b
-  prefix-length = block.prefix-length (block.accepted limits b h)
-
-  pub accepted-bound : Bound (prefixOf b)
-  accepted-bound =
-      let a = block.accepted limits b h in
-      record { room = rw prefix-length (block.variables-most a); named = rw prefix-length (a .known); once = a .once }
-
-  -- what the rules' code asks of the parts
-  pub accepted-ready : Ready (prefixOf b) (endsOf b) (literalsOf b)
-  accepted-ready =
-      let a = block.accepted limits b h in
-      record { prefix = accepted-bound; ends = rw (block.literals-length a) (a .ends); named = rw prefix-length (a .literals) }
-
-  pub accepted-proper : Proper (formulaOf b)
-  accepted-proper = block.proper limits b h
-
--- the formula is that of the parts
-pub formula-is : (b : List ℤ) → formulaOf b ≡ formula (prefixOf b) (endsOf b) (literalsOf b)
-unfolding formulaOf
-formula-is b = refl
+use Rattle.rules.specs.Laws.Accepted.{prefix-length, accepted-bound}
 
 -- ---- rows 1 to 11: the buffers have a place for each variable
 module _ (b : List ℤ) (m : Memory) where
-  pub opened : openRefusal b m ≡ 0 → OnBuffers b m
+  pub opened : openRefusal b m ≡ 0 → OnBuffers b (m .trail)
   unfolding refusal openRefusal
   opened e =
-      let h : refusal limits b ≡ 0 = first-part (rows limits b) (ofBuffers b m) e in
       let r : short b m ≡ false = passed (openRows b m) refl e 11 in
-      let n = prefix-length b h in
       record {
-        block = h;
-        lent = record {
-          prefix = accepted-bound b h;
-          room = record {
-            lits = rw n (ltb-false (length (m .trail .lits)) (variablesOf b) (or-fl (ltb (length (m .trail .lits)) (variablesOf b)) (ltb (length (m .trail .kinds)) (variablesOf b)) r));
-            kinds = rw n (ltb-false (length (m .trail .kinds)) (variablesOf b) (or-fr (ltb (length (m .trail .lits)) (variablesOf b)) (ltb (length (m .trail .kinds)) (variablesOf b)) r));
-          };
+        block = first-part (rows limits b) (ofBuffers b m) e;
+        room = record {
+          lits = ltb-false (length (m .trail .lits)) (variablesOf b) (or-fl (ltb (length (m .trail .lits)) (variablesOf b)) (ltb (length (m .trail .kinds)) (variablesOf b)) r);
+          kinds = ltb-false (length (m .trail .kinds)) (variablesOf b) (or-fr (ltb (length (m .trail .lits)) (variablesOf b)) (ltb (length (m .trail .kinds)) (variablesOf b)) r);
         };
       }
 
-  pub open-passes : OnBuffers b m → openRefusal b m ≡ 0
+  pub open-passes : OnBuffers b (m .trail) → openRefusal b m ≡ 0
   unfolding refusal openRefusal
   open-passes o =
-      let n = prefix-length b (o .block) in
-      let x : variablesOf b ≤ length (m .trail .lits) = rw (← n) (o .lent .room .lits) in
-      let y : variablesOf b ≤ length (m .trail .kinds) = rw (← n) (o .lent .room .kinds) in
-      goes-on (rows limits b) (ofBuffers b m) refl (o .block) ∙ rw (le-ltb (length (m .trail .lits)) (variablesOf b) x, le-ltb (length (m .trail .kinds)) (variablesOf b) y)
+      goes-on (rows limits b) (ofBuffers b m) refl (o .block)
+      ∙ rw (le-ltb (length (m .trail .lits)) (variablesOf b) (o .room .lits), le-ltb (length (m .trail .kinds)) (variablesOf b) (o .room .kinds))
 
 -- ---- rows 1 to 14, which a step and a run share
 pub record Guarded (s : Session) (b : List ℤ) (m : Memory) (seen : Revision) : Type 0 where
@@ -103,7 +72,7 @@ module _ (s : Session) (b : List ℤ) (m : Memory) (seen : Revision) where
       let r = passed (sessionRows s b m seen) refl e in
       record {
         block = o .block;
-        kept = record { prefix = o .lent .prefix; lits-room = o .lent .room .lits; kinds-room = o .lent .room .kinds; good = r 12 };
+        kept = record { prefix = accepted-bound b (o .block); room = rw (prefix-length b (o .block)) (o .room); good = r 12 };
         live = over-open (s .state) (r 13);
         current = eqb-true (seen .0) (s .revision .0) (not-false _ (r 14));
       }
@@ -149,9 +118,8 @@ module _ (s : Session) (b : List ℤ) (m : Memory) (seen : Revision) (g : Guarde
   guard-passes : sessionRefusal s b m seen ≡ 0
   unfolding openRefusal sessionRefusal
   guard-passes =
-      let k = g .kept in
-      let o = open-passes b m (record { block = g .block; lent = record { prefix = k .prefix; room = record { lits = k .lits-room; kinds = k .kinds-room } } }) in
-      goes-on (openRows b m) (ofSession s b m seen) refl o ∙ rw (k .good, g .live, eq-eqb (seen .0) (s .revision .0) (g .current))
+      let o = open-passes b m (record { block = g .block; room = rw (← prefix-length b (g .block)) (g .kept .room) }) in
+      goes-on (openRows b m) (ofSession s b m seen) refl o ∙ rw (g .kept .good, g .live, eq-eqb (seen .0) (s .revision .0) (g .current))
 
   from-15 : (l : Literal) → stepRefusal s b m seen l ≡ refusalOf (ofStep s b m seen l)
   unfolding stepRefusal sessionRefusal

@@ -8,12 +8,12 @@ use lib.IntN.{ℤ}
 use Rattle.formula.specs.Formula.{Formula}
 use Rattle.theory.specs.Record.{Record}
 use Rattle.theory.specs.Rules.{State as Standing, Step, Path, stop, take}
-use Rattle.rules.specs.declared.State.{State}
-use Rattle.rules.specs.declared.State.the-variants.{Open, Valid, Unsat}
-use Rattle.rules.specs.Apply.{Search}
-use Rattle.rules.specs.Steps.{standing, standingOf, KeptIn}
+use Rattle.rules.specs.declared.rule.State.{State}
+use Rattle.rules.specs.declared.rule.State.the-variants.{Open, Valid, Unsat}
+use Rattle.rules.specs.Search.{Search, standing, standingOf}
+use Rattle.rules.specs.Inner.Ready.{KeptIn}
 use Rattle.session.specs.Run.{Trip, trip, advance, runFrom}
-use Rattle.session.specs.Advance.{advance-step, advance-keeps, run-more, run-ended}
+use Rattle.session.specs.Laws.Advance.{advance-step, advance-keeps, run-more, run-ended}
 
 -- one rule more, before a path
 from-open : (F : Formula) {st : State} {r : Record} {n : ℕ} {u v : Standing} → st ≡ Open → Step F r u → Path F n u v → Path F (suc n) (standing st r) v

@@ -5,44 +5,35 @@ use mir.Syntax.{w32}
 use mir.ValLaws.{toZ-ofZ}
 use borrow.Author.Needs.{needs, sfits-of}
 use Rattle.session.proofs.Guards.{proposal-none, proposal-undue, proposal-closed, proposal-passes}
-use Rattle.session.proofs.guard.of_proposal.Statement.{statement}
-use Rattle.session.proofs.guard.of_proposal.Tie as tie
+use Rattle.session.proofs.guard.proposal_refusal.Statement.{statement}
+use Rattle.session.proofs.guard.proposal_refusal.Tie as tie
 
 sized : (c : tie.After-size) → c .size .result ≡ natAbs (c .before .before .args .proposal .0)
 sized c =
     c .size .ensures
     ∙ ap natAbs (toZ-ofZ w32 (c .before .before .args .proposal .0) (sfits-of (c .before .struct-told .given .0 .1)))
 
-size-requires : tie.Need-size-requires
-size-requires c κs = search needs
-
 returns : tie.Need-returns
 returns c = proposal-none _ _ _ _ (sized (c .before)) (c .if1 .taken)
-
-is-decide-requires : tie.Need-is-decide-requires
-is-decide-requires c κs = search needs
 
 returns-2 : tie.Need-returns-2
 returns-2 c =
     let z = c .before .before in
     proposal-undue _ _ _ _ (sized (z .before)) (z .if1 .left) (c .before .is-decide .ensures) (c .if2 .taken)
 
-open-requires : tie.Need-open-requires
-open-requires c κs = search needs
-
 returns-3 : tie.Need-returns-3
 returns-3 c =
     let d = c .before .before in
     let z = d .before .before in
-    proposal-closed _ _ _ _ (sized (z .before)) (z .if1 .left) (d .before .is-decide .ensures) (d .if2 .left) (c .before .open .ensures) (c .if3 .taken)
+    proposal-closed _ _ _ _ (sized (z .before)) (z .if1 .left) (d .before .is-decide .ensures) (d .if2 .left) (c .before .is-open .ensures) (c .if3 .taken)
 
 returns-4 : tie.Need-returns-4
 returns-4 c =
     let d = c .before .before in
     let z = d .before .before in
-    proposal-passes _ _ _ _ (sized (z .before)) (z .if1 .left) (d .before .is-decide .ensures) (d .if2 .left) (c .before .open .ensures) (c .if3 .left)
+    proposal-passes _ _ _ _ (sized (z .before)) (z .if1 .left) (d .before .is-decide .ensures) (d .if2 .left) (c .before .is-open .ensures) (c .if3 .left)
 
-pub of-proposal-spec : {M : Type 1} → statement M
-of-proposal-spec =
+pub proposal-refusal-spec : {M : Type 1} → statement M
+proposal-refusal-spec =
     tie.close
-    (tie.spec size-requires returns is-decide-requires returns-2 open-requires returns-3 returns-4)
+    (tie.spec (λ c κs. search needs) returns (λ c κs. search needs) returns-2 (λ c κs. search needs) returns-3 returns-4)
