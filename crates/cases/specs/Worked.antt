@@ -12,10 +12,10 @@ use Rattle.formula.specs.Formula.{formulaOf, variablesOf, clausesFrom, existent
 use Rattle.formula.specs.Block.{refusal, twice, badEnds, bothSigns}
 use Rattle.theory.specs.Record.{literals, assigned}
 use Rattle.theory.specs.Tests.{unassignedE, unassignedU, inConflict, unitOn, occurs, oneSign, monotone as isMonotone, isOpen}
-use Rattle.rules.specs.declared.State.{State}
-use Rattle.rules.specs.declared.State.the-variants.{Open}
-use Rattle.rules.specs.declared.Rule.{Rule}
-use Rattle.rules.specs.declared.Rule.the-variants.{BacktrackExists, Fail, Unit, Monotone, Decide, BacktrackForall, Succeed}
+use Rattle.rules.specs.declared.rule.State.{State}
+use Rattle.rules.specs.declared.rule.State.the-variants.{Open}
+use Rattle.rules.specs.declared.rule.Rule.{Rule}
+use Rattle.rules.specs.declared.rule.Rule.the-variants.{BacktrackExists, Fail, Unit, Monotone, Decide, BacktrackForall, Succeed}
 use Rattle.rules.specs.Due.{due, lowest, last, candidate, lowestUnit, firstMonotone, firstUnassigned}
 use Rattle.rules.specs.Preferred.{firstOpen}
 use Rattle.rules.specs.Apply.{recordOf, wiped, apply}

@@ -15,13 +15,14 @@ use borrow.Author.Tests.{le-leb, lt-leb}
 use Rattle.words.specs.Laws.Bools.{clash}
 use Rattle.formula.specs.Formula.{Formula}
 use Rattle.formula.specs.Proper.{Proper}
-use Rattle.rules.specs.declared.State.{State}
-use Rattle.rules.specs.declared.State.the-variants.{Open, Valid, Unsat}
-use Rattle.rules.specs.Ready.{Bound}
-use Rattle.listing.specs.Opening.{searchOf}
+use Rattle.rules.specs.declared.rule.State.{State}
+use Rattle.rules.specs.declared.rule.State.the-variants.{Open, Valid, Unsat}
+use Rattle.rules.specs.Inner.Ready.{Bound, Room}
+use Rattle.listing.specs.Opening.{openingSearch}
 use Rattle.listing.specs.Page.{Sheet, sheet, written, bySearch, pageFrom}
 use Rattle.listing.specs.Wins.{wins, listing, listing-won, listing-lost}
-use Rattle.listing.specs.Searched.{won, lost}
+use Rattle.listing.specs.Laws.Searched.{won, lost}
+use Rattle.rules.specs.Trail.{Trail}
 
 -- ---- one entry written
 module _ (n e : ℕ) (out : List ℕ) where
@@ -47,7 +48,7 @@ abbrev pub Roomy : ℕ → ℕ → List ℕ → Type 0
 Roomy n e out = (2 * e + 2 ≤ length out) ⊎ ((0 < e) × (getD out (2 * (e - 1)) 0 + 1 ≡ n))
 
 -- ---- a page's sheet s: `total` is where the openings end, `size` the output's length
-module _ (F : Formula) (preferred : List ℤ) (budget : ℕ) (ls : List ℤ) (ks : List ℕ) where
+module _ (F : Formula) (preferred : List ℤ) (budget : ℕ) (work : Trail) where
   -- why it stops
   pub data Stops (total size : ℕ) (s : Sheet) : Type 0 where
     -- "at the end (next = 2^k)"
@@ -55,7 +56,7 @@ module _ (F : Formula) (preferred : List ℤ) (budget : ℕ) (ls : List ℤ) (ks
     -- "when no whole entry is left (next = last written + 1)"
     no-room : s .paused ≡ false → s .next < total → size < 2 * s .entries + 2 → 0 < s .entries → getD (s .output) (2 * (s .entries - 1)) 0 + 1 ≡ s .next → Stops total size s
     -- "when a search doesn't end within the budget (paused, next = that opening)"
-    unended : s .paused ≡ true → s .next < total → 2 * s .entries + 2 ≤ size → searchOf F preferred budget ls ks (s .next) .state ≡ Open → Stops total size s
+    unended : s .paused ≡ true → s .next < total → 2 * s .entries + 2 ≤ size → openingSearch F preferred budget work (s .next) .state ≡ Open → Stops total size s
 
   -- from the opening n, with e entries on the output
   pub record Filled (n e : ℕ) (out : List ℕ) (total : ℕ) (s : Sheet) : Type 0 where
@@ -129,26 +130,26 @@ module _ (F : Formula) (preferred : List ℤ) (budget : ℕ) (ls : List ℤ) (ks
           }
 
 -- ---- the page from the opening n on, on buffers that pass row 11
-module _ (F : Formula) (ok : Proper F) (bound : Bound (F .prefix)) (ls : List ℤ) (ks : List ℕ) (lits-room : length (F .prefix) ≤ length ls) (kinds-room : length (F .prefix) ≤ length ks) (preferred : List ℤ) (budget : ℕ) where
-  pub filled : (m n e : ℕ) (out : List ℕ) (total : ℕ) → n + m ≡ total → 2 * e ≤ length out → Roomy n e out → Filled F preferred budget ls ks n e out total (pageFrom F preferred budget ls ks m n e out)
+module _ (F : Formula) (ok : Proper F) (bound : Bound (F .prefix)) (work : Trail) (lent : Room (length (F .prefix)) work) (preferred : List ℤ) (budget : ℕ) where
+  pub filled : (m n e : ℕ) (out : List ℕ) (total : ℕ) → n + m ≡ total → 2 * e ≤ length out → Roomy n e out → Filled F preferred budget work n e out total (pageFrom F preferred budget work m n e out)
   unfolding pageFrom
-  filled zero n e out total t f r = stopped F preferred budget ls ks n e out total f false (omega arith) (at-end refl (omega arith)) (λ q h x. omega arith)
+  filled zero n e out total t f r = stopped F preferred budget work n e out total f false (omega arith) (at-end refl (omega arith)) (λ q h x. omega arith)
   filled (suc m) n e out total t f r = elim (decLe (2 * e + 2) (length out)) [
-    | yes h ↦ rw (le-leb (2 * e + 2) (length out) h) (go h (searchOf F preferred budget ls ks n .state) refl (filled m (n + 1) (e + 1) (written n e out) total (omega arith)) (filled m (n + 1) e out total (omega arith) f (inl h)))
+    | yes h ↦ rw (le-leb (2 * e + 2) (length out) h) (go h (openingSearch F preferred budget work n .state) refl (filled m (n + 1) (e + 1) (written n e out) total (omega arith)) (filled m (n + 1) e out total (omega arith) f (inl h)))
     | no h ↦ rw (lt-leb (2 * e + 2) (length out) (omega arith)) (full h r)
   ]
     where
-      full : (2 * e + 2 ≤ length out → ⊥) → Roomy n e out → Filled F preferred budget ls ks n e out total (sheet n e false out)
+      full : (2 * e + 2 ≤ length out → ⊥) → Roomy n e out → Filled F preferred budget work n e out total (sheet n e false out)
       full h (inl r) = absurd (h r)
-      full h (inr r) = stopped F preferred budget ls ks n e out total f false (omega arith) (no-room refl (omega arith) (omega arith) (r .0) (r .1)) (λ q i x. h x)
+      full h (inr r) = stopped F preferred budget work n e out total f false (omega arith) (no-room refl (omega arith) (omega arith) (r .0) (r .1)) (λ q i x. h x)
 
       used : 2 * e + 2 ≤ length out → Roomy (n + 1) (e + 1) (written n e out)
       used h = let z : e + 1 - 1 ≡ e = omega arith in inr (omega arith, rw (z, written-last n e out h))
 
-      go : 2 * e + 2 ≤ length out → (st : State) → searchOf F preferred budget ls ks n .state ≡ st
-          → (2 * (e + 1) ≤ length (written n e out) → Roomy (n + 1) (e + 1) (written n e out) → Filled F preferred budget ls ks (n + 1) (e + 1) (written n e out) total (pageFrom F preferred budget ls ks m (n + 1) (e + 1) (written n e out)))
-          → Filled F preferred budget ls ks (n + 1) e out total (pageFrom F preferred budget ls ks m (n + 1) e out)
-          → Filled F preferred budget ls ks n e out total (bySearch st (pageFrom F preferred budget ls ks m (n + 1) (e + 1) (written n e out)) (pageFrom F preferred budget ls ks m (n + 1) e out) (sheet n e true out))
-      go h Valid s a b = goes-won F preferred budget ls ks n e out total f (omega arith) _ h (won F ok bound ls ks lits-room kinds-room preferred budget n s) (a (rw (written-length n e out) (omega arith)) (used h))
-      go h Unsat s a b = goes-lost F preferred budget ls ks n e out total f (omega arith) _ (lost F ok bound ls ks lits-room kinds-room preferred budget n s) b
-      go h Open s a b = stopped F preferred budget ls ks n e out total f true (omega arith) (unended refl (omega arith) h s) (λ q. clash refl q)
+      go : 2 * e + 2 ≤ length out → (st : State) → openingSearch F preferred budget work n .state ≡ st
+          → (2 * (e + 1) ≤ length (written n e out) → Roomy (n + 1) (e + 1) (written n e out) → Filled F preferred budget work (n + 1) (e + 1) (written n e out) total (pageFrom F preferred budget work m (n + 1) (e + 1) (written n e out)))
+          → Filled F preferred budget work (n + 1) e out total (pageFrom F preferred budget work m (n + 1) e out)
+          → Filled F preferred budget work n e out total (bySearch st (pageFrom F preferred budget work m (n + 1) (e + 1) (written n e out)) (pageFrom F preferred budget work m (n + 1) e out) (sheet n e true out))
+      go h Valid s a b = goes-won F preferred budget work n e out total f (omega arith) _ h (won F ok bound work lent preferred budget n s) (a (rw (written-length n e out) (omega arith)) (used h))
+      go h Unsat s a b = goes-lost F preferred budget work n e out total f (omega arith) _ (lost F ok bound work lent preferred budget n s) b
+      go h Open s a b = stopped F preferred budget work n e out total f true (omega arith) (unended refl (omega arith) h s) (λ q. clash refl q)

@@ -5,7 +5,7 @@ use Prim.Native.Nat.{ℕ, suc, _+_, _-_, _≤_}
 use mathlib.Core.Path.{_≡_, refl, sym, _∙_, ap}
 use mathlib.Core.Logic.{inl, inr}
 use mathlib.Core.Bool.{true, false, _||_}
-use mathlib.Core.List.{List, [], _∷_, _++_, append-assoc}
+use mathlib.Core.List.{List, [], _∷_, _++_, append-assoc, zipWith}
 use native.Mathlib.Omega.{arith}
 use lib.IntN.{ℤ, pos}
 use lib.ListN.{length, take, drop, replicate, length-replicate, replicate-append-replicate, take-append-drop}
@@ -17,15 +17,15 @@ use Rattle.formula.specs.Block.{twice}
 use Rattle.formula.specs.Laws.Prefix.{stands, stands-i, stands-append, stands-bound}
 use Rattle.theory.specs.Record.{entry, Record, literals, forced}
 use Rattle.theory.specs.Start.{suits, allSuit, Good}
-use Rattle.rules.specs.Apply.{recordOf, wiped}
+use Rattle.rules.specs.Trail.{recordOf, wiped, Trail, trail, entries}
 use Rattle.rules.specs.Check.{badRecord}
-use Rattle.rules.specs.Ready.{Bound}
-use Rattle.rules.specs.Records.{wiped-length}
-use Rattle.rules.specs.Passed.{good-kept}
-use Rattle.rules.specs.Steps.{recordIn, KeptIn}
-use Rattle.rules.specs.declared.State.the-variants.{Open}
-use Rattle.listing.specs.Opening.{groupOf, valuesOf, startOf}
-use Rattle.listing.specs.Values.{values-length, values-stand, values-twice, group-few, group-length, twice-take}
+use Rattle.rules.specs.Inner.Ready.{Bound, KeptIn, Room}
+use Rattle.rules.specs.Laws.Wiped.{wiped-length}
+use Rattle.rules.specs.Laws.Good.{good-kept}
+use Rattle.rules.specs.Search.{recordIn}
+use Rattle.rules.specs.declared.rule.State.the-variants.{Open}
+use Rattle.listing.specs.Opening.{groupOf, valuesOf, openingStart}
+use Rattle.listing.specs.Laws.Values.{values-length, values-stand, values-twice, group-few, group-length, twice-take}
 
 -- ---- a record of forced literals
 unfoldable pub given : List ℤ → Record
@@ -60,11 +60,11 @@ given-suited p (v ∷ vs) h =
     (given-suited p vs (λ x i. h x (there i)))
 
 -- it is what two buffers hold that begin with the literals and with as many zeros
-given-held : (vs xs : List ℤ) (ys : List ℕ) (k : ℕ) → length vs ≡ k → recordOf (vs ++ xs) (replicate (length vs) 0 ++ ys) k ≡ given vs
-unfolding given recordOf
+given-held : (vs xs : List ℤ) (ys : List ℕ) (k : ℕ) → length vs ≡ k → recordOf (trail (vs ++ xs) (replicate (length vs) 0 ++ ys)) k ≡ given vs
+unfolding given recordOf entries zipWith
 given-held vs xs ys k e = rw (← e) (go vs)
   where
-    go : (vs : List ℤ) → recordOf (vs ++ xs) (replicate (length vs) 0 ++ ys) (length vs) ≡ given vs
+    go : (vs : List ℤ) → recordOf (trail (vs ++ xs) (replicate (length vs) 0 ++ ys)) (length vs) ≡ given vs
     go [] = refl
     go (v ∷ vs) = ap (λ (r : Record). entry 0 v ∷ r) (go vs)
 
@@ -85,38 +85,38 @@ zeros-split : (k n : ℕ) → k ≤ n → _≡_ {A = List ℕ} (replicate n 0) (
 zeros-split k n h = let e : k + (n - k) ≡ n = omega arith in sym (rw e at (replicate-append-replicate {A = ℕ} k (n - k) 0))
 
 -- ---- the opening n, on buffers that pass row 11
-module _ (F : Formula) (ls : List ℤ) (ks : List ℕ) (n : ℕ) (lits-room : length (F .prefix) ≤ length ls) (kinds-room : length (F .prefix) ≤ length ks) where
+module _ (F : Formula) (work : Trail) (n : ℕ) (lent : Room (length (F .prefix)) work) where
   values-count : length (valuesOf n (groupOf F)) ≡ firstGroup (F .prefix)
   values-count = values-length n (groupOf F) ∙ group-length F
 
   -- the buffers hold the values, each forced
-  pub start-held : recordIn (startOf F ls ks n) ≡ opened F n
-  unfolding startOf
+  pub start-held : recordIn (openingStart F work n) ≡ opened F n
+  unfolding openingStart
   start-held =
       let k = values-count in
       let few = group-few (F .prefix) in
-      let w = wiped-length (pos 0) ls 0 (length (F .prefix)) in
+      let w = wiped-length (pos 0) (work .lits) 0 (length (F .prefix)) in
       rw (
-        sets-whole (valuesOf n (groupOf F)) (wiped (pos 0) ls 0 (length (F .prefix))) (omega arith),
-        wiped-whole 0 ks (length (F .prefix)) kinds-room,
+        sets-whole (valuesOf n (groupOf F)) (wiped (pos 0) (work .lits) 0 (length (F .prefix))) (omega arith),
+        wiped-whole 0 (work .kinds) (length (F .prefix)) (lent .kinds),
         zeros-split (length (valuesOf n (groupOf F))) (length (F .prefix)) (omega arith),
-        append-assoc (replicate (length (valuesOf n (groupOf F))) 0) (replicate (length (F .prefix) - length (valuesOf n (groupOf F))) 0) (drop (length (F .prefix)) ks),
+        append-assoc (replicate (length (valuesOf n (groupOf F))) 0) (replicate (length (F .prefix) - length (valuesOf n (groupOf F))) 0) (drop (length (F .prefix)) (work .kinds)),
       ) (given-held (valuesOf n (groupOf F)) _ _ (firstGroup (F .prefix)) k)
 
 -- ---- what an opening's search starts from
-pub record Starts (F : Formula) (ls : List ℤ) (ks : List ℕ) (n : ℕ) : Type 0 where
+pub record Starts (F : Formula) (work : Trail) (n : ℕ) : Type 0 where
   -- the buffers hold "these k values in prefix order, kind 0", and the search is open
-  pub held : recordIn (startOf F ls ks n) ≡ opened F n
+  pub held : recordIn (openingStart F work n) ≡ opened F n
   pub values : literals (opened F n) ≡ valuesOf n (groupOf F)
   pub kinds : forced (opened F n) ≡ true
   pub count : length (opened F n) ≡ firstGroup (F .prefix)
-  pub live : startOf F ls ks n .state ≡ Open
+  pub live : openingStart F work n .state ≡ Open
   -- its variables are the first group's
   pub variables : (x : ℤ) → stands (literals (opened F n)) x ≡ stands (groupOf F) x
   -- the theory can start from it: each variable once, of the prefix; and rows 11 and 12 would pass
   pub good : Good F (opened F n)
-  pub kept : KeptIn (F .prefix) (startOf F ls ks n)
-  pub passes : badRecord (F .prefix) (startOf F ls ks n .lits) (startOf F ls ks n .kinds) (startOf F ls ks n .count) ≡ false
+  pub kept : KeptIn (F .prefix) (openingStart F work n)
+  pub passes : badRecord (F .prefix) (openingStart F work n .trail) (openingStart F work n .count) ≡ false
 
 -- its words are bound by the prefix
 group-stands : (F : Formula) (n : ℕ) (x : ℤ) → In x (valuesOf n (groupOf F)) → stands (F .prefix) x ≡ true
@@ -127,23 +127,23 @@ group-stands F n x i =
     let e : stands (take k p ++ drop k p) x ≡ true = rw (stands-append (take k p) (drop k p) x) (or-l (stands (drop k p) x) h) in
     rw (take-append-drop k p) at e
 
-module _ (F : Formula) (bound : Bound (F .prefix)) (ls : List ℤ) (ks : List ℕ) (n : ℕ) (lits-room : length (F .prefix) ≤ length ls) (kinds-room : length (F .prefix) ≤ length ks) where
+module _ (F : Formula) (bound : Bound (F .prefix)) (work : Trail) (n : ℕ) (lent : Room (length (F .prefix)) work) where
   opened-once : twice (literals (opened F n)) ≡ false
   opened-once = rw (given-literals (valuesOf n (groupOf F))) (values-twice n (groupOf F) (twice-take (firstGroup (F .prefix)) (F .prefix) (bound .once)))
 
   opened-good : Good F (opened F n)
   opened-good = record { distinct = opened-once; suited = given-suited (F .prefix) (valuesOf n (groupOf F)) (group-stands F n) }
 
-  start-passes : badRecord (F .prefix) (startOf F ls ks n .lits) (startOf F ls ks n .kinds) (startOf F ls ks n .count) ≡ false
-  unfolding startOf
+  start-passes : badRecord (F .prefix) (openingStart F work n .trail) (openingStart F work n .count) ≡ false
+  unfolding openingStart
   start-passes =
-      good-kept F (startOf F ls ks n .lits) (startOf F ls ks n .kinds) (firstGroup (F .prefix)) bound (group-few (F .prefix))
-      (rw (start-held F ls ks n lits-room kinds-room) opened-good)
+      good-kept F (openingStart F work n .trail) (firstGroup (F .prefix)) bound (group-few (F .prefix))
+      (rw (start-held F work n lent) opened-good)
 
-  pub starts : Starts F ls ks n
-  unfolding startOf
+  pub starts : Starts F work n
+  unfolding openingStart
   starts = record {
-    held = start-held F ls ks n lits-room kinds-room;
+    held = start-held F work n lent;
     values = given-literals (valuesOf n (groupOf F));
     kinds = given-forced (valuesOf n (groupOf F));
     count = given-length (valuesOf n (groupOf F)) ∙ values-length n (groupOf F) ∙ group-length F;
@@ -152,8 +152,7 @@ module _ (F : Formula) (bound : Bound (F .prefix)) (ls : List ℤ) (ks : List �
     good = opened-good;
     kept = record {
       prefix = bound;
-      lits-room = rw (length-sets, wiped-length) lits-room;
-      kinds-room = rw wiped-length kinds-room;
+      room = record { lits = rw (length-sets, wiped-length) (lent .lits); kinds = rw wiped-length (lent .kinds) };
       good = start-passes;
     };
     passes = start-passes;
