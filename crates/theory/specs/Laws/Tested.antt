@@ -4,17 +4,17 @@ use mathlib.Core.Logic.{_⊎_, inl, inr}
 use mathlib.Core.Bool.{Bool, true, false, not, _&&_, _||_}
 use mathlib.Core.List.{List}
 use Prim.Native.Nat.{_≤_, _<_}
-use lib.Dec.{leb, ltb, leb→le, ltb→lt, le→leb}
+use lib.Dec.{leb, leb→le, ltb→lt, le→leb}
 use lib.IntN.{ℤ, negℤ}
 use Rattle.words.specs.Laws.Bools.{clash, look, T→eq, eq→T, and-l, and-r, and-i, or-e, or-l, or-r, not-t, to-false}
 use Rattle.words.specs.Lists.{In, all, any}
 use Rattle.words.specs.Laws.Lists.{all-e, all-i, any-i, any-f, any-more}
-use Rattle.words.specs.Words.{eqZ, mem}
+use Rattle.words.specs.Words.{mem}
 use Rattle.words.specs.Laws.Words.{eqZ-eq, mem-i, mem-e}
 use Rattle.formula.specs.Formula.{existential, universal, level}
 use Rattle.formula.specs.Laws.Prefix.{stands, stands-bound, existential-stands, universal-stands}
 use Rattle.theory.specs.Record.{Assignment, assigned}
-use Rattle.theory.specs.Tests.{unassignedE, unassignedU, inConflict, unitOn, absent, monotoneWide, isOpen}
+use Rattle.theory.specs.Tests.{unassignedE, unassignedU, inConflict, isOnly, isDeeper, unitOn, absent, monotoneWide, notBelow, isOpen}
 use Rattle.theory.specs.Laws.Assignment.{put, put-old, put-e, assigned-still}
 
 -- ---- an unassigned literal of a quantifier
@@ -94,8 +94,7 @@ pub record UnitAt (p : List ℤ) (C : List ℤ) (l : ℤ) (ρ : Assignment) : Ty
 pub unit-e : (p : List ℤ) (ρ : Assignment) (C : List ℤ) (l : ℤ) → unitOn p ρ C l ≡ true → UnitAt p C l ρ
 unfolding unitOn
 unit-e p ρ C l h =
-    let d = and-r (a && b && c) (all isDeeper C) h in
-    let h3 = and-l (a && b && c) (all isDeeper C) h in
+    let h3 = and-l (a && b && c) (all (isDeeper p ρ l) C) h in
     let h2 = and-l (a && b) c h3 in
     let u = unassignedE-e p ρ l (and-r (mem l C) (unassignedE p ρ l) (and-r a b h2)) in
     record {
@@ -103,8 +102,8 @@ unit-e p ρ C l h =
       inside = mem-e l C (and-l (mem l C) (unassignedE p ρ l) (and-r a b h2));
       exists = u .0;
       unset = u .1;
-      only = λ x i e. eqZ-eq x l (rw e at (all-e isOnly C (and-r (a && b) c h3) i));
-      deeper = λ x i e. ltb→lt (level p l) (level p x) (eq→T (rw e at (all-e isDeeper C d i)));
+      only = λ x i e. eqZ-eq x l (rw e at (all-e (isOnly p ρ l) C (and-r (a && b) c h3) i));
+      deeper = λ x i e. ltb→lt (level p l) (level p x) (eq→T (rw e at (all-e (isDeeper p ρ l) C (and-r (a && b && c) (all (isDeeper p ρ l) C) h) i)));
     }
   where
     a : Bool
@@ -113,14 +112,8 @@ unit-e p ρ C l h =
     b : Bool
     b = mem l C && unassignedE p ρ l
 
-    isOnly : ℤ → Bool
-    isOnly x = not (unassignedE p ρ x) || eqZ x l
-
-    isDeeper : ℤ → Bool
-    isDeeper x = not (unassignedU p ρ x) || ltb (level p l) (level p x)
-
     c : Bool
-    c = all isOnly C
+    c = all (isOnly p ρ l) C
 
 -- ---- an open literal: unassigned, of the prefix, and no unassigned variable has a lower level
 -- no unassigned variable of the part p has a lower level than l's
@@ -135,10 +128,6 @@ pub record OpenAt (p : List ℤ) (ρ : Assignment) (l : ℤ) : Type 0 where
 unassigned-e : (p : List ℤ) (ρ : Assignment) (l : ℤ) → (unassignedE p ρ l ≡ true) ⊎ (unassignedU p ρ l ≡ true) → (stands p l ≡ true) × (assigned ρ l ≡ false)
 unassigned-e p ρ l (inl h) = let u = unassignedE-e p ρ l h in (existential-stands p l (u .0), u .1)
 unassigned-e p ρ l (inr h) = let u = unassignedU-e p ρ l h in (universal-stands p l (u .0), u .1)
-
--- the test of it
-abbrev notBelow : List ℤ → Assignment → ℤ → ℤ → Bool
-notBelow p ρ l q = assigned ρ q || leb (level p l) (level p q)
 
 pub open-e : (p : List ℤ) (ρ : Assignment) (l : ℤ) → isOpen p ρ l ≡ true → OpenAt p ρ l
 unfolding isOpen
