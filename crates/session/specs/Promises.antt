@@ -4,8 +4,7 @@ use mathlib.Core.Path.{_≡_, ap}
 use mathlib.Core.List.{List}
 use Prim.Native.Nat.{ℕ}
 use lib.IntN.{ℤ}
-use Rattle.words.specs.Only.{only-one}
-use Rattle.words.specs.Outcomes.{outcome, Same, same}
+use Rattle.words.specs.Outcomes.{only-one, outcome, Same, same}
 use Rattle.words.specs.declared.Literal.{Literal}
 use Rattle.formula.specs.Formula.{formulaOf}
 use Rattle.rules.specs.declared.rule.State.{State}

@@ -14,7 +14,7 @@ use Rattle.words.specs.Laws.Lists.{next, ended}
 use Rattle.words.specs.Words.{negative}
 use Rattle.formula.specs.Block.{badEnds}
 
--- "a clause end negative, falling or over T", after an end at `from`
+-- an end that row 8 refuses, after an end at `from`
 unfoldable pub badEnd : ℕ → ℕ → ℤ → Bool
 badEnd total from e = negative e || ltb (natAbs e) from || ltb total (natAbs e)
 
