@@ -5,15 +5,10 @@ pub mod Universals
 pub mod Occurring
 pub mod Statuses
 pub mod Levels
-pub mod Unassigned
-pub mod Lowest
-pub mod OpenLiteral
-pub mod Monotone
-pub mod Kind
+pub mod First
 pub mod Places
 pub mod Exits
 pub mod Row12
 pub mod Looks
 pub mod Walk
 pub mod Conflict
-pub mod Ways
