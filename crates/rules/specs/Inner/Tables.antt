@@ -47,10 +47,6 @@ pub record Written (ls : List ℤ) (n : ℕ) : Type 0 where
   pub named : Known (take n ls)
   pub once : twice (take n ls) ≡ false
 
--- a literal occurs in the clauses m exactly if it is one of their literal words ls
-abbrev pub Spread : List ℤ → List (List ℤ) → Type 0
-Spread ls m = (l : ℤ) → occurs m l ≡ mem l ls
-
 -- n is the lowest level of an unassigned variable: it is at least k exactly if each variable of a level below k is assigned
 abbrev pub Lowest : List ℤ → Assignment → ℕ → Type 0
 Lowest p ρ n = (k : ℕ) → k ≤ limits .variables → leb k n ≡ all (λ q. assigned ρ q || leb k (level p q)) p

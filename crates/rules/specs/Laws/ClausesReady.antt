@@ -24,14 +24,14 @@ use Rattle.formula.specs.Laws.Prefix.{once-in, level-few}
 use Rattle.formula.specs.Laws.Permuted.{all-bound, quantifier}
 use Rattle.formula.specs.Laws.Clauses.{clauses-in}
 use Rattle.theory.specs.Record.{Assignment, among, assigned}
-use Rattle.theory.specs.Tests.{unassignedE, unassignedU, inConflict}
+use Rattle.theory.specs.Tests.{unassignedE, unassignedU, inConflict, untrueOf}
 use Rattle.rules.specs.Due.{lowest, lowestUnit}
 use Rattle.rules.specs.Inner.Ready.{Bound, Ready}
 use Rattle.rules.specs.Inner.Tables.{signOf, valueOf, Values, Universals, Levels}
 use Rattle.rules.specs.Inner.Clauses.{Placed, Clauses, levelBy, conflictBy, lowestUnitBy}
-use Rattle.rules.specs.Inner.ByLiteral.{statusBy, statusIn, Statuses, is-true, is-false, is-existential, is-universal}
+use Rattle.rules.specs.Inner.ByLiteral.{statusBy, statusIn, trueBy, Statuses, is-true, is-false, is-existential, is-universal}
 use Rattle.rules.specs.Inner.Tabled.{Consistent, Sorted, as-false, as-true, as-existential, as-universal, Sorts}
-use Rattle.rules.specs.Laws.ClausesMean.{Meant, lowest-conflict-means, lowest-unit-means}
+use Rattle.rules.specs.Laws.ClausesMean.{Meant, untrue-means, lowest-conflict-means, lowest-unit-means}
 
 -- the value of a literal's variable, against the literal's sign
 module _ (ρ : Assignment) (con : Consistent ρ) where
@@ -131,6 +131,10 @@ module _ (p es ls : List ℤ) (ready : Ready p es ls) where
     -- 1: "Some clause in conflict"
     pub conflict-ready : lowest (conflictBy (statusIn statuses)) 0 (clausesFrom ls 0 es) ≡ lowest (inConflict p ρ) 0 (clausesFrom ls 0 es)
     conflict-ready = lowest-conflict-means p ρ _ _ (λ C i x j. sorting x (literal-named (clauses-in ls 0 es i j)))
+
+    -- the clauses with no true literal
+    pub untrue-ready : untrueOf (trueBy (statusIn statuses)) (clausesFrom ls 0 es) ≡ untrueOf ρ (clausesFrom ls 0 es)
+    untrue-ready = untrue-means p ρ _ _ (λ C i x j. sorting x (literal-named (clauses-in ls 0 es i j)))
 
     -- 2: "Unit"
     pub unit-ready : (levels : List ℕ) → Levels p levels → lowestUnitBy (statusIn statuses) (levelBy levels) 0 (clausesFrom ls 0 es) ≡ lowestUnit p ρ (clausesFrom ls 0 es)
