@@ -10,8 +10,8 @@ use lib.Seq.{getD-set-same, getD-set-other}
 use Rattle.words.specs.Lists.{take-more, blank}
 use Rattle.formula.specs.Limits.{limits, variables-are}
 use Rattle.formula.specs.Named.{all-named, known-up}
-use Rattle.rules.specs.Ready.{Bound}
-use Rattle.rules.specs.Tables.{places, Known}
+use Rattle.rules.specs.Inner.Ready.{Bound}
+use Rattle.rules.specs.Inner.Tables.{places, Known}
 
 -- a variable's number is a place of a table
 pub enough : limits .variables < places
