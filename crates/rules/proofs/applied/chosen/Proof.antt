@@ -13,9 +13,6 @@ sized c =
     c .size .ensures
     ∙ ap natAbs (toZ-ofZ w32 (c .before .before .args .proposal .0) (sfits-of (c .before .struct-told .given .0 .1)))
 
-size-requires : tie.Need-size-requires
-size-requires c κs = search needs
-
 returns : tie.Need-returns
 returns c =
     let start = c .before .before .before in
@@ -27,4 +24,4 @@ returns-2 c =
     proposal-chosen (start .args .proposal .0) (start .args .first .0) (λ e. c .if1 .left (sized (c .before) ∙ e))
 
 pub chosen-spec : {M : Type 1} → statement M
-chosen-spec = tie.close (tie.spec size-requires returns returns-2)
+chosen-spec = tie.close (tie.spec (λ c κs. search needs) returns returns-2)

@@ -27,12 +27,6 @@ array-write-occurs c =
     let turn = c .before in
     occurring-placed _ (turn .before .before .pre) _ (turn .loop-test .taken) _ (c .place-at .ensures)
 
-add-i : tie.Need-add-i Inv-loop μ-loop
-add-i c = omega arith
-
-loop-less : tie.Need-loop-less Inv-loop μ-loop
-loop-less c = omega arith
-
 loop-again : tie.Need-loop-again Inv-loop μ-loop
 loop-again c =
     let turn = c .before in
@@ -44,4 +38,4 @@ returns c at = end occurs literalPlaces _ _ _ _ (c .before .loop .inv) (c .loop-
 pub occurring-spec : {M : Type 1} → statement M
 occurring-spec =
     tie.close
-    (tie.spec Inv-loop μ-loop loop-holds place-at-requires array-write-occurs add-i loop-less loop-again returns)
+    (tie.spec Inv-loop μ-loop loop-holds place-at-requires array-write-occurs (λ c. omega arith) (λ c. omega arith) loop-again returns)

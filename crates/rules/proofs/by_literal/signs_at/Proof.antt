@@ -15,9 +15,6 @@ element-copy-out-plus c = omega (arith, variables-are, c .pre)
 sub-minus : tie.Need-sub-minus
 sub-minus c = omega (arith, variables-are, c .before .pre)
 
-element-copy-out-minus : tie.Need-element-copy-out-minus
-element-copy-out-minus c = omega arith
-
 returns : tie.Need-returns
 returns c ws said = signs-plus ws (c .before .before .before .args .occurs .now) said _ (c .before .before .before .pre) maxVariables (sym variables-are) _ _ refl refl (c .if1 .taken)
 
@@ -28,6 +25,4 @@ returns-3 : tie.Need-returns-3
 returns-3 c ws said = signs-both ws (c .before .before .before .before .args .occurs .now) said _ (c .before .before .before .before .pre) maxVariables (sym variables-are) _ _ refl refl (c .before .if1 .left) (c .if2 .left)
 
 pub signs-at-spec : {M : Type 1} → statement M
-signs-at-spec =
-    tie.close
-    (tie.spec add-plus element-copy-out-plus sub-minus element-copy-out-minus returns returns-2 returns-3)
+signs-at-spec = tie.close (tie.spec add-plus element-copy-out-plus sub-minus (λ c. omega arith) returns returns-2 returns-3)

@@ -33,12 +33,6 @@ returns-2 c =
     let l = c .before .before .before .before .loop in
     sym (open-existential _ _ (l .i) (c .before .before .before .loop-test .taken) (sym (c .before .before .status-at .ensures) ∙ c .if2 .taken)) ∙ l .inv .1
 
-add-i : tie.Need-add-i Inv-loop μ-loop
-add-i c = search needs
-
-loop-less : tie.Need-loop-less Inv-loop μ-loop
-loop-less c = search needs
-
 loop-again : tie.Need-loop-again Inv-loop μ-loop
 loop-again c =
     let l = c .before .before .before .before .loop in
@@ -53,14 +47,4 @@ returns-3 c = sym (all-closed _ _ (c .before .loop .i) (c .loop-test .left)) ∙
 pub in-conflict-spec : {M : Type 1} → statement M
 in-conflict-spec =
     tie.close
-    (tie.spec
-    Inv-loop
-    μ-loop
-    loop-holds
-    status-at-requires
-    returns
-    returns-2
-    add-i
-    loop-less
-    loop-again
-    returns-3)
+    (tie.spec Inv-loop μ-loop loop-holds status-at-requires returns returns-2 (λ c. search needs) (λ c. search needs) loop-again returns-3)

@@ -22,9 +22,6 @@ abbrev μ-loop : tie.MeasureT-loop
 loop-holds : tie.Need-loop-holds Inv-loop μ-loop
 loop-holds c = walk-start _ _ _ (c .pre)
 
-size-at-requires : tie.Need-size-at-requires Inv-loop μ-loop
-size-at-requires c κs = search needs
-
 -- the clause of this turn
 module _ (c : tie.After-size-at Inv-loop μ-loop) where
   this : Turn (c .before .before .before .args .ends .now) (c .before .before .before .args .literals .now) (c .before .before .loop .from) (c .before .before .loop .c) (c .size-at .result)
@@ -54,12 +51,6 @@ returns c =
     let l = c .before .before .before .before .before .loop in
     sym (lowest-hit _ _ _ _ (sym (c .before .in-conflict .ensures) ∙ c .if1 .taken)) ∙ walk-stop _ _ _ _ _ _ (l .inv) t
 
-add-c : tie.Need-add-c Inv-loop μ-loop
-add-c c = search needs
-
-loop-less : tie.Need-loop-less Inv-loop μ-loop
-loop-less c = search needs
-
 loop-again : tie.Need-loop-again Inv-loop μ-loop
 loop-again c =
     let t = this (c .before .before .before) in
@@ -72,18 +63,5 @@ returns-2 c = lowest-none _ _ ∙ walk-end _ _ _ _ _ (c .loop-test .left) (c .be
 pub lowest-conflict-spec : {M : Type 1} → statement M
 lowest-conflict-spec =
     tie.close
-    (tie.spec
-    Inv-loop
-    μ-loop
-    loop-holds
-    size-at-requires
-    mul-in-conflict
-    sub-in-conflict
-    part-in-conflict-start
-    part-in-conflict-end
-    in-conflict-requires
-    returns
-    add-c
-    loop-less
-    loop-again
-    returns-2)
+    (tie.spec Inv-loop μ-loop loop-holds (λ c κs. search needs) mul-in-conflict sub-in-conflict part-in-conflict-start part-in-conflict-end
+    in-conflict-requires returns (λ c. search needs) (λ c. search needs) loop-again returns-2)

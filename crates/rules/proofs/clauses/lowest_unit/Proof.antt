@@ -36,9 +36,6 @@ abbrev μ-search : tie.MeasureT-search
 search-holds : tie.Need-search-holds Inv-loop μ-loop Inv-search μ-search
 search-holds c = (refl, walk-start _ _ _ (c .pre))
 
-size-at-requires : tie.Need-size-at-requires Inv-loop μ-loop Inv-search μ-search
-size-at-requires c κs = search needs
-
 -- the clause of this turn
 module _ (c : tie.After-size-at Inv-loop μ-loop Inv-search μ-search) where
   this : Turn (c .before .before .before .args .ends .now) (c .before .before .before .args .literals .now) (c .before .before .search .from) (c .before .before .search .c) (c .size-at .result)
@@ -49,9 +46,6 @@ loop-holds c = (refl, this c .starts, refl, look-start _ _ _ _ _)
 
 is-unit-requires : tie.Need-is-unit-requires Inv-loop μ-loop Inv-search μ-search
 is-unit-requires c κs = c .before .before .before .before .pre .placed
-
-literal-at-requires : tie.Need-literal-at-requires Inv-loop μ-loop Inv-search μ-search
-literal-at-requires c κs = search needs
 
 with-requires : tie.Need-with-requires Inv-loop μ-loop Inv-search μ-search
 with-requires c κs = (c .before .before .before .before .before .before .before .pre .placed, c .if2 .left)
@@ -105,22 +99,5 @@ returns-2 c =
 pub lowest-unit-spec : {M : Type 1} → statement M
 lowest-unit-spec =
     tie.close
-    (tie.spec
-    Inv-loop
-    μ-loop
-    Inv-search
-    μ-search
-    search-holds
-    size-at-requires
-    loop-holds
-    is-unit-requires
-    literal-at-requires
-    with-requires
-    add-j
-    loop-less
-    loop-again
-    add-c
-    search-less
-    search-again
-    returns
-    returns-2)
+    (tie.spec Inv-loop μ-loop Inv-search μ-search search-holds (λ c κs. search needs) loop-holds is-unit-requires (λ c κs. search needs)
+    with-requires add-j loop-less loop-again add-c search-less search-again returns returns-2)

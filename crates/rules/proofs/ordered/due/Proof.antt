@@ -15,17 +15,11 @@ use Rattle.rules.proofs.ordered.due.Tie as tie
 values-of-requires : tie.Need-values-of-requires
 values-of-requires c κs = kept-written _ _ _ (c .before .pre .1)
 
-universals-of-requires : tie.Need-universals-of-requires
-universals-of-requires c κs = search needs
-
 statuses-of-requires : tie.Need-statuses-of-requires
 statuses-of-requires c κs = c .before .before .before .before .before .pre .0 .prefix .room
 
 lowest-conflict-requires : tie.Need-lowest-conflict-requires
 lowest-conflict-requires c κs = ready-clauses _ _ _ (c .before .before .before .before .before .before .before .pre .0)
-
-enum-known-clause : tie.Need-enum-known-clause
-enum-known-clause c = search needs
 
 -- what the tables are told of the record
 module _ (c : tie.After-statuses) where
@@ -43,9 +37,6 @@ module _ (c : tie.After-statuses) where
 
 due-conflict-requires : tie.Need-due-conflict-requires
 due-conflict-requires c κs = kept-room (start (c .before .before .before .before) .pre .1) .kinds
-
-enum-told : tie.Need-enum-told
-enum-told c = search needs
 
 due-unit-requires : tie.Need-due-unit-requires
 due-unit-requires c κs = (start (c .before .before .before .before .before) .pre .0, kept-room (start (c .before .before .before .before .before) .pre .1) .kinds)
@@ -66,14 +57,5 @@ returns-2 c =
 pub due-spec : {M : Type 1} → statement M
 due-spec =
     tie.close
-    (tie.spec
-    values-of-requires
-    universals-of-requires
-    statuses-of-requires
-    lowest-conflict-requires
-    enum-known-clause
-    due-conflict-requires
-    enum-told
-    due-unit-requires
-    returns
-    returns-2)
+    (tie.spec values-of-requires (λ c κs. search needs) statuses-of-requires lowest-conflict-requires (λ c. search needs) due-conflict-requires
+    (λ c. search needs) due-unit-requires returns returns-2)

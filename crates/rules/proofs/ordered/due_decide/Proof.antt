@@ -6,24 +6,6 @@ use Rattle.rules.proofs.ordered.due_decide.Statement.{statement}
 use Rattle.rules.proofs.Ways as out
 use Rattle.rules.proofs.ordered.due_decide.Tie as tie
 
-first-unassigned-requires : tie.Need-first-unassigned-requires
-first-unassigned-requires c κs = search needs
-
-enum-known-first : tie.Need-enum-known-first
-enum-known-first c = search needs
-
-enum-told : tie.Need-enum-told
-enum-told c = search needs
-
-last-kind-requires : tie.Need-last-kind-requires
-last-kind-requires c κs = search needs
-
-enum-known-at : tie.Need-enum-known-at
-enum-known-at c = search needs
-
-enum-told-2 : tie.Need-enum-told-2
-enum-told-2 c = search needs
-
 returns : tie.Need-returns
 returns c = λ m r told. out.decided (record { prefix = now (c .before .before .before .before .before .args .prefix); clauses = m }) r (c .before .before .before .first-unassigned .ensures _ (told .values)) (c .before .first .given .1)
 
@@ -36,13 +18,5 @@ returns-3 c = λ m r told. out.succeeded (record { prefix = now (c .before .befo
 pub due-decide-spec : {M : Type 1} → statement M
 due-decide-spec =
     tie.close
-    (tie.spec
-    first-unassigned-requires
-    enum-known-first
-    enum-told
-    last-kind-requires
-    enum-known-at
-    enum-told-2
-    returns
-    returns-2
-    returns-3)
+    (tie.spec (λ c κs. search needs) (λ c. search needs) (λ c. search needs) (λ c κs. search needs) (λ c. search needs) (λ c. search needs)
+    returns returns-2 returns-3)

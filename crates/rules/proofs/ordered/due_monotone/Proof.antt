@@ -10,18 +10,6 @@ use Rattle.rules.proofs.ordered.due_monotone.Tie as tie
 occurring-requires : tie.Need-occurring-requires
 occurring-requires c κs = ready-named _ _ _ (c .before .pre .0)
 
-first-monotone-requires : tie.Need-first-monotone-requires
-first-monotone-requires c κs = search needs
-
-enum-known-literal : tie.Need-enum-known-literal
-enum-known-literal c = search needs
-
-enum-told : tie.Need-enum-told
-enum-told c = search needs
-
-due-decide-requires : tie.Need-due-decide-requires
-due-decide-requires c κs = search needs
-
 returns : tie.Need-returns
 returns c = λ r told. out.monotone _ r (c .before .before .before .first-monotone .ensures _ _ _ (told .values) (c .before .before .before .before .before .occurring .ensures) (ready-spread _ _ _ (c .before .before .before .before .before .before .before .pre .0))) (c .before .literal .given .1)
 
@@ -31,11 +19,4 @@ returns-2 c = λ r told. out.no-monotone _ r (c .before .before .before .first-m
 pub due-monotone-spec : {M : Type 1} → statement M
 due-monotone-spec =
     tie.close
-    (tie.spec
-    occurring-requires
-    first-monotone-requires
-    enum-known-literal
-    enum-told
-    due-decide-requires
-    returns
-    returns-2)
+    (tie.spec occurring-requires (λ c κs. search needs) (λ c. search needs) (λ c. search needs) (λ c κs. search needs) returns returns-2)

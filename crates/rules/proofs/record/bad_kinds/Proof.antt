@@ -20,21 +20,12 @@ occurring-requires c κs = bound-named (c .before .pre .prefix)
 loop-holds : tie.Need-loop-holds Inv-loop μ-loop
 loop-holds c = kinds-begin _ _ _ (c .before .before .pre)
 
-size-at-requires : tie.Need-size-at-requires Inv-loop μ-loop
-size-at-requires c κs = search needs
-
 signs-at-requires : tie.Need-signs-at-requires Inv-loop μ-loop
 signs-at-requires c κs =
     let sized = c .before in
     let turn = sized .before in
     let start = turn .before .before .before .before in
     kinds-small _ _ _ (start .pre) _ (turn .loop-test .taken) _ (sized .size-at .ensures)
-
-shared-slice-read-wrong-kind : tie.Need-shared-slice-read-wrong-kind Inv-loop μ-loop
-shared-slice-read-wrong-kind c = omega arith
-
-wrong-kind-requires : tie.Need-wrong-kind-requires Inv-loop μ-loop
-wrong-kind-requires c κs = search needs
 
 returns : tie.Need-returns Inv-loop μ-loop
 returns c =
@@ -43,12 +34,6 @@ returns c =
     let turn = sized .before in
     let call = turn .before .before in
     kinds-hit _ _ _ (call .before .before .pre) _ (turn .loop-test .taken) _ (sized .size-at .ensures) _ (told .signs-at .ensures _ (call .occurring .ensures)) _ (c .before .wrong-kind .ensures) (turn .before .loop .inv) (c .if1 .taken)
-
-add-i : tie.Need-add-i Inv-loop μ-loop
-add-i c = omega arith
-
-loop-less : tie.Need-loop-less Inv-loop μ-loop
-loop-less c = omega arith
 
 loop-again : tie.Need-loop-again Inv-loop μ-loop
 loop-again c =
@@ -64,17 +49,5 @@ returns-2 c = kinds-end _ _ _ (c .before .before .before .before .pre) _ (c .bef
 pub bad-kinds-spec : {M : Type 1} → statement M
 bad-kinds-spec =
     tie.close
-    (tie.spec
-    Inv-loop
-    μ-loop
-    occurring-requires
-    loop-holds
-    size-at-requires
-    signs-at-requires
-    shared-slice-read-wrong-kind
-    wrong-kind-requires
-    returns
-    add-i
-    loop-less
-    loop-again
-    returns-2)
+    (tie.spec Inv-loop μ-loop occurring-requires loop-holds (λ c κs. search needs) signs-at-requires (λ c. omega arith) (λ c κs. search needs)
+    returns (λ c. omega arith) (λ c. omega arith) loop-again returns-2)

@@ -50,4 +50,6 @@ returns-4 c =
     row-kinds _ _ _ (few .if1 .left) (few .before .before .pre .room) (unnamed (named .before) ∙ named .if2 .left) (repeats (once .before) ∙ once .if3 .left) _ (c .bad-kinds .ensures)
 
 pub bad-record-spec : {M : Type 1} → statement M
-bad-record-spec = tie.close (tie.spec returns (λ c κs. search needs) (λ c κs. search needs) returns-2 (λ c κs. search needs) returns-3 bad-kinds-requires returns-4)
+bad-record-spec =
+    tie.close
+    (tie.spec returns (λ c κs. search needs) (λ c κs. search needs) returns-2 (λ c κs. search needs) returns-3 bad-kinds-requires returns-4)

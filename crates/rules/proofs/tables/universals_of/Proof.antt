@@ -21,22 +21,10 @@ abbrev μ-loop : tie.MeasureT-loop
 loop-holds : tie.Need-loop-holds Inv-loop μ-loop
 loop-holds c = universals-begin _
 
-size-at-requires : tie.Need-size-at-requires Inv-loop μ-loop
-size-at-requires c κs = search needs
-
-negative-at-requires : tie.Need-negative-at-requires Inv-loop μ-loop
-negative-at-requires c κs = search needs
-
 array-write-universals : tie.Need-array-write-universals Inv-loop μ-loop
 array-write-universals c =
     let turn = c .before .before .before in
     placed _ _ _ (bound-named (turn .before .before .pre)) (turn .loop-test .taken) (c .before .before .size-at .ensures)
-
-add-i : tie.Need-add-i Inv-loop μ-loop
-add-i c = omega arith
-
-loop-less : tie.Need-loop-less Inv-loop μ-loop
-loop-less c = omega arith
 
 loop-again : tie.Need-loop-again Inv-loop μ-loop
 loop-again c =
@@ -54,4 +42,5 @@ returns c v = end universally places _ _ _ _ (c .before .loop .inv) (c .loop-tes
 pub universals-of-spec : {M : Type 1} → statement M
 universals-of-spec =
     tie.close
-    (tie.spec Inv-loop μ-loop loop-holds size-at-requires negative-at-requires array-write-universals add-i loop-less loop-again returns)
+    (tie.spec Inv-loop μ-loop loop-holds (λ c κs. search needs) (λ c κs. search needs) array-write-universals (λ c. omega arith)
+    (λ c. omega arith) loop-again returns)

@@ -22,9 +22,6 @@ abbrev μ-loop : tie.MeasureT-loop
 loop-holds : tie.Need-loop-holds Inv-loop μ-loop
 loop-holds c = seeking-begin _ _ _
 
-size-at-requires : tie.Need-size-at-requires Inv-loop μ-loop
-size-at-requires c κs = search needs
-
 -- the word's variable has a place
 room : (c : tie.After-size-at Inv-loop μ-loop) → c .size-at .result < places
 room c =
@@ -40,9 +37,6 @@ element-copy-out-if1 c = room c
 signs-at-requires : tie.Need-signs-at-requires Inv-loop μ-loop
 signs-at-requires c κs = small (c .before .before)
 
-literal-at-requires : tie.Need-literal-at-requires Inv-loop μ-loop
-literal-at-requires c κs = search needs
-
 returns : tie.Need-returns Inv-loop μ-loop
 returns c ρ ls m said signed spread =
     let told = c .before .before in
@@ -51,9 +45,6 @@ returns c ρ ls m said signed spread =
     let turn = sized .before in
     ap Is (c .literal-at .ensures)
     ∙ seeking-plus _ _ _ _ (turn .before .loop .inv) (turn .before .before .pre) (turn .loop-test .taken) _ (sized .size-at .ensures) (free .if1 .taken) _ (told .signs-at .ensures) (c .before .if2 .taken) ρ ls m said signed spread
-
-opposite-at-requires : tie.Need-opposite-at-requires Inv-loop μ-loop
-opposite-at-requires c κs = search needs
 
 returns-2 : tie.Need-returns-2 Inv-loop μ-loop
 returns-2 c ρ ls m said signed spread =
@@ -64,12 +55,6 @@ returns-2 c ρ ls m said signed spread =
     let turn = sized .before in
     ap Is (c .opposite-at .ensures)
     ∙ seeking-minus _ _ _ _ (turn .before .loop .inv) (turn .before .before .pre) (turn .loop-test .taken) _ (sized .size-at .ensures) (free .if1 .taken) _ (told .signs-at .ensures) (no-plus .if2 .left) (c .before .if3 .taken) ρ ls m said signed spread
-
-add-i : tie.Need-add-i Inv-loop μ-loop
-add-i c = omega arith
-
-loop-less : tie.Need-loop-less Inv-loop μ-loop
-loop-less c = omega arith
 
 loop-again : tie.Need-loop-again Inv-loop μ-loop
 loop-again c =
@@ -86,4 +71,5 @@ returns-3 c = seeking-end _ _ _ _ (c .before .loop .inv) (c .loop-test .left)
 pub first-monotone-spec : {M : Type 1} → statement M
 first-monotone-spec =
     tie.close
-    (tie.spec Inv-loop μ-loop loop-holds size-at-requires element-copy-out-if1 signs-at-requires literal-at-requires returns opposite-at-requires returns-2 add-i loop-less loop-again returns-3)
+    (tie.spec Inv-loop μ-loop loop-holds (λ c κs. search needs) element-copy-out-if1 signs-at-requires (λ c κs. search needs) returns
+    (λ c κs. search needs) returns-2 (λ c. omega arith) (λ c. omega arith) loop-again returns-3)

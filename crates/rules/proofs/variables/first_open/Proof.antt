@@ -22,20 +22,8 @@ Inv-loop prefix values levels preferred lowest i₀ i =
 abbrev μ-loop : tie.MeasureT-loop
 μ-loop prefix values levels preferred lowest i₀ i = length preferred - i
 
-lowest-unassigned-requires : tie.Need-lowest-unassigned-requires Inv-loop μ-loop
-lowest-unassigned-requires c κs = search needs
-
 loop-holds : tie.Need-loop-holds Inv-loop μ-loop
 loop-holds c = (omega arith, λ ρ said. refl)
-
-size-at-requires : tie.Need-size-at-requires Inv-loop μ-loop
-size-at-requires c κs = search needs
-
-open-variable-requires : tie.Need-open-variable-requires Inv-loop μ-loop
-open-variable-requires c κs = search needs
-
-literal-at-requires : tie.Need-literal-at-requires Inv-loop μ-loop
-literal-at-requires c κs = search needs
 
 -- what the test says of the literal at hand
 tested : (c : tie.After-open-variable Inv-loop μ-loop) (ρ : Assignment) → Values ρ (c .before .before .before .before .before .args .values .now) → c .open-variable .result ≡ isOpen (c .before .before .before .before .before .args .prefix .now) ρ (getD (c .before .before .before .before .before .args .preferred .now) (c .before .before .before .loop .i) (pos 0))
@@ -52,12 +40,6 @@ returns c ρ said =
     c .literal-at .ensures
     ∙ ap literal (open-here _ ρ _ _ (turn .loop-test .taken) (sym (c .before .if1 .taken) ∙ tested test ρ said) ∙ turn .before .loop .inv .1 ρ said)
 
-add-i : tie.Need-add-i Inv-loop μ-loop
-add-i c = omega arith
-
-loop-less : tie.Need-loop-less Inv-loop μ-loop
-loop-less c = omega arith
-
 loop-again : tie.Need-loop-again Inv-loop μ-loop
 loop-again c =
     let turn = c .before .before .before in (
@@ -73,4 +55,5 @@ returns-2 c ρ said = ap literal (open-none _ ρ _ _ (c .loop-test .left) ∙ c 
 pub first-open-spec : {M : Type 1} → statement M
 first-open-spec =
     tie.close
-    (tie.spec Inv-loop μ-loop lowest-unassigned-requires loop-holds size-at-requires open-variable-requires literal-at-requires returns add-i loop-less loop-again returns-2)
+    (tie.spec Inv-loop μ-loop (λ c κs. search needs) loop-holds (λ c κs. search needs) (λ c κs. search needs) (λ c κs. search needs) returns
+    (λ c. omega arith) (λ c. omega arith) loop-again returns-2)

@@ -22,14 +22,8 @@ abbrev μ-loop : tie.MeasureT-loop
 loop-holds : tie.Need-loop-holds Inv-loop μ-loop
 loop-holds c = (omega arith, λ ρ said. refl)
 
-size-at-requires : tie.Need-size-at-requires Inv-loop μ-loop
-size-at-requires c κs = search needs
-
 element-copy-out-if1 : tie.Need-element-copy-out-if1 Inv-loop μ-loop
 element-copy-out-if1 c = placed _ _ _ (bound-named (c .before .before .before .pre)) (c .before .loop-test .taken) (c .size-at .ensures)
-
-true-at-requires : tie.Need-true-at-requires Inv-loop μ-loop
-true-at-requires c κs = search needs
 
 returns : tie.Need-returns Inv-loop μ-loop
 returns c ρ said =
@@ -39,12 +33,6 @@ returns c ρ said =
     ap Is (c .true-at .ensures)
     ∙ found ρ _ _ (bound-named (start .pre)) (start .args .values .now) said (turn .loop-test .taken) _ (sized .size-at .ensures) (c .before .if1 .taken)
     ∙ turn .before .loop .inv .1 ρ said
-
-add-i : tie.Need-add-i Inv-loop μ-loop
-add-i c = omega arith
-
-loop-less : tie.Need-loop-less Inv-loop μ-loop
-loop-less c = omega arith
 
 loop-again : tie.Need-loop-again Inv-loop μ-loop
 loop-again c =
@@ -63,4 +51,5 @@ returns-2 c ρ said = none-left ρ _ _ (c .loop-test .left) ∙ c .before .loop 
 pub first-unassigned-spec : {M : Type 1} → statement M
 first-unassigned-spec =
     tie.close
-    (tie.spec Inv-loop μ-loop loop-holds size-at-requires element-copy-out-if1 true-at-requires returns add-i loop-less loop-again returns-2)
+    (tie.spec Inv-loop μ-loop loop-holds (λ c κs. search needs) element-copy-out-if1 (λ c κs. search needs) returns (λ c. omega arith)
+    (λ c. omega arith) loop-again returns-2)

@@ -7,15 +7,6 @@ use borrow.Author.Needs.{needs}
 use Rattle.rules.proofs.variables.is_open.Statement.{statement}
 use Rattle.rules.proofs.variables.is_open.Tie as tie
 
-lowest-unassigned-requires : tie.Need-lowest-unassigned-requires
-lowest-unassigned-requires c κs = search needs
-
-size-requires : tie.Need-size-requires
-size-requires c κs = search needs
-
-open-variable-requires : tie.Need-open-variable-requires
-open-variable-requires c κs = search needs
-
 returns : tie.Need-returns
 returns c ρ said =
     let sized = c .before in
@@ -26,5 +17,4 @@ returns c ρ said =
     (sized .size .ensures ∙ ap natAbs (toZ-ofZ w32 literal (record { sfits = told .struct-told .given .0 .1 })))
 
 pub is-open-spec : {M : Type 1} → statement M
-is-open-spec =
-    tie.close (tie.spec lowest-unassigned-requires size-requires open-variable-requires returns)
+is-open-spec = tie.close (tie.spec (λ c κs. search needs) (λ c κs. search needs) (λ c κs. search needs) returns)

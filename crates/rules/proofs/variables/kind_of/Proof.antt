@@ -22,17 +22,8 @@ abbrev μ-loop : tie.MeasureT-loop
 variable : (c : tie.After-size Inv-loop μ-loop) → c .size .result ≡ natAbs (c .before .before .args .literal .0)
 variable c = c .size .ensures ∙ ap natAbs (toZ-ofZ w32 (c .before .before .args .literal .0) (record { sfits = c .before .struct-told .given .0 .1 }))
 
-size-requires : tie.Need-size-requires Inv-loop μ-loop
-size-requires c κs = search needs
-
 loop-holds : tie.Need-loop-holds Inv-loop μ-loop
 loop-holds c = looking-begin _ _
-
-size-at-requires : tie.Need-size-at-requires Inv-loop μ-loop
-size-at-requires c κs = search needs
-
-negative-at-requires : tie.Need-negative-at-requires Inv-loop μ-loop
-negative-at-requires c κs = search needs
 
 returns : tie.Need-returns Inv-loop μ-loop
 returns c =
@@ -40,12 +31,6 @@ returns c =
     let turn = same .before .before in
     looking-found _ _ _ (turn .before .loop .inv) _ (variable (turn .before .before)) (turn .loop-test .taken)
     (sym (same .before .size-at .ensures) ∙ same .if1 .taken) (sym (c .before .negative-at .ensures) ∙ c .if2 .taken)
-
-add-i : tie.Need-add-i Inv-loop μ-loop
-add-i c = omega arith
-
-loop-less : tie.Need-loop-less Inv-loop μ-loop
-loop-less c = omega arith
 
 loop-again : tie.Need-loop-again Inv-loop μ-loop
 loop-again c =
@@ -63,4 +48,5 @@ returns-2 c = looking-end _ _ _ (c .before .loop .inv) _ (variable (c .before .b
 pub kind-of-spec : {M : Type 1} → statement M
 kind-of-spec =
     tie.close
-    (tie.spec Inv-loop μ-loop size-requires loop-holds size-at-requires negative-at-requires returns add-i loop-less loop-again returns-2)
+    (tie.spec Inv-loop μ-loop (λ c κs. search needs) loop-holds (λ c κs. search needs) (λ c κs. search needs) returns (λ c. omega arith)
+    (λ c. omega arith) loop-again returns-2)

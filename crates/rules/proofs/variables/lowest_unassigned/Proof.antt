@@ -19,9 +19,6 @@ abbrev μ-loop : tie.MeasureT-loop
 loop-holds : tie.Need-loop-holds Inv-loop μ-loop
 loop-holds c = lowering-begin _ _
 
-size-at-requires : tie.Need-size-at-requires Inv-loop μ-loop
-size-at-requires c κs = search needs
-
 -- the word's variable has a place
 room : (c : tie.After-size-at Inv-loop μ-loop) → c .size-at .result < places
 room c =
@@ -42,12 +39,6 @@ mul-lowest c = let r = room (c .before .before .before .before) in omega arith
 
 element-copy-out-lowest : tie.Need-element-copy-out-lowest Inv-loop μ-loop
 element-copy-out-lowest c = room (c .before .before .before .before)
-
-add-i : tie.Need-add-i Inv-loop μ-loop
-add-i c = omega arith
-
-loop-less : tie.Need-loop-less Inv-loop μ-loop
-loop-less c = omega arith
 
 loop-again : tie.Need-loop-again Inv-loop μ-loop
 loop-again c =
@@ -73,4 +64,5 @@ returns c = lowering-end _ _ _ _ (c .before .loop .inv) (c .loop-test .left)
 pub lowest-unassigned-spec : {M : Type 1} → statement M
 lowest-unassigned-spec =
     tie.close
-    (tie.spec Inv-loop μ-loop loop-holds size-at-requires element-copy-out-if1 mul-if2 element-copy-out-if2 mul-lowest element-copy-out-lowest add-i loop-less loop-again returns)
+    (tie.spec Inv-loop μ-loop loop-holds (λ c κs. search needs) element-copy-out-if1 mul-if2 element-copy-out-if2 mul-lowest
+    element-copy-out-lowest (λ c. omega arith) (λ c. omega arith) loop-again returns)

@@ -49,6 +49,4 @@ returns-4 c ρ said lowest l is =
     (unassigned ρ (start .args .values .now) said l _ is (c .before .if3 .left))
 
 pub open-variable-spec : {M : Type 1} → statement M
-open-variable-spec =
-    tie.close
-    (tie.spec returns returns-2 element-copy-out-if3 returns-3 mul-result element-copy-out-result returns-4)
+open-variable-spec = tie.close (tie.spec returns returns-2 element-copy-out-if3 returns-3 mul-result element-copy-out-result returns-4)

@@ -9,12 +9,6 @@ use Rattle.rules.specs.Due.{literal}
 use Rattle.rules.proofs.variables.opposite_at.Statement.{statement}
 use Rattle.rules.proofs.variables.opposite_at.Tie as tie
 
-literal-at-requires : tie.Need-literal-at-requires
-literal-at-requires c κs = search needs
-
-opposite-requires : tie.Need-opposite-requires
-opposite-requires c κs = search needs
-
 returns : tie.Need-returns
 returns c =
     let l = c .before .before .literal-at .result .0 in
@@ -25,4 +19,4 @@ returns c =
     ∙ ap opposite (back ∙ ap (λ z. z .0) (c .before .before .literal-at .ensures)))
 
 pub opposite-at-spec : {M : Type 1} → statement M
-opposite-at-spec = tie.close (tie.spec literal-at-requires opposite-requires returns)
+opposite-at-spec = tie.close (tie.spec (λ c κs. search needs) (λ c κs. search needs) returns)

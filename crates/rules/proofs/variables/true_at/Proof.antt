@@ -8,15 +8,6 @@ use Rattle.words.specs.Words.{negative}
 use Rattle.rules.proofs.variables.true_at.Statement.{statement}
 use Rattle.rules.proofs.variables.true_at.Tie as tie
 
-negative-at-requires : tie.Need-negative-at-requires
-negative-at-requires c κs = search needs
-
-opposite-at-requires : tie.Need-opposite-at-requires
-opposite-at-requires c κs = search needs
-
-literal-at-requires : tie.Need-literal-at-requires
-literal-at-requires c κs = search needs
-
 returns : tie.Need-returns
 returns c =
     let start = c .before .before .before in
@@ -30,6 +21,4 @@ returns-2 c =
     rw e (c .literal-at .ensures)
 
 pub true-at-spec : {M : Type 1} → statement M
-true-at-spec =
-    tie.close
-    (tie.spec negative-at-requires opposite-at-requires literal-at-requires returns returns-2)
+true-at-spec = tie.close (tie.spec (λ c κs. search needs) (λ c κs. search needs) (λ c κs. search needs) returns returns-2)
