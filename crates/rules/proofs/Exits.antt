@@ -1,23 +1,30 @@
 -- One rule applied, in the words of the code: what a rule that fits asks of the buffers, a cut, and the literal of a decision.
 use Prim.Native.Nat.{ℕ, _+_, _<_}
-use mathlib.Core.Path.{_≡_}
+use mathlib.Core.Path.{_≡_, refl, sym, _∙_}
+use mathlib.Core.Bool.{Bool, true, false, cond}
 use mathlib.Core.List.{List}
 use native.Mathlib.Omega.{arith}
-use lib.IntN.{ℤ, pos, natAbs}
-use lib.ListN.{getD}
+use lib.IntN.{ℤ, pos, negℤ, natAbs}
+use lib.ListN.{length, getD}
 use borrow.Author.Tests.{eq-eqb, ne-eqb}
 use Rattle.words.specs.declared.Literal.{Literal}
-use Rattle.words.specs.Words.{opposite, opposite-is}
-use Rattle.formula.specs.Limits.{variables-small}
+use Rattle.words.specs.Words.{opposite, opposite-is, natAbs-neg, mem-e}
+use Rattle.words.specs.Bools.{to-false}
+use Rattle.formula.specs.Limits.{limits, variables-small}
+use Rattle.formula.specs.Formula.{universal}
+use Rattle.formula.specs.Named.{in-named}
 use Rattle.theory.specs.Record.{entry}
 use Rattle.rules.specs.Trail.{Trail, put, wipedTrail}
-use Rattle.rules.specs.Search.{Search, search}
-use Rattle.rules.specs.Apply.{append, flip, kindOf, chosen, apply}
-use Rattle.rules.specs.Inner.Ready.{Kept}
+use Rattle.rules.specs.Search.{search}
+use Rattle.rules.specs.Due.{literal}
+use Rattle.rules.specs.Apply.{flip, kindOf, chosen, moveOf}
+use Rattle.rules.specs.Inner.Tables.{Universals}
+use Rattle.rules.specs.Inner.Ready.{Bound, Kept, Moves, Fitting}
 use Rattle.rules.specs.Inner.Buffers.{Cuttable}
 use Rattle.rules.specs.Laws.Records.{kept-room, kept-named}
 use Rattle.rules.specs.declared.rule.State.the-variants.{Open}
-use Rattle.rules.specs.declared.rule.Rule.the-variants.{Decide}
+use Rattle.rules.specs.declared.rule.Rule.{Rule}
+use Rattle.rules.specs.declared.rule.Rule.the-variants.{BacktrackExists, Fail, Unit, Monotone, Decide, BacktrackForall, Succeed}
 
 -- a variable is far from the least word, so an entry's literal has an opposite
 pub cuttable : {p : List ℤ} {t : Trail} {n i : ℕ} → Kept p t n → i < n → Cuttable i n t
@@ -30,18 +37,40 @@ pub flipped : {i n : ℕ} {t : Trail} → Cuttable i n t → {t′ : Trail} {x :
 flipped {i} {n} {t} h w e = rw (w, e, opposite-is (getD (t .lits) i (pos 0)) (h .small))
 
 -- the literal of a decision
-pub first-chosen : (proposal first : ℤ) → natAbs proposal ≡ 0 → first ≡ chosen proposal first
+pub first-chosen : (proposal : ℤ) (first : Literal) → natAbs proposal ≡ 0 → first ≡ literal (chosen proposal (first .0))
 first-chosen proposal first e = rw (eq-eqb (natAbs proposal) 0 e)
 
-pub proposal-chosen : (proposal first : ℤ) → (natAbs proposal ≡ 0 → ⊥) → proposal ≡ chosen proposal first
-proposal-chosen proposal first k = rw (ne-eqb (natAbs proposal) 0 k)
+pub proposal-chosen : (proposal first : Literal) → (natAbs (proposal .0) ≡ 0 → ⊥) → proposal ≡ literal (chosen (proposal .0) (first .0))
+proposal-chosen proposal first k = rw (ne-eqb (natAbs (proposal .0)) 0 k)
 
--- a decision on the chosen literal x, of the kind k
-pub decided :
-    (p : List ℤ) (first : Literal) (proposal : ℤ) (s t : Search) (k : ℕ) (x : ℤ)
-    → x ≡ chosen proposal (first .0)
-    → k ≡ kindOf p x
-    → t ≡ append k x s
-    → t ≡ apply p (Decide first) proposal s
-unfolding apply
-decided p first proposal s t k x e q h = rw (← e, ← q) h
+-- its kind: a variable past the last one is not universal, and of the others the table says it
+pub kind-over : (p : List ℤ) → Bound p → (l : ℤ) → limits .variables < natAbs l → 1 ≡ kindOf p l
+unfolding universal
+kind-over p b l h = rw (to-false (universal p l) (λ e. let k = in-named (length p) p (b .named) (mem-e (negℤ (pos (natAbs l))) p e) in omega (arith, k .most, natAbs-neg (pos (natAbs l)), b .room)))
+
+module _ (p : List ℤ) (l : ℤ) (t : List ℕ) (said : Universals p t) (v : ℕ) (is : v ≡ natAbs l) where
+  pub kind-existential : getD t v 0 ≡ 0 → 1 ≡ kindOf p l
+  unfolding universal
+  kind-existential e = rw is at (go (universal p (pos v)) (sym (said v) ∙ e))
+    where
+      go : (b : Bool) → _≡_ {A = ℕ} (cond b 1 0) 0 → _≡_ {A = ℕ} 1 (cond b 2 1)
+      go true e = absurd (omega arith)
+      go false e = refl
+
+  pub kind-universal : (getD t v 0 ≡ 0 → ⊥) → 2 ≡ kindOf p l
+  unfolding universal
+  kind-universal k = rw is at (go (universal p (pos v)) (λ e. k (said v ∙ e)))
+    where
+      go : (b : Bool) → (_≡_ {A = ℕ} (cond b 1 0) 0 → ⊥) → _≡_ {A = ℕ} 2 (cond b 2 1)
+      go true k = refl
+      go false k = absurd (k refl)
+
+-- whatever the proposal, a rule that fits makes a move that does
+pub fitting : (p : List ℤ) (n : ℕ) (rule : Rule) (l : ℤ) → Fitting p n rule → Moves p n (moveOf p rule l)
+fitting p n (BacktrackExists i c) l h = h
+fitting p n (Fail c) l h = h
+fitting p n (Unit x c) l h = h
+fitting p n (Monotone x) l h = h
+fitting p n (Decide x) l h = h
+fitting p n (BacktrackForall i) l h = h
+fitting p n Succeed l h = h

@@ -9,11 +9,9 @@ pub mod Unassigned
 pub mod Lowest
 pub mod OpenLiteral
 pub mod Monotone
-pub mod Kind
 pub mod Places
 pub mod Exits
 pub mod Row12
 pub mod Looks
 pub mod Walk
 pub mod Conflict
-pub mod Ways

@@ -71,26 +71,25 @@ unfoldable pub firstUnassigned : Assignment → List ℤ → Picked
 firstUnassigned ρ [] = NoLiteral
 firstUnassigned ρ (q ∷ qs) = cond (assigned ρ q) (firstUnassigned ρ qs) (Is (literal (pos (natAbs q))))
 
-module _ (F : Formula) (r : Record) where
-  -- 5: "All assigned: Backtrack-forall, cutting at the last kind 2 entry .. With none: Succeed"
-  abbrev pub dueAssigned : Rule
-  dueAssigned = onFound (last 2 0 r) (λ i. BacktrackForall i) Succeed
+-- 5: "All assigned: Backtrack-forall, cutting at the last kind 2 entry .. With none: Succeed"
+abbrev pub dueAssigned : Record → Rule
+dueAssigned r = onFound (last 2 0 r) (λ i. BacktrackForall i) Succeed
 
-  -- 4: "Decide: some variable is unassigned."
-  abbrev pub dueDecide : Rule
-  dueDecide = onPicked (firstUnassigned (trueIn r) (F .prefix)) (λ l. Decide l) dueAssigned
+-- 4: "Decide: some variable is unassigned."
+abbrev pub dueDecide : List ℤ → Record → Rule
+dueDecide p r = onPicked (firstUnassigned (trueIn r) p) (λ l. Decide l) (dueAssigned r)
 
-  -- 3: "Monotone"
-  abbrev pub dueMonotone : Rule
-  dueMonotone = onPicked (firstMonotone (F .prefix) (F .clauses) (trueIn r) (F .prefix)) (λ l. Monotone l) dueDecide
+-- 3: "Monotone"
+abbrev pub dueMonotone : Formula → Record → Rule
+dueMonotone F r = onPicked (firstMonotone (F .prefix) (F .clauses) (trueIn r) (F .prefix)) (λ l. Monotone l) (dueDecide (F .prefix) r)
 
-  -- 2: "Unit"
-  abbrev pub dueUnit : Rule
-  dueUnit = onUnit (lowestUnit (F .prefix) (trueIn r) (F .clauses)) (λ l c. Unit l c) dueMonotone
+-- 2: "Unit"
+abbrev pub dueUnit : Formula → Record → Rule
+dueUnit F r = onUnit (lowestUnit (F .prefix) (trueIn r) (F .clauses)) (λ l c. Unit l c) (dueMonotone F r)
 
-  -- 1: "Some clause in conflict: Backtrack-exists. Cut the record at its last kind 1 entry .. With no such entry: Fail"
-  abbrev pub dueConflict : ℕ → Rule
-  dueConflict c = onFound (last 1 0 r) (λ i. BacktrackExists i c) (Fail c)
+-- 1: "Some clause in conflict: Backtrack-exists. Cut the record at its last kind 1 entry .. With no such entry: Fail"
+abbrev pub dueConflict : Record → ℕ → Rule
+dueConflict r c = onFound (last 1 0 r) (λ i. BacktrackExists i c) (Fail c)
 
-  unfoldable pub due : Rule
-  due = onFound (lowest (inConflict (F .prefix) (trueIn r)) 0 (F .clauses)) dueConflict dueUnit
+unfoldable pub due : Formula → Record → Rule
+due F r = onFound (lowest (inConflict (F .prefix) (trueIn r)) 0 (F .clauses)) (dueConflict r) (dueUnit F r)

@@ -13,29 +13,23 @@ use crate::variables;
 ghost use mathlib.Core.Path.{_≡_};
 ghost use mathlib.Core.List.{List};
 ghost use Prim.Native.Nat.{ℕ, _≤_};
-ghost use lib.IntN.{ℤ};
 ghost use lib.ListN.{length};
-ghost use Rattle.formula.specs.Formula.{Formula};
+ghost use Rattle.formula.specs.Formula.{formulaOf};
 ghost use Rattle.theory.specs.Record.{Record, trueIn};
 ghost use Rattle.rules.specs.Due.{dueConflict, dueUnit, dueMonotone, dueDecide};
 ghost use Rattle.rules.specs.Trail.{trail, recordOf};
-ghost use Rattle.rules.specs.Inner.Ready.{formula, Bound, Ready, Kept};
+ghost use Rattle.rules.specs.Inner.Ready.{formula, Bound, Ready, OnBlock};
 ghost use Rattle.rules.specs.Inner.Tabled.{Sorts, Tabled};
 ghost use Rattle.rules.specs.Due as spec;
 
 // The due rule of a record.
-pub(crate) fn due(
-    prefix: &[i32],
-    ends: &[i32],
-    literals: &[i32],
-    lits: &[i32],
-    kinds: &[u8],
-    count: usize,
-) -> Rule
-    requires { ⌜ Ready (now prefix) (now ends) (now literals) ⌝ }
-    requires { ⌜ Kept (now prefix) (trail (now lits) (now kinds)) count ⌝ }
-    ensures { λ r. ⌜ r ≡ spec.due (formula (now (prefix .entry)) (now (ends .entry)) (now (literals .entry))) (recordOf (trail (now (lits .entry)) (now (kinds .entry))) count) ⌝ }
+pub fn due(block: &[i32], lits: &[i32], kinds: &[u8], count: usize) -> Rule
+    requires { ⌜ OnBlock (now block) (trail (now lits) (now kinds)) count ⌝ }
+    ensures { λ r. ⌜ r ≡ spec.due (formulaOf (now (block .entry))) (recordOf (trail (now (lits .entry)) (now (kinds .entry))) count) ⌝ }
 {
+    let prefix = formula::prefix(block);
+    let ends = formula::ends(block);
+    let literals = formula::literals(block);
     let values = tables::values_of(lits, count);
     let universals = tables::universals_of(prefix);
     let statuses = by_literal::statuses_of(prefix.len(), &values, &universals);
@@ -48,7 +42,7 @@ pub(crate) fn due(
 // In conflict: Backtrack-exists, or Fail.
 fn due_conflict(kinds: &[u8], count: usize, clause: usize) -> Rule
     requires { ⌜ count ≤ length (now kinds) ⌝ }
-    ensures { λ r. ⌜ ((F : Formula) (R : Record) (table : List ℕ) → Tabled R table (now (kinds .entry)) count → r ≡ dueConflict F R clause) ⌝ }
+    ensures { λ r. ⌜ ((R : Record) (table : List ℕ) → Tabled R table (now (kinds .entry)) count → r ≡ dueConflict R clause) ⌝ }
 {
     match buffers::last_kind(kinds, count, 1) {
         Found::At(at) => Rule::BacktrackExists {
@@ -107,7 +101,7 @@ fn due_monotone(
 fn due_decide(prefix: &[i32], kinds: &[u8], count: usize, values: &[u8; PLACES]) -> Rule
     requires { ⌜ Bound (now prefix) ⌝ }
     requires { ⌜ count ≤ length (now kinds) ⌝ }
-    ensures { λ r. ⌜ ((m : List (List ℤ)) (R : Record) → Tabled R (now (values .entry)) (now (kinds .entry)) count → r ≡ dueDecide (record { prefix = now (prefix .entry); clauses = m }) R) ⌝ }
+    ensures { λ r. ⌜ ((R : Record) → Tabled R (now (values .entry)) (now (kinds .entry)) count → r ≡ dueDecide (now (prefix .entry)) R) ⌝ }
 {
     match variables::first_unassigned(prefix, values) {
         Picked::Is(first) => Rule::Decide { first: first },

@@ -1,7 +1,7 @@
 -- What the functions over the two buffers say to each other.
 use Prim.Native.Nat.{ℕ, zero, suc, _≤_, _<_}
 use mathlib.Core.Path.{_≡_}
-use mathlib.Core.Bool.{Bool, false, cond, _&&_, _||_}
+use mathlib.Core.Bool.{Bool, false, cond, not, _&&_, _||_}
 use mathlib.Core.List.{List}
 use lib.Dec.{eqb, ltb}
 use lib.IntN.{ℤ, pos, natAbs}
@@ -35,6 +35,6 @@ unfoldable pub lastKind : List ℕ → ℕ → ℕ → Found
 lastKind ks k zero = Nothing
 lastKind ks k (suc i) = cond (eqb (getD ks i 0) k) (At i) (lastKind ks k i)
 
--- a kind above 2, or of the other quantifier than the sign's: 1 for a positive word of the prefix, 2 for a negative one
+-- a kind above 2, or of the other quantifier: u is 0 for an existential variable
 abbrev pub wrongKind : ℕ → ℕ → Bool
-wrongKind k sign = ltb 2 k || (eqb k 1 && eqb sign 2) || (eqb k 2 && eqb sign 1)
+wrongKind k u = ltb 2 k || (eqb k 1 && not (eqb u 0)) || (eqb k 2 && eqb u 0)

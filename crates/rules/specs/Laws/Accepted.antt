@@ -35,18 +35,18 @@ module _ (b : List ℤ) (h : refusal limits b ≡ 0) where
   accepted-proper = block.proper limits b h
 
 -- the formula is that of the parts
-pub formula-is : (b : List ℤ) → formulaOf b ≡ formula (prefixOf b) (endsOf b) (literalsOf b)
+pub formula-is : (b : List ℤ) {p es ls : List ℤ} → p ≡ prefixOf b → es ≡ endsOf b → ls ≡ literalsOf b → formulaOf b ≡ formula p es ls
 unfolding formulaOf
-formula-is b = refl
+formula-is b e f g = rw (e, f, g)
 
 -- ---- from door to door: row 12 asked, a record that passes it, and its literals alone
 module _ (b : List ℤ) (t : Trail) where
-  pub buffers-room : OnBuffers b t → Room (length (prefixOf b)) t
-  buffers-room o = rw (prefix-length b (o .block)) (o .room)
+  pub buffers-room : OnBuffers b t → {p : List ℤ} → p ≡ prefixOf b → Room (length p) t
+  buffers-room o e = rw (e, prefix-length b (o .block)) (o .room)
 
   module _ (n : ℕ) where
     pub on-block : OnBuffers b t → badRecord (prefixOf b) t n ≡ false → OnBlock b t n
-    on-block o e = record { block = o .block; kept = record { prefix = accepted-bound b (o .block); room = buffers-room o; good = e } }
+    on-block o e = record { block = o .block; kept = record { prefix = accepted-bound b (o .block); room = buffers-room o refl; good = e } }
 
     pub held-on : OnBlock b t n → HeldOn b (t .lits) n
     held-on o = record { block = o .block; written = kept-written (prefixOf b) t n (o .kept) }

@@ -16,12 +16,12 @@ sized c =
 returns : tie.Need-returns
 returns c =
     let start = c .before .before .before in
-    first-chosen (start .args .proposal .0) (start .args .first .0) (sym (sized (c .before)) ∙ c .if1 .taken)
+    first-chosen (start .args .proposal .0) (start .args .first) (sym (sized (c .before)) ∙ c .if1 .taken)
 
 returns-2 : tie.Need-returns-2
 returns-2 c =
     let start = c .before .before .before in
-    proposal-chosen (start .args .proposal .0) (start .args .first .0) (λ e. c .if1 .left (sized (c .before) ∙ e))
+    proposal-chosen (start .args .proposal) (start .args .first) (λ e. c .if1 .left (sized (c .before) ∙ e))
 
 pub chosen-spec : {M : Type 1} → statement M
 chosen-spec = tie.close (tie.spec (λ c κs. search needs) returns returns-2)
