@@ -5,10 +5,7 @@ pub mod Universals
 pub mod Occurring
 pub mod Statuses
 pub mod Levels
-pub mod Unassigned
-pub mod Lowest
-pub mod OpenLiteral
-pub mod Monotone
+pub mod First
 pub mod Places
 pub mod Exits
 pub mod Row12

@@ -4,7 +4,7 @@ use mathlib.Core.Bool.{true, false}
 use mathlib.Core.List.{List, [], _∷_, _++_}
 use Prim.Native.Nat.{ℕ, zero, suc, _+_, _<_}
 use native.Mathlib.Omega.{arith}
-use lib.IntN.{ℤ, pos, negsuc, natAbs}
+use lib.IntN.{ℤ, pos, negsuc, negℤ, natAbs}
 use lib.ListN.{length, getD, take, set, replicate}
 use lib.Seq.{getD-take, take-take, length-take-le}
 use Rattle.words.specs.Bools.{clash}
@@ -62,3 +62,12 @@ module _ (ls : List ℤ) (n : ℕ) (w : Written ls n) (i : ℕ) (h : i < n) wher
       turn valued places ls n t i f h (w .room) s a (written-placed s is)
       (rw is (new ∙ value-new (limits .variables) (take i ls) (getD ls i (pos 0)) word fresh))
       (λ v k. value-other (take i ls) (getD ls i (pos 0)) v (λ e. k (e ∙ sym is)))
+
+-- a word's variable made true
+pub minus-true : (w : ℤ) → negative w ≡ true → negℤ w ≡ pos (natAbs w)
+minus-true (pos n) h = clash h refl
+minus-true (negsuc n) h = refl
+
+pub plus-true : (w : ℤ) → negative w ≡ false → w ≡ pos (natAbs w)
+plus-true (pos n) h = refl
+plus-true (negsuc n) h = clash refl h

@@ -59,17 +59,18 @@ isUnit p ρ C = unitOn p ρ C (candidate p ρ C)
 unfoldable pub lowestUnit : List ℤ → Assignment → List (List ℤ) → UnitFound
 lowestUnit p ρ m = onFound (lowest (isUnit p ρ) 0 m) (λ c. On (literal (candidate p ρ (getD m c []))) c) NoUnit
 
--- "the first unassigned variable in prefix order that occurs with one sign only": the literal that it takes; qs are words of the prefix p
-unfoldable pub firstMonotone : List ℤ → List (List ℤ) → Assignment → List ℤ → Picked
-firstMonotone p m ρ [] = NoLiteral
-firstMonotone p m ρ (q ∷ qs) =
-    cond (monotone p m ρ q) (Is (literal q))
-    (cond (monotone p m ρ (negℤ q)) (Is (literal (negℤ q))) (firstMonotone p m ρ qs))
+-- the first of a list that a test picks
+unfoldable pub firstOf : (ℤ → Picked) → List ℤ → Picked
+firstOf f [] = NoLiteral
+firstOf f (x ∷ xs) = onPicked (f x) Is (firstOf f xs)
+
+-- "the first unassigned variable in prefix order that occurs with one sign only": the literal that it takes
+unfoldable pub firstMonotone : List ℤ → List (List ℤ) → Assignment → Picked
+firstMonotone p m ρ = firstOf (λ q. cond (monotone p m ρ q) (Is (literal q)) (cond (monotone p m ρ (negℤ q)) (Is (literal (negℤ q))) NoLiteral)) p
 
 -- "the first unassigned variable in prefix order, true"
 unfoldable pub firstUnassigned : Assignment → List ℤ → Picked
-firstUnassigned ρ [] = NoLiteral
-firstUnassigned ρ (q ∷ qs) = cond (assigned ρ q) (firstUnassigned ρ qs) (Is (literal (pos (natAbs q))))
+firstUnassigned ρ p = firstOf (λ q. cond (assigned ρ q) NoLiteral (Is (literal (pos (natAbs q))))) p
 
 -- 5: "All assigned: Backtrack-forall, cutting at the last kind 2 entry .. With none: Succeed"
 abbrev pub dueAssigned : Record → Rule
@@ -81,7 +82,7 @@ dueDecide p r = onPicked (firstUnassigned (trueIn r) p) (λ l. Decide l) (dueAss
 
 -- 3: "Monotone"
 abbrev pub dueMonotone : Formula → Record → Rule
-dueMonotone F r = onPicked (firstMonotone (F .prefix) (F .clauses) (trueIn r) (F .prefix)) (λ l. Monotone l) (dueDecide (F .prefix) r)
+dueMonotone F r = onPicked (firstMonotone (F .prefix) (F .clauses) (trueIn r)) (λ l. Monotone l) (dueDecide (F .prefix) r)
 
 -- 2: "Unit"
 abbrev pub dueUnit : Formula → Record → Rule

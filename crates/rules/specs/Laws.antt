@@ -12,7 +12,8 @@ pub mod WhyDue
 pub mod Steps
 -- which places a rule writes
 pub mod Untouched
--- the tests of a clause over the tables
+-- the searches and the tests of a clause over the tables
+pub mod VariablesMean
 pub mod Occurs
 pub mod ClausesMean
 pub mod ClausesReady

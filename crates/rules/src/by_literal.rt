@@ -1,10 +1,9 @@
 // Tables by literal, each filled by one pass. What a literal is to its clause is one read, at a place that the word itself gives.
 ghost use mathlib.Core.Path.{_≡_};
-ghost use mathlib.Core.List.{List};
 ghost use Prim.Native.Nat.{_≤_};
-ghost use lib.IntN.{ℤ};
 ghost use Rattle.formula.specs.Limits.{limits};
-ghost use Rattle.rules.specs.Inner.Tables.{Known, signsOf};
+ghost use Rattle.rules.specs.Inner.Tables.{Known};
+ghost use Rattle.rules.specs.Inner.Variables.{signsIn};
 ghost use Rattle.rules.specs.Inner.ByLiteral.{Occurring, statusOf, Statuses};
 use crate::tables::PLACES;
 pub(crate) use formula::LITERAL_PLACES;
@@ -29,7 +28,7 @@ pub(crate) fn occurring(ws: &[i32]) -> [u8; LITERAL_PLACES]
 // The signs with which a variable occurs: 0 none, 1 positive, 2 negative, 3 both.
 pub(crate) fn signs_at(occurs: &[u8; LITERAL_PLACES], v: usize) -> u8
     requires { ⌜ v ≤ limits .variables ⌝ }
-    ensures { λ r. ⌜ ((ws : List ℤ) → Occurring ws (now (occurs .entry)) → r ≡ signsOf ws v) ⌝ }
+    ensures { λ r. ⌜ r ≡ signsIn (now (occurs .entry)) v ⌝ }
 {
     let plus = occurs[MIDDLE + v];
     let minus = occurs[MIDDLE - v];

@@ -1,56 +1,50 @@
 // The open literals: of an unassigned variable, with none unassigned of a lower level.
 ghost use mathlib.Core.Path.{_≡_};
-ghost use lib.IntN.{ℤ, natAbs};
+ghost use Prim.Native.Nat.{_≤_};
+ghost use lib.IntN.{pos};
 ghost use lib.ListN.{take};
+ghost use Rattle.formula.specs.Limits.{limits};
 ghost use Rattle.formula.specs.Formula.{prefixOf};
-ghost use Rattle.theory.specs.Record.{Assignment, among};
+ghost use Rattle.theory.specs.Record.{among};
 ghost use Rattle.theory.specs.Tests.{isOpen};
 ghost use Rattle.rules.specs.Preferred.{firstOpen};
 ghost use Rattle.rules.specs.Inner.Ready.{Bound, HeldOn};
-ghost use Rattle.rules.specs.Inner.Tables.{Values, Levels, Lowest};
+ghost use Rattle.rules.specs.Inner.Variables.{lowestIn, openIn, preferredIn};
 ghost use Rattle.rules.specs.Due as due;
+use crate::found::Picked;
 use crate::tables;
 use crate::tables::NO_LEVEL;
 use crate::tables::PLACES;
+use crate::variables::first_unassigned;
 use crate::variables::literal_at;
 use words::Literal;
 
-// The lowest level of an unassigned variable, NO_LEVEL if there is none.
-fn lowest_unassigned(prefix: &[i32], values: &[u8; PLACES], levels: &[u16; PLACES]) -> u16
+// The lowest level of an unassigned variable, which is that of the first; NO_LEVEL if there is none.
+fn lowest_level(prefix: &[i32], values: &[u8; PLACES], levels: &[u16; PLACES]) -> u16
     requires { ⌜ Bound (now prefix) ⌝ }
-    requires { ⌜ Levels (now prefix) (now levels) ⌝ }
-    ensures { λ r. ⌜ ((ρ : Assignment) → Values ρ (now (values .entry)) → Lowest (now (prefix .entry)) ρ r) ⌝ }
+    ensures { λ r. ⌜ r ≡ lowestIn (now (values .entry)) (now (levels .entry)) (now (prefix .entry)) ⌝ }
 {
-    let mut lowest: u16 = NO_LEVEL;
-    let mut i = 0;
-    while i < prefix.len() {
-        let v = words::size_at(prefix, i);
-        if values[v] == 0 {
-            if levels[v] < lowest {
-                lowest = levels[v];
-            }
-        }
-        i += 1;
+    match first_unassigned(prefix, values) {
+        Picked::Is(first) => levels[words::size(first.0)],
+        Picked::NoLiteral => NO_LEVEL,
     }
-    lowest
 }
 
-// Whether a variable is of the prefix, unassigned, and of no higher level than the lowest.
+// Whether a variable is of the prefix, of n words, unassigned, and of no higher level than the lowest.
 fn open_variable(
     v: usize,
-    prefix: &[i32],
+    n: usize,
     values: &[u8; PLACES],
     levels: &[u16; PLACES],
     lowest: u16,
 ) -> bool
-    requires { ⌜ Bound (now prefix) ⌝ }
-    requires { ⌜ Levels (now prefix) (now levels) ⌝ }
-    ensures { λ r. ⌜ ((ρ : Assignment) → Values ρ (now (values .entry)) → Lowest (now (prefix .entry)) ρ lowest → (l : ℤ) → v ≡ natAbs l → r ≡ isOpen (now (prefix .entry)) ρ l) ⌝ }
+    requires { ⌜ n ≤ limits .variables ⌝ }
+    ensures { λ r. ⌜ r ≡ openIn n (now (values .entry)) (now (levels .entry)) lowest v ⌝ }
 {
     if v == 0 {
         return false;
     }
-    if prefix.len() < v {
+    if n < v {
         return false;
     }
     if values[v] != 0 {
@@ -67,22 +61,26 @@ pub fn is_open(block: &[i32], lits: &[i32], count: usize, literal: Literal) -> b
     let prefix = formula::prefix(block);
     let values = tables::values_of(lits, count);
     let levels = tables::levels_of(prefix);
-    let lowest = lowest_unassigned(prefix, &values, &levels);
+    let lowest = lowest_level(prefix, &values, &levels);
     let v = words::size(literal.0);
-    open_variable(v, prefix, &values, &levels, lowest)
+    open_variable(v, prefix.len(), &values, &levels, lowest)
 }
 
-// The first open literal of a list, 0 if it has none.
-fn first_in(prefix: &[i32], values: &[u8; PLACES], levels: &[u16; PLACES], list: &[i32]) -> Literal
-    requires { ⌜ Bound (now prefix) ⌝ }
-    requires { ⌜ Levels (now prefix) (now levels) ⌝ }
-    ensures { λ r. ⌜ ((ρ : Assignment) → Values ρ (now (values .entry)) → r ≡ due.literal (firstOpen (now (prefix .entry)) ρ (now (list .entry)))) ⌝ }
+// The first open literal of a list, 0 if it has none: n variables, and the lowest level of an unassigned one.
+fn first_in(
+    list: &[i32],
+    n: usize,
+    values: &[u8; PLACES],
+    levels: &[u16; PLACES],
+    lowest: u16,
+) -> Literal
+    requires { ⌜ n ≤ limits .variables ⌝ }
+    ensures { λ r. ⌜ r ≡ due.literal (due.onPicked (due.firstOf (preferredIn n (now (values .entry)) (now (levels .entry)) lowest) (now (list .entry))) (λ l. l .0) (pos 0)) ⌝ }
 {
-    let lowest = lowest_unassigned(prefix, values, levels);
     let mut i = 0;
     while i < list.len() {
         let v = words::size_at(list, i);
-        if open_variable(v, prefix, values, levels, lowest) {
+        if open_variable(v, n, values, levels, lowest) {
             return literal_at(list, i);
         }
         i += 1;
@@ -98,5 +96,6 @@ pub fn first_open(block: &[i32], lits: &[i32], count: usize, list: &[i32]) -> Li
     let prefix = formula::prefix(block);
     let values = tables::values_of(lits, count);
     let levels = tables::levels_of(prefix);
-    first_in(prefix, &values, &levels, list)
+    let lowest = lowest_level(prefix, &values, &levels);
+    first_in(list, prefix.len(), &values, &levels, lowest)
 }

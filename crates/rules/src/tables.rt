@@ -12,7 +12,7 @@ ghost use Rattle.rules.specs.Inner.Tables.{signOf, Values, Universals, L
 pub(crate) const PLACES: usize = formula::MAX_VARIABLES + 1;
 
 // More than any level: with n variables there are at most n levels.
-pub(crate) const NO_LEVEL: u16 = 257;
+pub(crate) const NO_LEVEL: u16 = (formula::MAX_VARIABLES + 1) as u16;
 
 // 1 for a positive word, 2 for a negative one.
 pub(crate) fn sign_at(ws: &[i32], i: usize) -> u8

@@ -4,17 +4,14 @@ use crate::by_literal::signs_at;
 use crate::found::Picked;
 use crate::tables::PLACES;
 use words::Literal;
-ghost use mathlib.Core.Bool.{cond};
 ghost use mathlib.Core.Path.{_≡_};
-ghost use mathlib.Core.List.{List};
-ghost use lib.IntN.{ℤ, pos};
+ghost use Prim.Native.Nat.{_≤_};
+ghost use lib.IntN.{pos, negℤ, natAbs};
 ghost use lib.ListN.{getD};
-ghost use Rattle.theory.specs.Record.{Assignment};
-ghost use Rattle.rules.specs.Due.{literal, firstUnassigned, firstMonotone};
+ghost use Rattle.formula.specs.Limits.{limits};
+ghost use Rattle.rules.specs.Due.{literal, firstOf};
 ghost use Rattle.rules.specs.Inner.Ready.{Bound};
-ghost use Rattle.rules.specs.Inner.Tables.{Values, Spread};
-ghost use Rattle.rules.specs.Inner.ByLiteral.{Occurring};
-ghost use Rattle.words.specs.Words as words;
+ghost use Rattle.rules.specs.Inner.Variables.{unassignedIn, monotoneIn};
 
 // The literal at an index, its opposite, and its variable made true. Past the end there is the word 0.
 pub(crate) fn literal_at(ws: &[i32], i: usize) -> Literal
@@ -28,7 +25,8 @@ pub(crate) fn literal_at(ws: &[i32], i: usize) -> Literal
 }
 
 fn opposite_at(ws: &[i32], i: usize) -> Literal
-    ensures { λ r. ⌜ r ≡ literal (words.opposite (getD (now (ws .entry)) i (pos 0))) ⌝ }
+    requires { ⌜ natAbs (getD (now ws) i (pos 0)) ≤ limits .variables ⌝ }
+    ensures { λ r. ⌜ r ≡ literal (negℤ (getD (now (ws .entry)) i (pos 0))) ⌝ }
 {
     let l = literal_at(ws, i);
     let word = words::opposite(l.0);
@@ -36,7 +34,8 @@ fn opposite_at(ws: &[i32], i: usize) -> Literal
 }
 
 fn true_at(ws: &[i32], i: usize) -> Literal
-    ensures { λ r. ⌜ r ≡ literal (cond (words.negative (getD (now (ws .entry)) i (pos 0))) (words.opposite (getD (now (ws .entry)) i (pos 0))) (getD (now (ws .entry)) i (pos 0))) ⌝ }
+    requires { ⌜ natAbs (getD (now ws) i (pos 0)) ≤ limits .variables ⌝ }
+    ensures { λ r. ⌜ r ≡ literal (pos (natAbs (getD (now (ws .entry)) i (pos 0)))) ⌝ }
 {
     if words::negative_at(ws, i) {
         opposite_at(ws, i)
@@ -48,7 +47,7 @@ fn true_at(ws: &[i32], i: usize) -> Literal
 // The first unassigned variable in prefix order, true.
 pub(crate) fn first_unassigned(prefix: &[i32], values: &[u8; PLACES]) -> Picked
     requires { ⌜ Bound (now prefix) ⌝ }
-    ensures { λ r. ⌜ ((ρ : Assignment) → Values ρ (now (values .entry)) → r ≡ firstUnassigned ρ (now (prefix .entry))) ⌝ }
+    ensures { λ r. ⌜ r ≡ firstOf (unassignedIn (now (values .entry))) (now (prefix .entry)) ⌝ }
 {
     let mut i = 0;
     while i < prefix.len() {
@@ -69,7 +68,7 @@ pub(crate) fn first_monotone(
     occurs: &[u8; LITERAL_PLACES],
 ) -> Picked
     requires { ⌜ Bound (now prefix) ⌝ }
-    ensures { λ r. ⌜ ((ρ : Assignment) (ls : List ℤ) (m : List (List ℤ)) → Values ρ (now (values .entry)) → Occurring ls (now (occurs .entry)) → Spread ls m → r ≡ firstMonotone (now (prefix .entry)) m ρ (now (prefix .entry))) ⌝ }
+    ensures { λ r. ⌜ r ≡ firstOf (monotoneIn (now (values .entry)) (now (occurs .entry))) (now (prefix .entry)) ⌝ }
 {
     let mut i = 0;
     while i < prefix.len() {

@@ -27,10 +27,6 @@ signOf (negsuc n) = 2
 abbrev pub valueOf : Assignment → ℕ → ℕ
 valueOf ρ v = cond (ρ (pos v)) 1 (cond (ρ (negℤ (pos v))) 2 0)
 
--- the signs with which a variable occurs: 0 none, 1 positive, 2 negative, 3 both
-abbrev pub signsOf : List ℤ → ℕ → ℕ
-signsOf ls v = cond (mem (pos v) ls) (cond (mem (negℤ (pos v)) ls) 3 1) (cond (mem (negℤ (pos v)) ls) 2 0)
-
 -- each table, at every variable
 abbrev pub Values : Assignment → List ℕ → Type 0
 Values ρ t = (v : ℕ) → getD t v 0 ≡ valueOf ρ v

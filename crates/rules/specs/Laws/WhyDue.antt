@@ -59,7 +59,7 @@ module _ (F : Formula) (bound : Bound (F .prefix)) (r : Record) where
         (λ e. by-assigned (unassigned-none (trueIn r) (F .prefix) e))
 
     by-monotone : Reason F r (dueMonotone F r)
-    by-monotone = on-picked (Reason F r) (firstMonotone (F .prefix) (F .clauses) (trueIn r) (F .prefix)) (λ l e. monotone l quiet (monotone-found (F .prefix) (F .clauses) (trueIn r) (F .prefix) l e)) (λ e. by-decide)
+    by-monotone = on-picked (Reason F r) (firstMonotone (F .prefix) (F .clauses) (trueIn r)) (λ l e. monotone l quiet (monotone-found (F .prefix) (F .clauses) (trueIn r) l e)) (λ e. by-decide)
 
     by-unit : Reason F r (dueUnit F r)
     by-unit = on-unit (Reason F r) (lowestUnit (F .prefix) (trueIn r) (F .clauses)) (λ l c e. unit l c quiet (unit-found (F .prefix) (F .clauses) (trueIn r) l c e)) (λ e. by-monotone)

@@ -1,16 +1,25 @@
 -- The first unassigned variable, or none and the last kind 2 entry, picks the case.
-use mathlib.Core.Path.{_∙_}
+use mathlib.Core.Path.{_≡_, _∙_}
 use borrow.Author.Needs.{needs}
+use Rattle.theory.specs.Record.{Record, trueIn}
+use Rattle.rules.specs.Due.{firstUnassigned}
+use Rattle.rules.specs.Inner.Tables.{Values}
+use Rattle.rules.specs.Laws.VariablesMean.{unassigned-means}
 use Rattle.rules.proofs.ordered.due_decide.Statement.{statement}
 use Rattle.rules.proofs.ordered.due_decide.Tie as tie
 
+-- the search is the definition's
+module _ (c : tie.After-first-unassigned) where
+  search-is : (r : Record) → Values (trueIn r) (c .before .before .args .values .now) → c .first-unassigned .result ≡ firstUnassigned (trueIn r) (c .before .before .args .prefix .now)
+  search-is r said = c .first-unassigned .ensures ∙ unassigned-means (trueIn r) (c .before .before .args .values .now) said _
+
 returns : tie.Need-returns
-returns c r told = rw (← c .before .before .before .first-unassigned .ensures _ (told .values), c .before .first .given .1)
+returns c r told = rw (← search-is (c .before .before .before) r (told .values), c .before .first .given .1)
 
 returns-2 : tie.Need-returns-2
 returns-2 c r told =
     rw (
-      ← c .before .before .before .before .before .before .first-unassigned .ensures _ (told .values),
+      ← search-is (c .before .before .before .before .before .before) r (told .values),
       c .before .before .before .before .enum-told .given .1,
       ← c .before .before .before .last-kind .ensures ∙ told .lasts 2,
       c .before .at .given .1,
@@ -19,7 +28,7 @@ returns-2 c r told =
 returns-3 : tie.Need-returns-3
 returns-3 c r told =
     rw (
-      ← c .before .before .before .before .before .first-unassigned .ensures _ (told .values),
+      ← search-is (c .before .before .before .before .before) r (told .values),
       c .before .before .before .enum-told .given .1,
       ← c .before .before .last-kind .ensures ∙ told .lasts 2,
       c .enum-told2 .given .1,
