@@ -1,9 +1,10 @@
 -- One rule applied, in the words of the code: what a rule that fits asks of the buffers, a cut, and the literal of a decision.
 use Prim.Native.Nat.{ℕ, _+_, _<_}
-use mathlib.Core.Path.{_≡_, refl, sym, _∙_}
-use mathlib.Core.Bool.{Bool, true, false, cond}
+use mathlib.Core.Path.{_≡_}
+use mathlib.Core.Bool.{cond}
 use mathlib.Core.List.{List}
 use native.Mathlib.Omega.{arith}
+use lib.Dec.{eqb}
 use lib.IntN.{ℤ, pos, negℤ, natAbs}
 use lib.ListN.{length, getD}
 use borrow.Author.Tests.{eq-eqb, ne-eqb}
@@ -18,9 +19,10 @@ use Rattle.rules.specs.Trail.{Trail, put, wipedTrail}
 use Rattle.rules.specs.Search.{search}
 use Rattle.rules.specs.Due.{literal}
 use Rattle.rules.specs.Apply.{flip, kindOf, chosen, moveOf}
-use Rattle.rules.specs.Inner.Tables.{Universals}
+use Rattle.rules.specs.Inner.Tables.{Quantifiers}
 use Rattle.rules.specs.Inner.Ready.{Bound, Kept, Moves, Fitting}
 use Rattle.rules.specs.Inner.Buffers.{Cuttable}
+use Rattle.rules.specs.Laws.VariablesMean.{quantifier-in}
 use Rattle.rules.specs.Laws.Records.{kept-room, kept-named}
 use Rattle.rules.specs.declared.rule.State.the-variants.{Open}
 use Rattle.rules.specs.declared.rule.Rule.{Rule}
@@ -48,22 +50,8 @@ pub kind-over : (p : List ℤ) → Bound p → (l : ℤ) → limits .variables <
 unfolding universal
 kind-over p b l h = rw (to-false (universal p l) (λ e. let k = in-named (length p) p (b .named) (mem-e (negℤ (pos (natAbs l))) p e) in omega (arith, k .most, natAbs-neg (pos (natAbs l)), b .room)))
 
-module _ (p : List ℤ) (l : ℤ) (t : List ℕ) (said : Universals p t) (v : ℕ) (is : v ≡ natAbs l) where
-  pub kind-existential : getD t v 0 ≡ 0 → 1 ≡ kindOf p l
-  unfolding universal
-  kind-existential e = rw is at (go (universal p (pos v)) (sym (said v) ∙ e))
-    where
-      go : (b : Bool) → _≡_ {A = ℕ} (cond b 1 0) 0 → _≡_ {A = ℕ} 1 (cond b 2 1)
-      go true e = absurd (omega arith)
-      go false e = refl
-
-  pub kind-universal : (getD t v 0 ≡ 0 → ⊥) → 2 ≡ kindOf p l
-  unfolding universal
-  kind-universal k = rw is at (go (universal p (pos v)) (λ e. k (said v ∙ e)))
-    where
-      go : (b : Bool) → (_≡_ {A = ℕ} (cond b 1 0) 0 → ⊥) → _≡_ {A = ℕ} 2 (cond b 2 1)
-      go true k = refl
-      go false k = absurd (k refl)
+pub kind-by : (p : List ℤ) → Bound p → (l : ℤ) (t : List ℕ) → Quantifiers p t → (v : ℕ) → v ≡ natAbs l → cond (eqb (getD t v 0) 2) 2 1 ≡ kindOf p l
+kind-by p b l t said v is = rw (is, quantifier-in p b t said l)
 
 -- whatever the proposal, a rule that fits makes a move that does
 pub fitting : (p : List ℤ) (n : ℕ) (rule : Rule) (l : ℤ) → Fitting p n rule → Moves p n (moveOf p rule l)

@@ -6,12 +6,13 @@ use native.Mathlib.Decide.{ℕ-discrete}
 use native.Mathlib.Omega.{arith}
 use lib.IntN.{ℤ, pos, natAbs}
 use lib.ListN.{length, getD, take, set, replicate, length-set, length-replicate}
-use lib.Seq.{getD-set-same, getD-set-other}
+use lib.Seq.{getD-set-same, getD-set-other, take-length}
 use Rattle.words.specs.Lists.{take-more, blank}
 use Rattle.formula.specs.Limits.{limits, variables-are}
 use Rattle.formula.specs.Named.{all-named, known-up}
+use Rattle.theory.specs.Record.{among}
 use Rattle.rules.specs.Inner.Ready.{Bound}
-use Rattle.rules.specs.Inner.Tables.{places, Known}
+use Rattle.rules.specs.Inner.Tables.{places, Known, Written, Values, Quantifiers}
 
 -- a variable's number is a place of a table
 pub enough : limits .variables < places
@@ -66,3 +67,10 @@ placed ws i s h l is = let k = all-named (limits .variables) ws h .at i l in ome
 
 pub bound-named : {p : List ℤ} → Bound p → Known p
 bound-named {p} b = known-up (length p) p (limits .variables) (b .room) (b .named)
+
+-- a bound prefix as words that give values: the table is that of its quantifiers
+pub bound-written : {p : List ℤ} → Bound p → Written p (length p)
+bound-written {p} b = record { room = omega arith; named = rw (take-length p) (bound-named b); once = rw (take-length p) (b .once) }
+
+pub quantifiers-of : (p : List ℤ) (t : List ℕ) → Values (among (take (length p) p)) t → Quantifiers p t
+quantifiers-of p t said = rw (take-length p) at said

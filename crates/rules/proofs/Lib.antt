@@ -1,7 +1,6 @@
 -- Laws of this crate's definitions, for the proofs of its functions and of those above.
 pub mod Filled
 pub mod Values
-pub mod Universals
 pub mod Occurring
 pub mod Statuses
 pub mod Levels

@@ -35,6 +35,6 @@ unfoldable pub lastKind : List ℕ → ℕ → ℕ → Found
 lastKind ks k zero = Nothing
 lastKind ks k (suc i) = cond (eqb (getD ks i 0) k) (At i) (lastKind ks k i)
 
--- a kind above 2, or of the other quantifier: u is 0 for an existential variable
+-- a kind above 2, or of the other quantifier than the variable's
 abbrev pub wrongKind : ℕ → ℕ → Bool
-wrongKind k u = ltb 2 k || (eqb k 1 && not (eqb u 0)) || (eqb k 2 && eqb u 0)
+wrongKind k quantifier = ltb 2 k || (eqb k 1 && eqb quantifier 2) || (eqb k 2 && not (eqb quantifier 2))

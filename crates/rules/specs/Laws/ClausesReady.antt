@@ -6,10 +6,10 @@ use mathlib.Core.Logic.{_⊎_, inl, inr}
 use mathlib.Core.Bool.{true, false, not, and-true, and-false}
 use mathlib.Core.List.{List}
 use native.Mathlib.Omega.{arith}
-use lib.Dec.{ltb}
+use lib.Dec.{eqb, ltb}
 use lib.IntN.{ℤ, pos, negsuc, negℤ, natAbs}
 use lib.ListN.{length, getD, List·getD-eq-default}
-use borrow.Author.Tests.{ltb-true, ltb-false}
+use borrow.Author.Tests.{ltb-true, ltb-false, eqb-true, eqb-false}
 use Rattle.words.specs.Bools.{clash, look, to-false}
 use Rattle.words.specs.Lists.{In, in-at}
 use Rattle.words.specs.Words.{mem-e}
@@ -24,10 +24,11 @@ use Rattle.theory.specs.Record.{Assignment, among, assigned}
 use Rattle.theory.specs.Tests.{unassignedE, unassignedU, inConflict}
 use Rattle.rules.specs.Due.{lowest, lowestUnit}
 use Rattle.rules.specs.Inner.Ready.{Bound, Ready}
-use Rattle.rules.specs.Inner.Tables.{signOf, valueOf, Values, Universals, Levels}
+use Rattle.rules.specs.Inner.Tables.{signOf, valueOf, Values, Quantifiers, Levels}
 use Rattle.rules.specs.Inner.Clauses.{Placed, Clauses, levelBy, conflictBy, lowestUnitBy}
 use Rattle.rules.specs.Inner.ByLiteral.{statusBy, statusIn, Statuses, is-true, is-false, is-existential, is-universal}
 use Rattle.rules.specs.Inner.Tabled.{Consistent, Sorted, as-false, as-true, as-existential, as-universal, Sorts}
+use Rattle.rules.specs.Laws.VariablesMean.{quantifier-in}
 use Rattle.rules.specs.Laws.ClausesMean.{Meant, lowest-conflict-means, lowest-unit-means}
 
 -- the value of a literal's variable, against the literal's sign
@@ -58,11 +59,11 @@ module _ (p : List ℤ) (ρ : Assignment) where
   unfolding unassignedE unassignedU
   unassigned-by x h = rw h (and-true (existential p x), and-true (universal p x))
 
--- st is a literal's status, as the tables of values and of universal variables say it
-module _ (p : List ℤ) (ρ : Assignment) (values universals : List ℕ) (vals : Values ρ values) (unis : Universals p universals) (con : Consistent ρ) (st : ℤ → ℕ) where
+-- st is a literal's status, as the tables of values and of quantifiers say it
+module _ (p : List ℤ) (ρ : Assignment) (values quantifiers : List ℕ) (vals : Values ρ values) (unis : (x : ℤ) → eqb (getD quantifiers (natAbs x) 0) 2 ≡ universal p x) (con : Consistent ρ) (st : ℤ → ℕ) where
   -- x is not 0, and its variable has one quantifier
-  sorted : (x : ℤ) → st x ≡ statusBy values universals x → 0 < natAbs x → universal p x ≡ not (existential p x) → Sorted p ρ st x
-  unfolding assigned universal
+  sorted : (x : ℤ) → st x ≡ statusBy values quantifiers x → 0 < natAbs x → universal p x ≡ not (existential p x) → Sorted p ρ st x
+  unfolding assigned
   sorted x same z q = go (look (ρ x)) (look (ρ (negℤ x))) (look (existential p x))
     where
       val : getD values (natAbs x) 0 ≡ valueOf ρ (natAbs x)
@@ -74,28 +75,26 @@ module _ (p : List ℤ) (ρ : Assignment) (values universals : List ℕ) (vals :
       go : (ρ x ≡ true) ⊎ (ρ x ≡ false) → (ρ (negℤ x) ≡ true) ⊎ (ρ (negℤ x) ≡ false) → (existential p x ≡ true) ⊎ (existential p x ≡ false) → Sorted p ρ st x
       go (inl h) k e =
           let v = val ∙ value-true ρ con x z h in
-          as-true (same ∙ sym (is-true values universals x (λ n. signed (sym v ∙ n)) v)) h
+          as-true (same ∙ sym (is-true values quantifiers x (λ n. signed (sym v ∙ n)) v)) h
       go (inr h) (inl k) e =
           let v = value-false ρ con x z h k in
           let (a, b) = assigned-none p ρ x (rw (h, k)) in
-          as-false (same ∙ sym (is-false values universals x (λ n. v .0 (sym val ∙ n)) (λ n. v .1 (sym val ∙ n)))) h a b
+          as-false (same ∙ sym (is-false values quantifiers x (λ n. v .0 (sym val ∙ n)) (λ n. v .1 (sym val ∙ n)))) h a b
       go (inr h) (inr k) (inl e) =
           let v = val ∙ value-none ρ con x h k in
           let (a, b) = unassigned-by p ρ x (rw (h, k)) in
           let u : universal p x ≡ false = q ∙ ap not e in
-          let w : getD universals (natAbs x) 0 ≡ 0 = unis (natAbs x) ∙ (rw u) in
-          as-existential (same ∙ sym (is-existential values universals x v w)) h (a ∙ e) (b ∙ u)
+          as-existential (same ∙ sym (is-existential values quantifiers x v (eqb-false _ 2 (unis x ∙ u)))) h (a ∙ e) (b ∙ u)
       go (inr h) (inr k) (inr e) =
           let v = val ∙ value-none ρ con x h k in
           let (a, b) = unassigned-by p ρ x (rw (h, k)) in
           let u : universal p x ≡ true = q ∙ ap not e in
-          let w : getD universals (natAbs x) 0 ≡ 1 = unis (natAbs x) ∙ (rw u) in
-          as-universal (same ∙ sym (is-universal values universals x v (λ n. omega (arith, w, n)))) h (a ∙ e) (b ∙ u)
+          as-universal (same ∙ sym (is-universal values quantifiers x v (eqb-true _ 2 (unis x ∙ u)))) h (a ∙ e) (b ∙ u)
 
 -- so a table of statuses says of each literal of the prefix's variables what it is
-pub sorts : (p : List ℤ) → Bound p → (ρ : Assignment) (values universals statuses : List ℕ) → Values ρ values → Universals p universals → Consistent ρ → Statuses (length p) values universals statuses → Sorts p ρ statuses
-sorts p b ρ values universals statuses vals unis con said x n =
-    sorted p ρ values universals vals unis con (statusIn statuses) x (said x (n .some) (n .most)) (n .some) (quantifier (length p) p (b .named) (b .once) refl x n)
+pub sorts : (p : List ℤ) → Bound p → (ρ : Assignment) (values quantifiers statuses : List ℕ) → Values ρ values → Quantifiers p quantifiers → Consistent ρ → Statuses (length p) values quantifiers statuses → Sorts p ρ statuses
+sorts p b ρ values quantifiers statuses vals unis con said x n =
+    sorted p ρ values quantifiers vals (quantifier-in p b quantifiers unis) con (statusIn statuses) x (said x (n .some) (n .most)) (n .some) (quantifier (length p) p (b .named) (b .once) refl x n)
 
 -- the literals of a list in which no variable stands twice
 pub once-consistent : (ls : List ℤ) → twice ls ≡ false → Consistent (among ls)

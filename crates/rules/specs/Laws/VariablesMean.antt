@@ -15,7 +15,7 @@ use borrow.Author.Tests.{eq-eqb, ne-eqb, le-leb, lt-leb, leb-true}
 use Rattle.words.specs.Bools.{look, bool-eq, and-r, or-l, or-r, or-e}
 use Rattle.words.specs.Lists.{In, all, any, all-i, all-e, any-i, in-middle}
 use Rattle.words.specs.declared.Literal.{Literal}
-use Rattle.words.specs.Words.{mem, mem-i, natAbs-neg, negneg}
+use Rattle.words.specs.Words.{mem, mem-i, mem-e, natAbs-neg, negneg}
 use Rattle.formula.specs.Limits.{limits, maxVariables, variables-are}
 use Rattle.formula.specs.Formula.{existential, universal, levelOf, level}
 use Rattle.formula.specs.Block.{names}
@@ -28,7 +28,7 @@ use Rattle.theory.specs.Tests.{unassignedE, unassignedU, oneSign, monotone, isO
 use Rattle.theory.specs.Progress.{first-open}
 use Rattle.rules.specs.Due.{literal, onPicked, firstOf, firstMonotone, firstUnassigned}
 use Rattle.rules.specs.Preferred.{firstOpen}
-use Rattle.rules.specs.Inner.Tables.{valueOf, Values, Levels, Lowest, Spread, places}
+use Rattle.rules.specs.Inner.Tables.{valueOf, Values, Quantifiers, Levels, Lowest, Spread, places}
 use Rattle.rules.specs.Inner.ByLiteral.{Occurring}
 use Rattle.rules.specs.Inner.Variables.{assignedIn, unassignedIn, signsIn, monotoneIn, lowestIn, openIn, preferredIn}
 use Rattle.rules.specs.Inner.Ready.{Bound}
@@ -73,6 +73,16 @@ unassigned-in values p l e =
     go : (q : ℤ) (b : Bool) → cond b NoLiteral (Is (literal (pos (natAbs q)))) ≡ Is l → natAbs (l .0) ≡ natAbs q
     go q true e = let z : _≡_ {A = ℕ} 0 1 = cc in absurd (omega arith)
     go q false e = let z : literal (pos (natAbs q)) ≡ l = cc in ap (λ (x : Literal). natAbs (x .0)) (sym z)
+
+-- ---- quantifiers: a variable has one sign in the prefix
+pub quantifier-in : (p : List ℤ) → Bound p → (t : List ℕ) → Quantifiers p t → (l : ℤ) → eqb (getD t (natAbs l) 0) 2 ≡ universal p l
+unfolding universal
+quantifier-in p b t said l = rw (said (natAbs l)) (go (mem (pos (natAbs l)) p) (mem (negℤ (pos (natAbs l))) p) (λ e. let i = mem-e (pos (natAbs l)) p e in one-sign p (b .once) i (in-named (length p) p (b .named) i .some)))
+  where
+    go : (x y : Bool) → (x ≡ true → y ≡ false) → eqb (cond x 1 (cond y 2 0)) 2 ≡ y
+    go true y f = rw (f refl)
+    go false true f = refl
+    go false false f = refl
 
 -- ---- signs
 module _ (ls : List ℤ) (m : List (List ℤ)) (spread : Spread ls m) (occurs : List ℕ) (said : Occurring ls occurs) (v : ℕ) (h : v ≤ limits .variables) where

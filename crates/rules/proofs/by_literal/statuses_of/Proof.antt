@@ -9,10 +9,10 @@ use Rattle.rules.proofs.by_literal.statuses_of.Statement.{statement}
 use Rattle.rules.proofs.by_literal.statuses_of.Tie as tie
 
 abbrev Inv-loop : tie.InvT-loop
-Inv-loop n values universals statuses₀ v₀ statuses v = Stated n values universals statuses v
+Inv-loop n values quantifiers statuses₀ v₀ statuses v = Stated n values quantifiers statuses v
 
 abbrev μ-loop : tie.MeasureT-loop
-μ-loop n values universals statuses₀ v₀ statuses v = n + 1 - v
+μ-loop n values quantifiers statuses₀ v₀ statuses v = n + 1 - v
 
 loop-holds : tie.Need-loop-holds Inv-loop μ-loop
 loop-holds c = stated-begin _ _ _

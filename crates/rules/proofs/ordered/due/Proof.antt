@@ -13,6 +13,7 @@ use Rattle.rules.specs.Laws.ClausesReady.{ready-clauses, conflict-ready,
 use Rattle.rules.specs.Laws.Kept.{kept-written, kept-tabled}
 use Rattle.rules.specs.Laws.Accepted.{accepted-ready, formula-is}
 use borrow.Author.Needs.{needs}
+use Rattle.rules.proofs.Filled.{bound-written, quantifiers-of}
 use Rattle.rules.proofs.ordered.due.Statement.{statement}
 use Rattle.rules.proofs.ordered.due.Tie as tie
 
@@ -30,8 +31,8 @@ module _ (c : tie.After-literals) where
 values-of-requires : tie.Need-values-of-requires
 values-of-requires c κs = kept-written _ _ _ (start c .pre .kept)
 
-universals-of-requires : tie.Need-universals-of-requires
-universals-of-requires c κs = parts (c .before) .prefix
+values-of-requires-2 : tie.Need-values-of-requires-2
+values-of-requires-2 c κs = bound-written (parts (c .before) .prefix)
 
 statuses-of-requires : tie.Need-statuses-of-requires
 statuses-of-requires c κs = parts (c .before .before .before .before) .prefix .room
@@ -51,7 +52,7 @@ module _ (c : tie.After-statuses) where
   told = kept-tabled _ _ _ (start cut .pre .kept) _ (c .before .before .before .before .before .values-of .ensures)
 
   sorting : Sorts (now (cut .before .before .prefix .result)) (trueIn record·of) (c .before .statuses-of .result)
-  sorting = sorts _ (parts cut .prefix) _ _ (c .before .before .before .before .universals-of .result) (c .before .statuses-of .result) (told .values) (c .before .before .before .before .universals-of .ensures) (told .consistent) (c .before .statuses-of .ensures)
+  sorting = sorts _ (parts cut .prefix) _ _ (c .before .before .before .before .values-of2 .result) (c .before .statuses-of .result) (told .values) (quantifiers-of _ (c .before .before .before .before .values-of2 .result) (c .before .before .before .before .values-of2 .ensures)) (told .consistent) (c .before .statuses-of .ensures)
 
 due-conflict-requires : tie.Need-due-conflict-requires
 due-conflict-requires c κs = kept-room (start (cut (c .before .before .before .before)) .pre .kept) .kinds
@@ -81,5 +82,5 @@ returns-2 c =
 pub due-spec : {M : Type 1} → statement M
 due-spec =
     tie.close
-    (tie.spec (λ c κs. search needs) (λ c κs. search needs) (λ c κs. search needs) values-of-requires universals-of-requires statuses-of-requires
+    (tie.spec (λ c κs. search needs) (λ c κs. search needs) (λ c κs. search needs) values-of-requires values-of-requires-2 statuses-of-requires
     lowest-conflict-requires (λ c. search needs) due-conflict-requires (λ c. search needs) due-unit-requires returns returns-2)
