@@ -1,18 +1,26 @@
--- A table filled by one pass says at every place what the words passed say: a store changes what is said at its own place only.
-use mathlib.Core.Path.{_≡_, sym, _∙_}
+-- A table filled by one pass says at every place what the words passed say: a store changes what is said at its own place only. The tables
+-- of values and of occurring literals.
+use mathlib.Core.Path.{_≡_, sym, _∙_, refl, ap}
 use mathlib.Core.List.{List, [], _∷_, _++_}
-use Prim.Native.Nat.{ℕ, _+_, _≤_, _<_}
+use Prim.Native.Nat.{ℕ, _+_, _≤_, _<_, zero, suc, _-_}
 use native.Mathlib.Decide.{ℕ-discrete}
 use native.Mathlib.Omega.{arith}
-use lib.IntN.{ℤ, pos, natAbs}
+use lib.IntN.{ℤ, pos, natAbs, negsuc, negℤ}
 use lib.ListN.{length, getD, take, set, replicate, length-set, length-replicate}
-use lib.Seq.{getD-set-same, getD-set-other, take-length}
-use Rattle.words.specs.Lists.{take-more, blank}
+use lib.Seq.{getD-set-same, getD-set-other, take-length, getD-take, take-take, length-take-le}
+use Rattle.words.specs.Lists.{take-more, blank, any}
 use Rattle.formula.specs.Limits.{limits, variables-are}
-use Rattle.formula.specs.Named.{all-named, known-up}
+use Rattle.formula.specs.Named.{all-named, known-up, Named}
 use Rattle.theory.specs.Record.{among}
 use Rattle.rules.specs.Inner.Ready.{Bound}
-use Rattle.rules.specs.Inner.Tables.{places, Known, Written, Values, Quantifiers}
+use Rattle.rules.specs.Inner.Tables.{places, Known, Written, Values, Quantifiers, signOf, valueIn}
+use mathlib.Core.Bool.{true, false, cond}
+use Rattle.words.specs.Bools.{clash}
+use Rattle.words.specs.Words.{negative, eqZ, mem, mem-here, mem-other, plus-other, minus-other, eqZ-ne}
+use Rattle.formula.specs.Block.{names}
+use Rattle.formula.specs.Prefix.{fresh-word, fresh-at}
+use native.Mathlib.Nat.{le-refl}
+use Rattle.formula.specs.Places.{literalPlaces, placeOf, wordAt, place-word, word-place, place-within}
 
 -- a variable's number is a place of a table
 pub enough : limits .variables < places
@@ -74,3 +82,86 @@ bound-written {p} b = record { room = omega arith; named = rw (take-length p) (b
 
 pub quantifiers-of : (p : List ℤ) (t : List ℕ) → Values (among (take (length p) p)) t → Quantifiers p t
 quantifiers-of p t said = rw (take-length p) at said
+
+pub sign-minus : (w : ℤ) → negative w ≡ true → 2 ≡ signOf w
+sign-minus (pos n) h = clash h refl
+sign-minus (negsuc n) h = refl
+
+pub sign-plus : (w : ℤ) → negative w ≡ false → 1 ≡ signOf w
+sign-plus (pos n) h = refl
+sign-plus (negsuc n) h = clash refl h
+
+-- what the entries say of a variable
+abbrev pub valued : List ℤ → ℕ → ℕ
+valued xs v = valueIn (among xs) v
+
+pub value-other : (xs : List ℤ) (w : ℤ) (v : ℕ) → (v ≡ natAbs w → ⊥) → valued (xs ++ w ∷ []) v ≡ valued xs v
+value-other xs w v k = rw (plus-other xs w v k, minus-other xs w v k)
+
+pub value-new : (n : ℕ) (xs : List ℤ) (w : ℤ) → Named n w → any (names (natAbs w)) xs ≡ false → signOf w ≡ valued (xs ++ w ∷ []) (natAbs w)
+unfolding eqZ
+value-new n xs (pos zero) h f = absurd (omega arith)
+value-new n xs (pos (suc k)) h f = rw (mem-here xs (pos (suc k)))
+value-new n xs (negsuc k) h f = rw (mem-other (pos (suc k)) xs (negsuc k) refl, fresh-word (pos (suc k)) xs f, mem-here xs (negsuc k))
+
+-- ---- the loop
+pub values-begin : (ls : List ℤ) (n : ℕ) → Filled valued places ls n (replicate places 0) 0
+unfolding mem
+values-begin ls n = begin valued places ls n (λ v. refl)
+
+module _ (ls : List ℤ) (n : ℕ) (w : Written ls n) (i : ℕ) (h : i < n) where
+  written-at : getD (take n ls) i (pos 0) ≡ getD ls i (pos 0)
+  written-at = getD-take n ls i (pos 0) h
+
+  short : length (take n ls) ≡ n
+  short = length-take-le n ls (w .room)
+
+  pub written-placed : (s : ℕ) → s ≡ natAbs (getD ls i (pos 0)) → s < places
+  written-placed s is = placed (take n ls) i s (w .named) (rw short h) (rw written-at is)
+
+  pub values-turn : (t : List ℕ) → Filled valued places ls n t i → (s a : ℕ) → s ≡ natAbs (getD ls i (pos 0)) → a ≡ signOf (getD ls i (pos 0)) → Filled valued places ls n (set t s a) (i + 1)
+  values-turn t f s a is new =
+      let l : i < length (take n ls) = rw short h in
+      let word = rw written-at at (all-named (limits .variables) (take n ls) (w .named) .at i l) in
+      let fresh = rw (written-at, take-take i n ls (omega arith)) at (fresh-at (take n ls) (w .once) i l) in
+      turn valued places ls n t i f h (w .room) s a (written-placed s is)
+      (rw is (new ∙ value-new (limits .variables) (take i ls) (getD ls i (pos 0)) word fresh))
+      (λ v k. value-other (take i ls) (getD ls i (pos 0)) v (λ e. k (e ∙ sym is)))
+
+-- a word's variable made true
+pub minus-true : (w : ℤ) → negative w ≡ true → negℤ w ≡ pos (natAbs w)
+minus-true (pos n) h = clash h refl
+minus-true (negsuc n) h = refl
+
+pub plus-true : (w : ℤ) → negative w ≡ false → w ≡ pos (natAbs w)
+plus-true (pos n) h = refl
+plus-true (negsuc n) h = clash refl h
+
+-- what the words say of a place
+abbrev pub occurs : List ℤ → ℕ → ℕ
+occurs xs at = cond (mem (wordAt at) xs) 1 0
+
+occurs-new : (xs : List ℤ) (w : ℤ) → natAbs w ≤ limits .variables → 1 ≡ occurs (xs ++ w ∷ []) (placeOf w)
+occurs-new xs w h = rw (word-place w h, mem-here xs w)
+
+occurs-other : (xs : List ℤ) (w : ℤ) (at : ℕ) → (at ≡ placeOf w → ⊥) → occurs (xs ++ w ∷ []) at ≡ occurs xs at
+occurs-other xs w at k = rw (mem-other (wordAt at) xs w (eqZ-ne (λ e. k (sym (place-word at) ∙ ap placeOf e))))
+
+-- ---- the loop
+pub occurring-begin : (ws : List ℤ) → Filled occurs literalPlaces ws (length ws) (replicate literalPlaces 0) 0
+unfolding mem
+occurring-begin ws = begin occurs literalPlaces ws (length ws) (λ at. refl)
+
+module _ (ws : List ℤ) (named : Known ws) (i : ℕ) (h : i < length ws) where
+  pub word-small : natAbs (getD ws i (pos 0)) ≤ limits .variables
+  word-small = all-named (limits .variables) ws named .at i h .most
+
+  module _ (s : ℕ) (is : s ≡ placeOf (getD ws i (pos 0))) where
+    pub occurring-placed : s < literalPlaces
+    occurring-placed = omega (arith, variables-are, place-within (getD ws i (pos 0)) word-small)
+
+    pub occurring-turn : (t : List ℕ) → Filled occurs literalPlaces ws (length ws) t i → Filled occurs literalPlaces ws (length ws) (set t s 1) (i + 1)
+    occurring-turn t f =
+        turn occurs literalPlaces ws (length ws) t i f h (le-refl (length ws)) s 1 occurring-placed
+        (rw is (occurs-new (take i ws) (getD ws i (pos 0)) word-small))
+        (λ at k. occurs-other (take i ws) (getD ws i (pos 0)) at (λ e. k (e ∙ sym is)))

@@ -18,5 +18,4 @@ pub mod Occurs
 pub mod ClausesMean
 pub mod ClausesReady
 -- checked input
-pub mod Kept
 pub mod Accepted

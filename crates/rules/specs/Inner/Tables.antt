@@ -23,13 +23,13 @@ abbrev pub signOf : ℤ → ℕ
 signOf (pos n) = 1
 signOf (negsuc n) = 2
 
--- the value of a variable: 0 unassigned, 1 true, 2 false
-abbrev pub valueOf : Assignment → ℕ → ℕ
-valueOf ρ v = cond (ρ (pos v)) 1 (cond (ρ (negℤ (pos v))) 2 0)
+-- what a table of values holds for a variable: 0 unassigned, 1 true, 2 false
+abbrev pub valueIn : Assignment → ℕ → ℕ
+valueIn ρ v = cond (ρ (pos v)) 1 (cond (ρ (negℤ (pos v))) 2 0)
 
 -- each table, at every variable
 abbrev pub Values : Assignment → List ℕ → Type 0
-Values ρ t = (v : ℕ) → getD t v 0 ≡ valueOf ρ v
+Values ρ t = (v : ℕ) → getD t v 0 ≡ valueIn ρ v
 
 -- of the prefix's own words: 1 existential, 2 universal
 abbrev pub Quantifiers : List ℤ → List ℕ → Type 0

@@ -24,7 +24,7 @@ use Rattle.theory.specs.Record.{Assignment, among, assigned}
 use Rattle.theory.specs.Tests.{unassignedE, unassignedU, inConflict}
 use Rattle.rules.specs.Due.{lowest, lowestUnit}
 use Rattle.rules.specs.Inner.Ready.{Bound, Ready}
-use Rattle.rules.specs.Inner.Tables.{signOf, valueOf, Values, Quantifiers, Levels}
+use Rattle.rules.specs.Inner.Tables.{signOf, valueIn, Values, Quantifiers, Levels}
 use Rattle.rules.specs.Inner.Clauses.{Placed, Clauses, levelBy, conflictBy, lowestUnitBy}
 use Rattle.rules.specs.Inner.ByLiteral.{statusBy, statusIn, Statuses, is-true, is-false, is-existential, is-universal}
 use Rattle.rules.specs.Inner.Tabled.{Consistent, Sorted, as-false, as-true, as-existential, as-universal, Sorts}
@@ -33,16 +33,16 @@ use Rattle.rules.specs.Laws.ClausesMean.{Meant, lowest-conflict-means, l
 
 -- the value of a literal's variable, against the literal's sign
 module _ (ρ : Assignment) (con : Consistent ρ) where
-  value-true : (x : ℤ) → 0 < natAbs x → ρ x ≡ true → valueOf ρ (natAbs x) ≡ signOf x
+  value-true : (x : ℤ) → 0 < natAbs x → ρ x ≡ true → valueIn ρ (natAbs x) ≡ signOf x
   value-true (pos n) z h = rw h
   value-true (negsuc n) z h = let k = to-false (ρ (pos (suc n))) (λ e. clash h (con (suc n) z e)) in rw (k, h)
 
-  value-false : (x : ℤ) → 0 < natAbs x → ρ x ≡ false → ρ (negℤ x) ≡ true → (valueOf ρ (natAbs x) ≡ 0 → ⊥) × (valueOf ρ (natAbs x) ≡ signOf x → ⊥)
+  value-false : (x : ℤ) → 0 < natAbs x → ρ x ≡ false → ρ (negℤ x) ≡ true → (valueIn ρ (natAbs x) ≡ 0 → ⊥) × (valueIn ρ (natAbs x) ≡ signOf x → ⊥)
   value-false (pos zero) z h k = clash k h
   value-false (pos (suc n)) z h k = rw (h, k) (λ e. omega arith, λ e. omega arith)
   value-false (negsuc n) z h k = rw k (λ e. omega arith, λ e. omega arith)
 
-  value-none : (x : ℤ) → ρ x ≡ false → ρ (negℤ x) ≡ false → valueOf ρ (natAbs x) ≡ 0
+  value-none : (x : ℤ) → ρ x ≡ false → ρ (negℤ x) ≡ false → valueIn ρ (natAbs x) ≡ 0
   value-none (pos n) h k = rw (h, k)
   value-none (negsuc n) h k = rw (k, h)
 
@@ -66,7 +66,7 @@ module _ (p : List ℤ) (ρ : Assignment) (values quantifiers : List ℕ) (vals 
   unfolding assigned
   sorted x same z q = go (look (ρ x)) (look (ρ (negℤ x))) (look (existential p x))
     where
-      val : getD values (natAbs x) 0 ≡ valueOf ρ (natAbs x)
+      val : getD values (natAbs x) 0 ≡ valueIn ρ (natAbs x)
       val = vals (natAbs x)
 
       signed : signOf x ≡ 0 → ⊥

@@ -28,7 +28,7 @@ use Rattle.theory.specs.Tests.{unassignedE, unassignedU, oneSign, monotone, isO
 use Rattle.theory.specs.Progress.{first-open}
 use Rattle.rules.specs.Due.{literal, onPicked, firstOf, firstMonotone, firstUnassigned}
 use Rattle.rules.specs.Preferred.{firstOpen}
-use Rattle.rules.specs.Inner.Tables.{valueOf, Values, Quantifiers, Levels, Lowest, Spread, places}
+use Rattle.rules.specs.Inner.Tables.{valueIn, Values, Quantifiers, Levels, Lowest, Spread, places}
 use Rattle.rules.specs.Inner.ByLiteral.{Occurring}
 use Rattle.rules.specs.Inner.Variables.{assignedIn, unassignedIn, signsIn, monotoneIn, lowestIn, openIn, preferredIn}
 use Rattle.rules.specs.Inner.Ready.{Bound}
@@ -48,7 +48,7 @@ module _ (ρ : Assignment) (values : List ℕ) (said : Values ρ values) where
       go false true = refl
       go false false = refl
 
-      by : (q : ℤ) → eqb (valueOf ρ (natAbs q)) 0 ≡ not (ρ q || ρ (negℤ q))
+      by : (q : ℤ) → eqb (valueIn ρ (natAbs q)) 0 ≡ not (ρ q || ρ (negℤ q))
       by (pos n) = go (ρ (pos n)) (ρ (negℤ (pos n)))
       by (negsuc n) = go (ρ (pos (suc n))) (ρ (negsuc n)) ∙ ap not (or-comm (ρ (pos (suc n))) (ρ (negsuc n)))
 

@@ -4,7 +4,7 @@ use borrow.Author.Needs.{needs}
 use Rattle.formula.specs.Formula.{prefixOf}
 use Rattle.rules.specs.Apply.{moveOf, apply}
 use Rattle.rules.specs.Laws.Records.{kept-more}
-use Rattle.rules.proofs.Exits.{cuttable, fitting}
+use Rattle.rules.proofs.Places.{cuttable, fitting}
 use Rattle.rules.proofs.applied.apply.Statement.{statement}
 use Rattle.rules.proofs.applied.apply.Tie as tie
 

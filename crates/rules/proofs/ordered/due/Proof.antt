@@ -10,8 +10,7 @@ use Rattle.rules.specs.Inner.Ready.{formula, Ready}
 use Rattle.rules.specs.Inner.Tabled.{Tabled, Sorts}
 use Rattle.rules.specs.Laws.Records.{kept-room}
 use Rattle.rules.specs.Laws.ClausesReady.{ready-clauses, conflict-ready, sorts}
-use Rattle.rules.specs.Laws.Kept.{kept-written, kept-tabled}
-use Rattle.rules.specs.Laws.Accepted.{accepted-ready, formula-is}
+use Rattle.rules.specs.Laws.Accepted.{kept-written, kept-tabled, accepted-ready, formula-is}
 use borrow.Author.Needs.{needs}
 use Rattle.rules.proofs.Filled.{bound-written, quantifiers-of}
 use Rattle.rules.proofs.ordered.due.Statement.{statement}
