@@ -44,5 +44,5 @@ returns-3 c = rw (made (c .before .before .before) ∙ c .before .state .given .
 pub apply-spec : {M : Type 1} → statement M
 apply-spec =
     tie.close
-    (tie.spec (λ c κs. search needs) move-of-requires (λ c. search needs) append-requires (λ c. search needs) flip-requires
-    (λ c. search needs) (λ c. search needs) (λ c. search needs) returns (λ c. search needs) (λ c. search needs) returns-2 returns-3)
+    (tie.spec (λ c κs. search needs) move-of-requires (λ c. search needs) append-requires (λ c. search needs) flip-requires (λ c. search needs)
+    (λ c. search needs) (λ c. search needs) returns (λ c. search needs) (λ c. search needs) returns-2 returns-3)

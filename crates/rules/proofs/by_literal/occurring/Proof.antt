@@ -15,9 +15,6 @@ Inv-loop ws table₀ i₀ table i = Filled occurs literalPlaces ws (length ws) t
 abbrev μ-loop : tie.MeasureT-loop
 μ-loop ws table₀ i₀ table i = length ws - i
 
-loop-holds : tie.Need-loop-holds Inv-loop μ-loop
-loop-holds c = occurring-begin _
-
 place-at-requires : tie.Need-place-at-requires Inv-loop μ-loop
 place-at-requires c κs = word-small _ (c .before .before .pre) _ (c .loop-test .taken)
 
@@ -37,4 +34,5 @@ returns c at = end occurs literalPlaces _ _ _ _ (c .before .loop .inv) (c .loop-
 pub occurring-spec : {M : Type 1} → statement M
 occurring-spec =
     tie.close
-    (tie.spec Inv-loop μ-loop loop-holds place-at-requires array-write-occurs (λ c. omega arith) (λ c. omega arith) loop-again returns)
+    (tie.spec Inv-loop μ-loop (λ c. occurring-begin _) place-at-requires array-write-occurs (λ c. omega arith) (λ c. omega arith) loop-again
+    returns)

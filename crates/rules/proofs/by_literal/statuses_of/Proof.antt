@@ -14,9 +14,6 @@ Inv-loop n values quantifiers statuses₀ v₀ statuses v = Stated n values quan
 abbrev μ-loop : tie.MeasureT-loop
 μ-loop n values quantifiers statuses₀ v₀ statuses v = n + 1 - v
 
-loop-holds : tie.Need-loop-holds Inv-loop μ-loop
-loop-holds c = stated-begin _ _ _
-
 loop-again : tie.Need-loop-again Inv-loop μ-loop
 loop-again c =
     let turn = c .before .before .before .before in
@@ -28,6 +25,7 @@ returns c = stated-end _ _ _ _ _ (c .before .loop .inv) (c .loop-test .left)
 pub statuses-of-spec : {M : Type 1} → statement M
 statuses-of-spec =
     tie.close
-    (tie.spec Inv-loop μ-loop loop-holds (λ c. omega (arith, variables-are)) (λ c. omega (arith, variables-are)) (λ c κs. search needs)
-    (λ c. omega (arith, variables-are)) (λ c. omega (arith, variables-are)) (λ c κs. search needs) (λ c. omega (arith, variables-are))
-    (λ c. omega (arith, variables-are)) (λ c. omega (arith, variables-are)) (λ c. omega arith) loop-again returns)
+    (tie.spec Inv-loop μ-loop (λ c. stated-begin _ _ _) (λ c. omega (arith, variables-are)) (λ c. omega (arith, variables-are))
+    (λ c κs. search needs) (λ c. omega (arith, variables-are)) (λ c. omega (arith, variables-are)) (λ c κs. search needs)
+    (λ c. omega (arith, variables-are)) (λ c. omega (arith, variables-are)) (λ c. omega (arith, variables-are)) (λ c. omega arith) loop-again
+    returns)

@@ -20,12 +20,6 @@ Inv-loop clause statuses i₀ i =
 abbrev μ-loop : tie.MeasureT-loop
 μ-loop clause statuses i₀ i = length clause - i
 
-loop-holds : tie.Need-loop-holds Inv-loop μ-loop
-loop-holds c = (omega arith, refl)
-
-status-at-requires : tie.Need-status-at-requires Inv-loop μ-loop
-status-at-requires c κs = c .before .before .pre (c .before .loop .i)
-
 returns : tie.Need-returns Inv-loop μ-loop
 unfolding conflictBy
 returns c =
@@ -51,4 +45,5 @@ returns-3 c = ap not (sym (any-ended _ _ (c .before .loop .i) (c .loop-test .lef
 pub in-conflict-spec : {M : Type 1} → statement M
 in-conflict-spec =
     tie.close
-    (tie.spec Inv-loop μ-loop loop-holds status-at-requires returns returns-2 (λ c. search needs) (λ c. search needs) loop-again returns-3)
+    (tie.spec Inv-loop μ-loop (λ c. (omega arith, refl)) (λ c κs. c .before .before .pre (c .before .loop .i)) returns returns-2
+    (λ c. search needs) (λ c. search needs) loop-again returns-3)

@@ -27,12 +27,6 @@ module _ (c : tie.After-literals) where
   whole : formulaOf (start .args .block .now) ≡ formula (now (c .before .before .prefix .result)) (now (c .before .ends .result)) (now (c .literals .result))
   whole = formula-is (start .args .block .now) (c .before .before .prefix .ensures) (c .before .ends .ensures) (c .literals .ensures)
 
-values-of-requires : tie.Need-values-of-requires
-values-of-requires c κs = kept-written _ _ _ (start c .pre .kept)
-
-values-of-requires-2 : tie.Need-values-of-requires-2
-values-of-requires-2 c κs = bound-written (parts (c .before) .prefix)
-
 statuses-of-requires : tie.Need-statuses-of-requires
 statuses-of-requires c κs = parts (c .before .before .before .before) .prefix .room
 
@@ -81,5 +75,6 @@ returns-2 c =
 pub due-spec : {M : Type 1} → statement M
 due-spec =
     tie.close
-    (tie.spec (λ c κs. search needs) (λ c κs. search needs) (λ c κs. search needs) values-of-requires values-of-requires-2 statuses-of-requires
-    lowest-conflict-requires (λ c. search needs) due-conflict-requires (λ c. search needs) due-unit-requires returns returns-2)
+    (tie.spec (λ c κs. search needs) (λ c κs. search needs) (λ c κs. search needs) (λ c κs. kept-written _ _ _ (start c .pre .kept))
+    (λ c κs. bound-written (parts (c .before) .prefix)) statuses-of-requires lowest-conflict-requires (λ c. search needs) due-conflict-requires
+    (λ c. search needs) due-unit-requires returns returns-2)

@@ -11,9 +11,6 @@ use Rattle.rules.specs.Laws.Occurs.{ready-named, ready-spread}
 use Rattle.rules.proofs.ordered.due_monotone.Statement.{statement}
 use Rattle.rules.proofs.ordered.due_monotone.Tie as tie
 
-occurring-requires : tie.Need-occurring-requires
-occurring-requires c κs = ready-named _ _ _ (c .before .pre .0)
-
 -- the search is the definition's
 module _ (c : tie.After-first-monotone) where
   abbrev start : tie.Start
@@ -31,4 +28,5 @@ returns-2 c r told = rw (← search-is (c .before .before .before) r (told .valu
 pub due-monotone-spec : {M : Type 1} → statement M
 due-monotone-spec =
     tie.close
-    (tie.spec occurring-requires (λ c κs. search needs) (λ c. search needs) (λ c. search needs) (λ c κs. search needs) returns returns-2)
+    (tie.spec (λ c κs. ready-named _ _ _ (c .before .pre .0)) (λ c κs. search needs) (λ c. search needs) (λ c. search needs)
+    (λ c κs. search needs) returns returns-2)

@@ -14,9 +14,6 @@ Inv-loop prefix lits kinds count quantifiers i₀ i = Looked prefix (trail lits 
 abbrev μ-loop : tie.MeasureT-loop
 μ-loop prefix lits kinds count quantifiers i₀ i = count - i
 
-loop-holds : tie.Need-loop-holds Inv-loop μ-loop
-loop-holds c = kinds-begin _ _ _ (c .before .before .pre)
-
 array-read-wrong-kind : tie.Need-array-read-wrong-kind Inv-loop μ-loop
 array-read-wrong-kind c =
     let sized = c .before in
@@ -43,5 +40,6 @@ returns-2 c = kinds-end _ _ _ (c .before .before .before .before .pre) _ (c .bef
 pub bad-kinds-spec : {M : Type 1} → statement M
 bad-kinds-spec =
     tie.close
-    (tie.spec Inv-loop μ-loop (λ c κs. bound-written (c .before .pre .prefix)) loop-holds (λ c κs. search needs) (λ c. search needs) array-read-wrong-kind
-    (λ c κs. search needs) returns (λ c. omega arith) (λ c. omega arith) loop-again returns-2)
+    (tie.spec Inv-loop μ-loop (λ c κs. bound-written (c .before .pre .prefix)) (λ c. kinds-begin _ _ _ (c .before .before .pre))
+    (λ c κs. search needs) (λ c. search needs) array-read-wrong-kind (λ c κs. search needs) returns (λ c. omega arith) (λ c. omega arith)
+    loop-again returns-2)

@@ -13,9 +13,6 @@ Inv-loop lits count values₀ i₀ values i = Filled valued places lits count va
 abbrev μ-loop : tie.MeasureT-loop
 μ-loop lits count values₀ i₀ values i = count - i
 
-loop-holds : tie.Need-loop-holds Inv-loop μ-loop
-loop-holds c = values-begin _ _
-
 array-write-values : tie.Need-array-write-values Inv-loop μ-loop
 array-write-values c =
     let turn = c .before .before in
@@ -32,5 +29,5 @@ returns c = end valued places _ _ _ _ (c .before .loop .inv) (c .loop-test .left
 pub values-of-spec : {M : Type 1} → statement M
 values-of-spec =
     tie.close
-    (tie.spec Inv-loop μ-loop loop-holds (λ c κs. search needs) (λ c κs. search needs) array-write-values (λ c. omega arith) (λ c. omega arith)
-    loop-again returns)
+    (tie.spec Inv-loop μ-loop (λ c. values-begin _ _) (λ c κs. search needs) (λ c κs. search needs) array-write-values (λ c. omega arith)
+    (λ c. omega arith) loop-again returns)
