@@ -2,7 +2,6 @@
 
 -- the tables; a loop that looks for the first; the walk over the clauses, and the look at one
 pub mod Filled
-pub mod Statuses
 pub mod Levels
 pub mod First
 pub mod Walk

@@ -25,7 +25,7 @@ use Rattle.rules.specs.Search.{search}
 use Rattle.rules.specs.Due.{literal}
 use Rattle.rules.specs.Apply.{flip, kindOf, chosen, moveOf}
 use Rattle.rules.specs.Inner.Tables.{Quantifiers}
-use Rattle.rules.specs.Inner.Ready.{Bound, Kept, Moves, Fitting}
+use Rattle.rules.specs.Inner.Ready.{Bound, Kept, MoveFits, Fitting}
 use Rattle.rules.specs.Laws.VariablesMean.{quantifier-in}
 use Rattle.rules.specs.Laws.Records.{kept-room, kept-named}
 use Rattle.rules.specs.declared.rule.State.the-variants.{Open}
@@ -93,7 +93,7 @@ pub kind-by : (p : List ℤ) → Bound p → (l : ℤ) (t : List ℕ) → Quanti
 kind-by p b l t said v is = rw (is, quantifier-in p b t said l)
 
 -- whatever the proposal, a rule that fits makes a move that does
-pub fitting : (p : List ℤ) (n : ℕ) (rule : Rule) (l : ℤ) → Fitting p n rule → Moves p n (moveOf p rule l)
+pub fitting : (p : List ℤ) (n : ℕ) (rule : Rule) (l : ℤ) → Fitting p n rule → MoveFits p n (moveOf p rule l)
 fitting p n (BacktrackExists i c) l h = h
 fitting p n (Fail c) l h = h
 fitting p n (Unit x c) l h = h

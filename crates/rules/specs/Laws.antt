@@ -14,7 +14,6 @@ pub mod Steps
 pub mod Untouched
 -- the searches and the tests of a clause over the tables
 pub mod VariablesMean
-pub mod Occurs
 pub mod ClausesMean
 pub mod ClausesReady
 -- checked input

@@ -19,12 +19,7 @@ pub record Cuttable (i n : ℕ) (t : Trail) : Type 0 where
   pub room : Room n t
   pub small : natAbs (getD (t .lits) i (pos 0)) ≤ 2147483647
 
--- buffers that row 12 can be asked of: rows 1 to 11 have passed
-pub record Lent (p : List ℤ) (t : Trail) : Type 0 where
-  pub prefix : Bound p
-  pub room : Room (length p) t
-
--- and then those whose kinds can be looked at: the record's words name variables of the prefix
+-- buffers whose kinds can be looked at: the record's words name variables of the prefix
 pub record KindsLent (p : List ℤ) (t : Trail) (n : ℕ) : Type 0 where
   pub prefix : Bound p
   pub room : Room n t

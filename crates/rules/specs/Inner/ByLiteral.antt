@@ -6,7 +6,6 @@ use mathlib.Core.List.{List}
 use lib.Dec.{eqb}
 use lib.IntN.{ℤ, natAbs}
 use lib.ListN.{getD}
-use borrow.Author.Tests.{eq-eqb, ne-eqb}
 use Rattle.words.specs.Words.{mem}
 use Rattle.formula.specs.Places.{placeOf, wordAt}
 use Rattle.rules.specs.Inner.Tables.{signOf}
@@ -30,23 +29,3 @@ statusIn statuses x = getD statuses (placeOf x) 0
 -- the two say the same of the literals of the variables 1 to n
 abbrev pub Statuses : ℕ → List ℕ → List ℕ → List ℕ → Type 0
 Statuses n values quantifiers statuses = (x : ℤ) → 0 < natAbs x → natAbs x ≤ n → statusIn statuses x ≡ statusBy values quantifiers x
-
--- ---- laws of the status: what each of its tests leaves
-module _ (values quantifiers : List ℕ) (x : ℤ) where
-  module _ (z : getD values (natAbs x) 0 ≡ 0) where
-    pub is-existential : (getD quantifiers (natAbs x) 0 ≡ 2 → ⊥) → 2 ≡ statusBy values quantifiers x
-    unfolding statusBy
-    is-existential u = rw (eq-eqb _ _ z, ne-eqb _ _ u)
-
-    pub is-universal : getD quantifiers (natAbs x) 0 ≡ 2 → 3 ≡ statusBy values quantifiers x
-    unfolding statusBy
-    is-universal u = rw (eq-eqb _ _ z, eq-eqb _ _ u)
-
-  module _ (z : getD values (natAbs x) 0 ≡ 0 → ⊥) where
-    pub is-true : getD values (natAbs x) 0 ≡ signOf x → 1 ≡ statusBy values quantifiers x
-    unfolding statusBy
-    is-true h = rw (ne-eqb _ _ z, eq-eqb _ _ h)
-
-    pub is-false : (getD values (natAbs x) 0 ≡ signOf x → ⊥) → 0 ≡ statusBy values quantifiers x
-    unfolding statusBy
-    is-false h = rw (ne-eqb _ _ z, ne-eqb _ _ h)

@@ -45,7 +45,7 @@ module _ (c : tie.After-statuses) where
   told = kept-tabled _ _ _ (start cut .pre .kept) _ (c .before .before .before .before .before .values-of .ensures)
 
   sorting : Sorts (now (cut .before .before .prefix .result)) (trueIn record·of) (c .before .statuses-of .result)
-  sorting = sorts _ (parts cut .prefix) _ _ (c .before .before .before .before .values-of2 .result) (c .before .statuses-of .result) (told .values) (quantifiers-of _ (c .before .before .before .before .values-of2 .result) (c .before .before .before .before .values-of2 .ensures)) (told .consistent) (c .before .statuses-of .ensures)
+  sorting = sorts _ (parts cut .prefix) _ _ (c .before .before .before .before .values-of2 .result) (told .values) (quantifiers-of _ (c .before .before .before .before .values-of2 .result) (c .before .before .before .before .values-of2 .ensures)) (told .consistent) (c .before .statuses-of .result) (c .before .statuses-of .ensures)
 
 due-conflict-requires : tie.Need-due-conflict-requires
 due-conflict-requires c κs = kept-room (start (cut (c .before .before .before .before)) .pre .kept) .kinds

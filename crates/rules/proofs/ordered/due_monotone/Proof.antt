@@ -7,7 +7,7 @@ use Rattle.theory.specs.Record.{Record, trueIn}
 use Rattle.rules.specs.Due.{firstMonotone}
 use Rattle.rules.specs.Inner.Tables.{Values}
 use Rattle.rules.specs.Laws.VariablesMean.{monotone-means}
-use Rattle.rules.specs.Laws.Occurs.{ready-named, ready-spread}
+use Rattle.rules.specs.Laws.ClausesReady.{ready-named, ready-spread}
 use Rattle.rules.proofs.ordered.due_monotone.Statement.{statement}
 use Rattle.rules.proofs.ordered.due_monotone.Tie as tie
 
