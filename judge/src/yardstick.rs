@@ -87,14 +87,17 @@ struct Parts<'a> {
 impl<'a> Parts<'a> {
     /// The check, refusals 1 to 10.
     fn of(block: &'a [i32]) -> Result<Parts<'a>, u8> {
-        let &[v, c, t, prefix_at, ends_at, words_at, ref rest @ ..] = block else {
-            return Err(1);
+        let ([v, c, t], offsets, rest) = match *block {
+            [v, c, t, prefix, ends, words, ref rest @ ..] => {
+                ([v, c, t], [prefix, ends, words], rest)
+            }
+            _ => return Err(1),
         };
         let counts = [v, c, t].map(i64::from);
         if (0..3).any(|i| counts[i] < 0 || counts[i] > LIMITS[i]) {
             return Err(2);
         }
-        if [prefix_at, ends_at, words_at] != [6, 6 + v, 6 + v + c] {
+        if offsets != [6, 6 + v, 6 + v + c] {
             return Err(3);
         }
         let (v, c, t) = (v as usize, c as usize, t as usize);
@@ -394,9 +397,12 @@ impl Search<'_> {
     /// no such entry the session ends and the record stays.
     fn turn(&mut self, kind: u8, end: u8) {
         let record = &self.kinds[..self.length];
-        let Some(place) = record.iter().rposition(|&other| other == kind) else {
-            self.state = end;
-            return;
+        let place = match record.iter().rposition(|&other| other == kind) {
+            Some(place) => place,
+            None => {
+                self.state = end;
+                return;
+            }
         };
         let opposite = -self.literals[place];
         for cut in place..self.length {

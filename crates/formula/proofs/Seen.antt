@@ -10,11 +10,12 @@ use lib.IntN.{ℤ, pos, natAbs}
 use lib.ListN.{length, drop, getD, set, replicate, length-set, length-replicate}
 use lib.Seq.{getD-set-same, getD-set-other}
 use borrow.Author.Tests.{eq-eqb, ne-eqb, lt-ltb, le-ltb}
-use Rattle.words.specs.Bools.{or-l, or-r}
-use Rattle.words.specs.Lists.{any, any-i, any-past, in-at, next, ended, blank}
+use Rattle.words.specs.Laws.Bools.{or-l, or-r}
+use Rattle.words.specs.Lists.{any}
+use Rattle.words.specs.Laws.Lists.{any-i, any-past, in-at, next, ended, blank}
 use Rattle.formula.specs.Block.{names, twice}
-use Rattle.formula.specs.Once.{twice-drop, twice-at}
-use Rattle.formula.specs.Tables.{repeated}
+use Rattle.formula.specs.Laws.Once.{twice-drop, twice-at}
+use Rattle.formula.specs.Inner.Tables.{repeated}
 
 -- a word of size over n
 abbrev over : ℕ → ℤ → Bool

@@ -14,8 +14,8 @@ use Rattle.words.specs.Words.{negative}
 use Rattle.formula.specs.Limits.{Limits}
 use Rattle.formula.specs.Formula.{word, variablesOf, clauseCountOf, literalCountOf, prefixOf, endsOf, literalsOf}
 use Rattle.formula.specs.Block.{rows}
-use Rattle.formula.specs.Layout.{prefix-last, prefix-length, literals-length}
-use Rattle.formula.specs.Tables.{partRows}
+use Rattle.formula.specs.Laws.Layout.{prefix-last, prefix-length, literals-length}
+use Rattle.formula.specs.Inner.Tables.{partRows}
 
 -- the last of as many words as there are variables
 last : (b : List ℤ) → negative (getD (prefixOf b) (variablesOf b - 1) (pos 0)) ≡ ltb 0 (variablesOf b) && negative (word b (5 + variablesOf b))

@@ -1,10 +1,11 @@
--- Which number a refused block is given: "The block check gives 1 to 10", each exactly when the table says.
+-- [demand.1.number] Which number a refused block is given: 1 to 10, each exactly when the table says.
 use mathlib.Core.Path.{refl}
 use mathlib.Core.List.{List, [], _∷_}
 use Prim.Native.Nat.{ℕ}
 use lib.IntN.{ℤ}
 use Rattle.words.specs.Lists.{In}
-use Rattle.words.specs.Rows.{Numbered, numbered, given}
+use Rattle.words.specs.Rows.{Numbered}
+use Rattle.words.specs.Laws.Rows.{numbered, given}
 use Rattle.formula.specs.Limits.{Limits}
 use Rattle.formula.specs.Block.{rows, refusal}
 

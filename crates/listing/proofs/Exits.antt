@@ -1,44 +1,41 @@
 -- A page's loop, and the ways out of it and of a page: one law for each, from the facts on that path.
-use Prim.Native.Nat.{ℕ, zero, suc, _+_, _*_, _-_, _^_, _≤_, _<_}
-use mathlib.Core.Path.{_≡_, refl, sym, _∙_, ap}
+use Prim.Native.Nat.{ℕ, _+_, _*_, _-_, _^_, _≤_, _<_}
+use mathlib.Core.Path.{_≡_, sym, _∙_, ap}
 use mathlib.Core.Bool.{true, false}
 use mathlib.Core.List.{List}
 use native.Mathlib.Omega.{arith}
 use lib.IntN.{ℤ}
-use lib.ListN.{length, take, drop}
+use lib.ListN.{length}
 use lib.Pow.{pow-mono}
 use Rattle.formula.specs.Formula.{formulaOf, variablesOf, prefixOf, firstGroup}
-use Rattle.rules.specs.declared.State.the-variants.{Open, Valid, Unsat}
-use Rattle.rules.specs.declared.Reached.{Reached}
-use Rattle.rules.specs.Apply.{reached}
-use Rattle.rules.specs.Ready.{Bound}
-use Rattle.rules.specs.Buffers.{Room, Wiped}
-use Rattle.session.specs.Accepted.{prefix-length, accepted-bound}
-use Rattle.formula.specs.Layout.{prefix-lent}
+use Rattle.rules.specs.declared.rule.State.the-variants.{Open, Valid, Unsat}
+use Rattle.rules.specs.declared.rule.Reached.{Reached}
+use Rattle.rules.specs.Search.{reached}
+use Rattle.rules.specs.Inner.Ready.{Bound, Room}
 use Rattle.listing.specs.declared.Paged.{Paged}
 use Rattle.listing.specs.declared.Paged.the-variants.{Page, Refused}
-use Rattle.listing.specs.Opening.{searchOf}
-use Rattle.listing.specs.Page.{openings, written, pageRefusal, pageOutcome, turned, pageOf}
+use Rattle.listing.specs.Opening.{openingSearch}
+use Rattle.listing.specs.Page.{openings, written, pageRefusal, pageOf, sheetOf, PageMemory, paged}
 use Rattle.listing.specs.Rows.{PageGuarded, page-guarded}
-use Rattle.listing.specs.Refused.{page-refused, sheetOf, page-accepted}
-use Rattle.listing.specs.Loop.{Turning, turning, exit-end, exit-full, exit-paused, goes-won, goes-lost}
-use Rattle.listing.specs.Checked.{OnGroup, OnPage, wipedOutcome}
+use Rattle.listing.specs.Refused.{page-accepted}
+use Rattle.listing.specs.Laws.Rounds.{exit-end, exit-full, exit-paused, goes-won, goes-lost, Round, begun}
+use Rattle.listing.specs.Inner.Pages.{OnGroup, OnPage, wipedOutcome}
+use Rattle.rules.specs.Trail.{Trail, wipedTrail}
+use Rattle.words.specs.Outcomes.{outcome, unless-number}
+use Rattle.formula.specs.Limits.{limits}
+use Rattle.rules.specs.Laws.Accepted.{accepted-bound, prefix-length}
 
 -- ---- a page that passes its rows
-module _ {b ls : List ℤ} {ks : List ℕ} {k start : ℕ} {out : List ℕ} (o : OnPage b ls ks k start out) where
+module _ {b : List ℤ} {m : PageMemory} {k start : ℕ} (o : OnPage b m k start) where
   bound : Bound (formulaOf b .prefix)
   unfolding formulaOf
   bound = accepted-bound b (o .guard .block)
 
-  lits-room : length (formulaOf b .prefix) ≤ length ls
+  lent : Room (length (formulaOf b .prefix)) (m .work)
   unfolding formulaOf
-  lits-room = o .guard .lits-room
+  lent = o .guard .lent
 
-  kinds-room : length (formulaOf b .prefix) ≤ length ks
-  unfolding formulaOf
-  kinds-room = o .guard .kinds-room
-
-  pub narrow : k ≤ 16
+  pub narrow : k ≤ limits .group
   narrow = rw (o .group) (o .guard .narrow)
 
   -- its loop goes to `total`, the number of its openings
@@ -47,81 +44,67 @@ module _ {b ls : List ℤ} {ks : List ℕ} {k start : ℕ} {out : List ℕ} (o :
     unfolding formulaOf
     all = t ∙ ap (λ n. 2 ^ n) (o .group)
 
-    few : total ≤ 65536
-    few = let m : 2 ^ k ≤ 2 ^ 16 = pow-mono narrow in omega arith
-
-    pub begins : (preferred : List ℤ) (budget : ℕ) → Turning (formulaOf b) ls ks preferred budget total start out start 0 ls ks out
+    pub begins : (preferred : List ℤ) (budget : ℕ) → Round (formulaOf b) (m .work) preferred budget total start (m .output) start 0 (m .work) (m .output)
     unfolding formulaOf
-    begins preferred budget = turning (formulaOf b) ls ks preferred budget total start out (rw all (o .guard .inside))
+    begins preferred budget = begun (formulaOf b) (m .work) preferred budget total start (m .output) (rw all (o .guard .inside))
 
-    module _ {preferred : List ℤ} {budget n e : ℕ} {ls′ : List ℤ} {ks′ out′ : List ℕ} (s : Turning (formulaOf b) ls ks preferred budget total start out n e ls′ ks′ out′) where
-      pub few-entries : e ≤ 65536
-      few-entries = omega (arith, s .few, s .inside, few)
+    module _ {preferred : List ℤ} {budget n e : ℕ} {work′ : Trail} {out′ : List ℕ} (s : Round (formulaOf b) (m .work) preferred budget total start (m .output) n e work′ out′) where
+      pub few-entries : e ≤ 2 ^ limits .group
+      few-entries = let p : 2 ^ k ≤ 2 ^ limits .group = pow-mono narrow in omega (arith, s .few, s .inside)
 
       -- the buffers are as long as they were
-      pub still-on : OnGroup b ls′ ks′ k
+      pub still-on : OnGroup b work′ k
       still-on =
-          let x = s .aside .lits .long in
-          let y = s .aside .kinds .long in
+          let x = s .beyond .lits .long in
+          let y = s .beyond .kinds .long in
+          let v = prefix-length b (o .guard .block) in
           record {
-            on = record {
-              block = o .guard .block;
-              lent = record {
-                prefix = accepted-bound b (o .guard .block);
-                room = record { lits = omega (arith, o .guard .lits-room); kinds = omega (arith, o .guard .kinds-room) };
-              };
-            };
+            on = record { block = o .guard .block; room = record { lits = omega (arith, o .guard .lent .lits); kinds = omega (arith, o .guard .lent .kinds) } };
             group = o .group;
             narrow = narrow;
           }
 
-      pub ends : total ≤ n → {a : Paged} → a ≡ Page n e false → wipedOutcome (formulaOf b) a ls′ ks′ out′ ≡ turned (formulaOf b) ls ks (sheetOf b ls ks start preferred budget out)
-      ends h q = rw (q, ← all) (exit-end (formulaOf b) ls ks preferred budget total start out lits-room kinds-room n e ls′ ks′ out′ s h)
+      -- what the page answers and leaves, once the work record is wiped
+      abbrev Left : Paged → Trail → Type 0
+      Left a u = wipedOutcome (formulaOf b) a (record { work = u; output = out′ }) ≡ paged (formulaOf b) (m .work) (sheetOf (formulaOf b) m start preferred budget)
+
+      pub ends : total ≤ n → {a : Paged} → a ≡ Page n e false → Left a work′
+      ends h q = rw (q, ← all) (exit-end (formulaOf b) (m .work) preferred budget total start (m .output) lent n e work′ out′ s h)
 
       module _ (h : n < total) where
-        pub full : length out′ < 2 * e + 2 → {a : Paged} → a ≡ Page n e false → wipedOutcome (formulaOf b) a ls′ ks′ out′ ≡ turned (formulaOf b) ls ks (sheetOf b ls ks start preferred budget out)
-        full r q = rw (q, ← all) (exit-full (formulaOf b) ls ks preferred budget total start out lits-room kinds-room n e ls′ ks′ out′ s h r)
+        pub full : length out′ < 2 * e + 2 → {a : Paged} → a ≡ Page n e false → Left a work′
+        full r q = rw (q, ← all) (exit-full (formulaOf b) (m .work) preferred budget total start (m .output) lent n e work′ out′ s h r)
 
         -- there is room, and the opening n is searched
-        module _ (room : 2 * e + 2 ≤ length out′) {r : Reached} {ls″ : List ℤ} {ks″ : List ℕ} (f : reached r ls″ ks″ ≡ searchOf (formulaOf b) preferred budget ls′ ks′ n) where
-          pub pauses : r .state ≡ Open → {a : Paged} → a ≡ Page n e true → wipedOutcome (formulaOf b) a ls″ ks″ out′ ≡ turned (formulaOf b) ls ks (sheetOf b ls ks start preferred budget out)
-          pauses z q = rw (q, ← all) (rw (← f) at (exit-paused (formulaOf b) ls ks preferred budget total start out lits-room kinds-room n e ls′ ks′ out′ s h bound room (rw (← f) z)))
+        module _ (room : 2 * e + 2 ≤ length out′) {r : Reached} {work″ : Trail} (f : reached r work″ ≡ openingSearch (formulaOf b) preferred budget work′ n) where
+          pub pauses : r .state ≡ Open → {a : Paged} → a ≡ Page n e true → Left a work″
+          pauses z q = rw (q, ← all) (rw (← f) at (exit-paused (formulaOf b) (m .work) preferred budget total start (m .output) lent n e work′ out′ s h bound room (rw (← f) z)))
 
-          pub wins : r .state ≡ Valid → {out″ : List ℕ} → out″ ≡ written n e out′ → Turning (formulaOf b) ls ks preferred budget total start out (n + 1) (e + 1) ls″ ks″ out″
-          wins z w = rw (← f, ← w) at (goes-won (formulaOf b) ls ks preferred budget total start out lits-room kinds-room n e ls′ ks′ out′ s h bound room (rw (← f) z))
+          pub wins : r .state ≡ Valid → {out″ : List ℕ} → out″ ≡ written n e out′ → Round (formulaOf b) (m .work) preferred budget total start (m .output) (n + 1) (e + 1) work″ out″
+          wins z w = rw (← f, ← w) at (goes-won (formulaOf b) (m .work) preferred budget total start (m .output) lent n e work′ out′ s h bound room (rw (← f) z))
 
-          pub loses : r .state ≡ Unsat → Turning (formulaOf b) ls ks preferred budget total start out (n + 1) e ls″ ks″ out′
-          loses z = rw (← f) at (goes-lost (formulaOf b) ls ks preferred budget total start out lits-room kinds-room n e ls′ ks′ out′ s h bound room (rw (← f) z))
+          pub loses : r .state ≡ Unsat → Round (formulaOf b) (m .work) preferred budget total start (m .output) (n + 1) e work″ out′
+          loses z = rw (← f) at (goes-lost (formulaOf b) (m .work) preferred budget total start (m .output) lent n e work′ out′ s h bound room (rw (← f) z))
 
 -- ---- a page
-module _ (b ls : List ℤ) (ks : List ℕ) (start : ℕ) (out : List ℕ) {r : ℕ} (e : r ≡ pageRefusal b ls ks start out) where
+module _ (b : List ℤ) (m : PageMemory) (start : ℕ) {r : ℕ} (e : r ≡ pageRefusal b m start) where
   -- a number other than 0 is answered, and nothing is written
-  pub refuses : (preferred : List ℤ) (budget : ℕ) → (r ≡ 0 → ⊥) → pageOutcome (Refused r) ls ks out ≡ pageOf b ls ks start preferred budget out
-  refuses preferred budget f = go r e f
-    where
-      go : (m : ℕ) → m ≡ pageRefusal b ls ks start out → (m ≡ 0 → ⊥) → pageOutcome (Refused m) ls ks out ≡ pageOf b ls ks start preferred budget out
-      go zero q f = absurd (f refl)
-      go (suc m) q f = sym (page-refused b ls ks start preferred budget out m (sym q))
+  pub refuses : (preferred : List ℤ) (budget : ℕ) → (r ≡ 0 → ⊥) → outcome (Refused r) m ≡ pageOf b m start preferred budget
+  unfolding pageOf
+  refuses preferred budget f = rw (← e) (unless-number Refused r m _ f)
 
   module _ (z : r ≡ 0) where
-    pub passed : PageGuarded b ls ks start out
-    passed = page-guarded b ls ks start out (sym e ∙ z)
+    passed : PageGuarded b m start
+    passed = page-guarded b m start (sym e ∙ z)
 
-    module _ {v : ℕ} (is : v ≡ variablesOf b) where
-      pub on-page : {k : ℕ} → k ≡ firstGroup (take (6 + v - 6) (drop 6 b)) → OnPage b ls ks k start out
-      on-page q = record { guard = passed; group = q ∙ ap firstGroup (prefix-lent b (ap (λ n. 6 + n) is)) }
+    pub on-page : {p : List ℤ} → p ≡ prefixOf b → {k : ℕ} → k ≡ firstGroup p → OnPage b m k start
+    on-page is q = record { guard = passed; group = q ∙ ap firstGroup is }
 
-      module _ {ls′ : List ℤ} {ks′ : List ℕ} where
-        pub still-room : length ls′ ≡ length ls → length ks′ ≡ length ks → Room v ls′ ks′
-        still-room x y =
-            let n = prefix-length b (passed .block) in
-            record { lits = omega (arith, passed .lits-room); kinds = omega (arith, passed .kinds-room) }
-
-        -- the first V places are wiped at the end
-        pub cleans : (preferred : List ℤ) (budget : ℕ) {a : Paged} {out′ : List ℕ} {ls″ : List ℤ} {ks″ : List ℕ}
-            → wipedOutcome (formulaOf b) a ls′ ks′ out′ ≡ turned (formulaOf b) ls ks (sheetOf b ls ks start preferred budget out)
-            → Wiped 0 v ls′ ks′ ls″ ks″ → pageOutcome a ls″ ks″ out′ ≡ pageOf b ls ks start preferred budget out
-        unfolding formulaOf
-        cleans preferred budget {a} {out′} f w =
-            let n : length (prefixOf b) ≡ v = prefix-length b (passed .block) ∙ sym is in
-            rw (w .lits, w .kinds, ← n) (f ∙ sym (page-accepted b ls ks start preferred budget out (sym e ∙ z)))
+    -- the first V places are wiped at the end
+    pub cleans : {v : ℕ} → v ≡ variablesOf b → (preferred : List ℤ) (budget : ℕ) {a : Paged} (m′ : PageMemory) {work″ : Trail}
+        → wipedOutcome (formulaOf b) a m′ ≡ paged (formulaOf b) (m .work) (sheetOf (formulaOf b) m start preferred budget)
+        → work″ ≡ wipedTrail (m′ .work) 0 v → outcome a (record { work = work″; output = m′ .output }) ≡ pageOf b m start preferred budget
+    unfolding formulaOf
+    cleans {v} is preferred budget {a} m′ f w =
+        let n : length (prefixOf b) ≡ v = prefix-length b (passed .block) ∙ sym is in
+        rw (w, ← n) (f ∙ sym (page-accepted b m start preferred budget (sym e ∙ z)))

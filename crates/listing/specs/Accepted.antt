@@ -6,42 +6,43 @@ use mathlib.Core.Logic.{_↔_, inl, inr}
 use mathlib.Core.Bool.{Bool, true, false}
 use mathlib.Core.List.{List, _++_, append-nil}
 use native.Mathlib.Omega.{arith}
-use lib.IntN.{ℤ, pos}
-use lib.ListN.{length, getD, take, drop}
-use Rattle.words.specs.Bools.{clash, look}
+use lib.IntN.{ℤ}
+use lib.ListN.{length, take, drop}
+use Rattle.words.specs.Laws.Bools.{clash, look}
 use Rattle.formula.specs.Formula.{Formula, formulaOf, variablesOf, prefixOf, firstGroup}
 use Rattle.formula.specs.Proper.{Proper}
-use Rattle.rules.specs.declared.State.the-variants.{Open}
-use Rattle.rules.specs.Apply.{wiped}
-use Rattle.rules.specs.Ready.{Bound}
-use Rattle.rules.specs.Written.{wiped-inside}
-use Rattle.session.specs.Accepted.{prefix-length, accepted-bound, accepted-proper}
+use Rattle.rules.specs.declared.rule.State.the-variants.{Open}
+use Rattle.rules.specs.Trail.{Trail, wipedTrail}
+use Rattle.rules.specs.Inner.Ready.{Bound, Room}
 use Rattle.listing.specs.declared.Paged.the-variants.{Page}
-use Rattle.listing.specs.Opening.{searchOf}
-use Rattle.listing.specs.Page.{Sheet, sheet, openings, pageOf}
+use Rattle.listing.specs.Opening.{openingSearch}
+use Rattle.listing.specs.Page.{Sheet, sheet, openings, pageOf, sheetOf, PageMemory}
 use Rattle.listing.specs.Wins.{listing}
-use Rattle.listing.specs.Searched.{ends}
-use Rattle.listing.specs.Aside.{Aside, wiped-aside}
-use Rattle.listing.specs.Sheets.{Stops, at-end, no-room, unended, Filled, filled}
+use Rattle.listing.specs.Laws.Searched.{ends}
+use Rattle.listing.specs.Laws.Beyond.{Beyond, wiped-beyond}
+use Rattle.listing.specs.Laws.Sheets.{Stops, at-end, no-room, unended, Filled, filled}
 use Rattle.listing.specs.Rows.{PageGuarded, page-guarded}
-use Rattle.listing.specs.Refused.{sheetOf, page-accepted, answered-accepted}
+use Rattle.listing.specs.Refused.{page-accepted, answered-accepted}
+use Rattle.rules.specs.Laws.Accepted.{prefix-length, accepted-bound, accepted-proper}
+use Rattle.rules.specs.Laws.Records.{entryAt, noEntry}
+use Rattle.rules.specs.Laws.Untouched.{wiped-blank}
 
 -- ---- why a sheet stopped, and whether it is paused
-module _ (F : Formula) (preferred : List ℤ) (budget : ℕ) (ls : List ℤ) (ks : List ℕ) (total size : ℕ) (s : Sheet) where
+module _ (F : Formula) (preferred : List ℤ) (budget : ℕ) (work : Trail) (total size : ℕ) (s : Sheet) where
   -- there is an opening at next, there was room for its entry, and its search doesn't end within the budget
   pub record Unended : Type 0 where
     pub left : s .next < total
     pub room : 2 * s .entries + 2 ≤ size
-    pub live : searchOf F preferred budget ls ks (s .next) .state ≡ Open
+    pub live : openingSearch F preferred budget work (s .next) .state ≡ Open
 
-  stops-paused : Stops F preferred budget ls ks total size s → (s .paused ≡ true) ↔ Unended
+  stops-paused : Stops F preferred budget work total size s → (s .paused ≡ true) ↔ Unended
   stops-paused (at-end p e) = (λ q. clash q p, λ u. absurd (let h = u .left in omega arith))
   stops-paused (no-room p h r g l) = (λ q. clash q p, λ u. absurd (let x = u .room in omega arith))
   stops-paused (unended p h r o) = (λ q. record { left = h; room = r; live = o }, λ u. p)
 
 -- ---- what is claimed of a page that is answered
--- from `start` on the output `out`: the sheet s is its answer and the output after it, ls′ and ks′ are the work record after it
-pub record Turned (b ls : List ℤ) (ks : List ℕ) (start : ℕ) (preferred : List ℤ) (budget : ℕ) (out : List ℕ) (s : Sheet) (ls′ : List ℤ) (ks′ : List ℕ) : Type 0 where
+-- from `start` on the output `out`: the sheet s is its answer and the output after it, work′ is the work record after it
+pub record PageClaims (b : List ℤ) (m : PageMemory) (start : ℕ) (preferred : List ℤ) (budget : ℕ) (s : Sheet) (work′ : Trail) : Type 0 where
   pub from : start ≤ s .next
   pub upTo : s .next ≤ openings (formulaOf b)
   -- at most one entry for each opening
@@ -49,21 +50,21 @@ pub record Turned (b ls : List ℤ) (ks : List ℕ) (start : ℕ) (preferred : L
   -- with its entries the listing below its start is the listing below next
   pub listed : listing (formulaOf b) start ++ take (2 * s .entries) (s .output) ≡ listing (formulaOf b) (s .next)
   -- "Output past the entries is untouched"
-  pub fits : 2 * s .entries ≤ length out
-  pub long : length (s .output) ≡ length out
-  pub untouched : drop (2 * s .entries) (s .output) ≡ drop (2 * s .entries) out
+  pub fits : 2 * s .entries ≤ length (m .output)
+  pub long : length (s .output) ≡ length (m .output)
+  pub untouched : drop (2 * s .entries) (s .output) ≡ drop (2 * s .entries) (m .output)
   -- why it stops; "paused is said in the budget case only"
-  pub stops : Stops (formulaOf b) preferred budget ls ks (openings (formulaOf b)) (length out) s
-  pub paused-exactly : (s .paused ≡ true) ↔ Unended (formulaOf b) preferred budget ls ks (openings (formulaOf b)) (length out) s
+  pub stops : Stops (formulaOf b) preferred budget (m .work) (openings (formulaOf b)) (length (m .output)) s
+  pub paused-exactly : (s .paused ≡ true) ↔ Unended (formulaOf b) preferred budget (m .work) (openings (formulaOf b)) (length (m .output)) s
   -- a budget of 2^(V+1-k) - 1 steps is enough for every opening
   pub never-pauses : 2 ^ (variablesOf b + 1 - firstGroup (prefixOf b)) - 1 ≤ budget → s .paused ≡ false
   -- and a page that isn't paused goes on
   pub moves : s .paused ≡ false → start < openings (formulaOf b) → start < s .next
   -- "the first V places of the work record are 0 after it", and no other is written
-  pub zeros : (j : ℕ) → j < variablesOf b → (getD ls′ j (pos 0) ≡ pos 0) × (getD ks′ j 0 ≡ 0)
-  pub aside : Aside (variablesOf b) ls ks ls′ ks′
+  pub zeros : (j : ℕ) → j < variablesOf b → entryAt work′ j ≡ noEntry
+  pub beyond : Beyond (variablesOf b) (m .work) work′
 
-module _ (b ls : List ℤ) (ks : List ℕ) (start : ℕ) (preferred : List ℤ) (budget : ℕ) (out : List ℕ) (g : PageGuarded b ls ks start out) where
+module _ (b : List ℤ) (m : PageMemory) (start : ℕ) (preferred : List ℤ) (budget : ℕ) (g : PageGuarded b m start) where
   ok : Proper (formulaOf b)
   ok = accepted-proper b (g .block)
 
@@ -71,33 +72,29 @@ module _ (b ls : List ℤ) (ks : List ℕ) (start : ℕ) (preferred : List ℤ) 
   unfolding formulaOf
   bound = accepted-bound b (g .block)
 
-  lits-room : length (formulaOf b .prefix) ≤ length ls
+  lent : Room (length (formulaOf b .prefix)) (m .work)
   unfolding formulaOf
-  lits-room = g .lits-room
+  lent = g .lent
 
-  kinds-room : length (formulaOf b .prefix) ≤ length ks
-  unfolding formulaOf
-  kinds-room = g .kinds-room
-
-  all-filled : Filled (formulaOf b) preferred budget ls ks start 0 out (openings (formulaOf b)) (sheetOf b ls ks start preferred budget out)
+  all-filled : Filled (formulaOf b) preferred budget (m .work) start 0 (m .output) (openings (formulaOf b)) (sheetOf (formulaOf b) m start preferred budget)
   unfolding formulaOf
   all-filled =
       let i = g .inside in
       let r = g .room in
-      filled (formulaOf b) ok bound ls ks lits-room kinds-room preferred budget (openings (formulaOf b) - start) start 0 out (openings (formulaOf b)) (omega arith) (omega arith) (inl r)
+      filled (formulaOf b) ok bound (m .work) lent preferred budget (openings (formulaOf b) - start) start 0 (m .output) (openings (formulaOf b)) (omega arith) (omega arith) (inl r)
 
-  enough : 2 ^ (variablesOf b + 1 - firstGroup (prefixOf b)) - 1 ≤ budget → (n : ℕ) → searchOf (formulaOf b) preferred budget ls ks n .state ≡ Open → ⊥
+  enough : 2 ^ (variablesOf b + 1 - firstGroup (prefixOf b)) - 1 ≤ budget → (n : ℕ) → openingSearch (formulaOf b) preferred budget (m .work) n .state ≡ Open → ⊥
   unfolding formulaOf
   enough h n o =
       let e : suc (length (prefixOf b)) ≡ variablesOf b + 1 = omega (arith, prefix-length b (g .block)) in
-      ends (formulaOf b) ok bound ls ks lits-room kinds-room preferred budget n (rw e (omega arith)) o
+      ends (formulaOf b) ok bound (m .work) lent preferred budget n (rw e (omega arith)) o
 
-  turned-is : Turned b ls ks start preferred budget out (sheetOf b ls ks start preferred budget out) (wiped (pos 0) ls 0 (variablesOf b)) (wiped 0 ks 0 (variablesOf b))
-  turned-is =
+  claimed : PageClaims b m start preferred budget (sheetOf (formulaOf b) m start preferred budget) (wipedTrail (m .work) 0 (variablesOf b))
+  claimed =
       let f = all-filled in
       let F = formulaOf b in
-      let s = sheetOf b ls ks start preferred budget out in
-      let x = stops-paused F preferred budget ls ks (openings F) (length out) s (f .stops) in
+      let s = sheetOf F m start preferred budget in
+      let x = stops-paused F preferred budget (m .work) (openings F) (length (m .output)) s (f .stops) in
       record {
         from = f .from;
         upTo = f .upTo;
@@ -110,23 +107,23 @@ module _ (b ls : List ℤ) (ks : List ℕ) (start : ℕ) (preferred : List ℤ) 
         paused-exactly = x;
         never-pauses = λ h. elim (look (s .paused)) [ inl p ↦ absurd (enough h (s .next) (x .0 p .live)) | inr p ↦ p ];
         moves = λ p h. f .moves p h (let r = g .room in omega arith);
-        zeros = λ j h. (wiped-inside (pos 0) ls 0 (variablesOf b) j (omega arith) h, wiped-inside 0 ks 0 (variablesOf b) j (omega arith) h);
-        aside = wiped-aside (variablesOf b) ls ks;
+        zeros = λ j h. wiped-blank (m .work) 0 (variablesOf b) j (omega arith) h;
+        beyond = wiped-beyond (variablesOf b) (m .work);
       }
 
 -- whatever a page answers but a refusal, so it is
-pub accepted-page : (b ls : List ℤ) (ks : List ℕ) (start : ℕ) (preferred : List ℤ) (budget : ℕ) (out : List ℕ) (next entries : ℕ) (paused : Bool)
-    → let o = pageOf b ls ks start preferred budget out in
-    o .answer ≡ Page next entries paused → Turned b ls ks start preferred budget out (sheet next entries paused (o .output)) (o .lits) (o .kinds)
+pub accepted-page : (b : List ℤ) (m : PageMemory) (start : ℕ) (preferred : List ℤ) (budget : ℕ) (next entries : ℕ) (paused : Bool)
+    → let o = pageOf b m start preferred budget in
+    o .answer ≡ Page next entries paused → PageClaims b m start preferred budget (sheet next entries paused (o .memory .output)) (o .memory .work)
 unfolding formulaOf
-accepted-page b ls ks start preferred budget out next entries paused a =
-    let e = answered-accepted b ls ks start preferred budget out next entries paused a in
-    let g = page-guarded b ls ks start out e in
-    let q = page-accepted b ls ks start preferred budget out e in
-    let s = sheetOf b ls ks start preferred budget out in
+accepted-page b m start preferred budget next entries paused a =
+    let e = answered-accepted b m start preferred budget next entries paused a in
+    let g = page-guarded b m start e in
+    let q = page-accepted b m start preferred budget e in
+    let s = sheetOf (formulaOf b) m start preferred budget in
     let a′ : Page (s .next) (s .entries) (s .paused) ≡ Page next entries paused = rw q at a in
     let x : s .next ≡ next = cc in
     let y : s .entries ≡ entries = cc in
     let z : s .paused ≡ paused = cc in
     let w : s ≡ sheet next entries paused (s .output) = rw (← x, ← y, ← z) in
-    rw (q, prefix-length b (g .block), ← w) (turned-is b ls ks start preferred budget out g)
+    rw (q, prefix-length b (g .block), ← w) (claimed b m start preferred budget g)

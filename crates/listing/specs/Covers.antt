@@ -14,15 +14,15 @@ use lib.IntN.{ℤ, pos, negsuc, negℤ}
 use lib.ListN.{length, take, drop, take-append-drop}
 use lib.Pow.{pow-add, pow-pos}
 use borrow.Author.Tests.{lt-ltb}
-use Rattle.words.specs.Bools.{look, clash, to-false, or-e, or-l, or-r}
+use Rattle.words.specs.Laws.Bools.{look, clash, to-false, or-e, or-l, or-r}
 use Rattle.words.specs.Lists.{In, here, there, all, any}
 use Rattle.words.specs.Words.{negative, eqZ, mem}
 use Rattle.formula.specs.Formula.{Formula, word, run, firstGroup}
 use Rattle.formula.specs.Truth.{asked, truth, true?}
 use Rattle.theory.specs.Record.{among}
-use Rattle.listing.specs.Opening.{groupOf, valuesOf}
+use Rattle.listing.specs.Opening.{groupOf, valuesOf, valueAt}
 use Rattle.listing.specs.Page.{firstUniversal, openings}
-use Rattle.listing.specs.Values.{valueOf, group-length}
+use Rattle.listing.specs.Laws.Values.{group-length}
 use Rattle.listing.specs.Wins.{wins, winners, entries, listing, winners-exactly}
 
 -- ---- truth depends on which literals are true, and not on their order
@@ -85,7 +85,7 @@ module _ (p : List ℤ) (m : List (List ℤ)) where
 values-fit : (n : ℕ) (g : List ℤ) → Existential g → Fits (valuesOf n g) g
 unfolding valuesOf
 values-fit n [] e = none
-values-fit n (pos a ∷ g) e = more {v = valueOf n (length g) (pos a)} {q = pos a} (elim (look (eqb (n / 2 ^ length g % 2) 1)) [ inl z ↦ rw z (inl refl) | inr z ↦ rw z (inr refl) ]) (values-fit n g (λ x i. e x (there i)))
+values-fit n (pos a ∷ g) e = more {v = valueAt n (length g) (pos a)} {q = pos a} (elim (look (eqb (n / 2 ^ length g % 2) 1)) [ inl z ↦ rw z (inl refl) | inr z ↦ rw z (inr refl) ]) (values-fit n g (λ x i. e x (there i)))
 values-fit n (negsuc a ∷ g) e = clash refl (e (negsuc a) (here refl))
 
 -- a bit above leaves the bits below

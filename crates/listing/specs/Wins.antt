@@ -3,7 +3,7 @@
 use Prim.Native.Nat.{ℕ, zero, suc, _+_, _≤_, _<_}
 use mathlib.Core.Path.{_≡_, refl, sym, _∙_, ap}
 use mathlib.Core.Logic.{_↔_, _⊎_, inl, inr}
-use mathlib.Core.Bool.{Bool, true, false}
+use mathlib.Core.Bool.{Bool, true, false, cond}
 use mathlib.Core.List.{List, [], _∷_, _++_, append-nil}
 use native.Mathlib.Decide.{ℕ-discrete}
 use native.Mathlib.Numerals.{add-one}
@@ -11,21 +11,21 @@ use native.Mathlib.Omega.{arith}
 use lib.Count.{ones}
 use lib.IntN.{ℤ}
 use lib.ListN.{take, drop, take-append-drop}
-use Rattle.words.specs.Bools.{look}
-use Rattle.words.specs.Lists.{In, here, there, all-i}
+use Rattle.words.specs.Laws.Bools.{look}
+use Rattle.words.specs.Lists.{In, here, there}
+use Rattle.words.specs.Laws.Lists.{all-i}
 use Rattle.formula.specs.Formula.{Formula, firstGroup}
 use Rattle.formula.specs.Proper.{Proper}
-use Rattle.formula.specs.Prefix.{stands-i}
+use Rattle.formula.specs.Laws.Prefix.{stands-i}
 use Rattle.formula.specs.Truth.{truth}
 use Rattle.theory.specs.Record.{among, assigned}
 use Rattle.theory.specs.Tests.{allAssigned}
-use Rattle.theory.specs.Assignment.{assigned-among}
+use Rattle.theory.specs.Laws.Assignment.{assigned-among}
 use Rattle.theory.specs.Start.{rest, trueUnder}
-use Rattle.theory.specs.Value.{rest-append, rest-set, rest-unset}
-use Rattle.rules.specs.Due.{pick}
+use Rattle.theory.specs.Laws.Value.{rest-append, rest-set, rest-unset}
 use Rattle.listing.specs.Opening.{groupOf, valuesOf}
-use Rattle.listing.specs.Values.{values-stand, before-rest}
-use Rattle.listing.specs.Start.{opened, given-literals}
+use Rattle.listing.specs.Laws.Values.{values-stand, before-rest}
+use Rattle.listing.specs.Laws.Start.{opened, given-literals}
 
 -- "the recursive definition makes the rest true under it": the prefix after the first group, with the opening's values
 unfoldable pub wins : Formula → ℕ → Bool
@@ -34,7 +34,7 @@ wins F n = truth (drop (firstGroup (F .prefix)) (F .prefix)) (F .clauses) (value
 -- the winners below n, ascending
 unfoldable pub winners : Formula → ℕ → List ℕ
 winners F zero = []
-winners F (suc n) = winners F n ++ pick (wins F n) (n ∷ []) []
+winners F (suc n) = winners F n ++ cond (wins F n) (n ∷ []) []
 
 -- "Each winner fills two words: the opening, and how many ones its number has."
 unfoldable pub entries : List ℕ → List ℕ
@@ -105,14 +105,14 @@ module _ (F : Formula) where
   winner-in zero m h w = absurd (omega arith)
   winner-in (suc n) m h w = elim (ℕ-discrete m n) [
     | yes e ↦ in-right (winners F n) (rw (← e, w) (here refl))
-    | no f ↦ in-left (pick (wins F n) (n ∷ []) []) (winner-in n m (omega arith) w)
+    | no f ↦ in-left (cond (wins F n) (n ∷ []) []) (winner-in n m (omega arith) w)
   ]
 
   in-winner : (n m : ℕ) → In m (winners F n) → (m < n) × (wins F m ≡ true)
   unfolding winners
-  in-winner (suc n) m i = go (wins F n) refl (in-either (winners F n) (pick (wins F n) (n ∷ []) []) i) (in-winner n m)
+  in-winner (suc n) m i = go (wins F n) refl (in-either (winners F n) (cond (wins F n) (n ∷ []) []) i) (in-winner n m)
     where
-      go : (b : Bool) → wins F n ≡ b → In m (winners F n) ⊎ In m (pick b (n ∷ []) []) → (In m (winners F n) → (m < n) × (wins F m ≡ true)) → (m < suc n) × (wins F m ≡ true)
+      go : (b : Bool) → wins F n ≡ b → In m (winners F n) ⊎ In m (cond b (n ∷ []) []) → (In m (winners F n) → (m < n) × (wins F m ≡ true)) → (m < suc n) × (wins F m ≡ true)
       go b e (inl j) ih = let r = ih j in ((let h = r .0 in omega arith), r .1)
       go true e (inr (here z)) ih = ((omega arith), rw z e)
 

@@ -1,19 +1,19 @@
 // The openings of a page, one after the other.
 ghost use mathlib.Core.Path.{_≡_};
-ghost use Prim.Native.Nat.{_+_, _*_, _≤_};
+ghost use Prim.Native.Nat.{_+_, _*_, _^_, _≤_};
 ghost use lib.ListN.{length, set};
+ghost use Rattle.formula.specs.Limits.{limits};
 ghost use Rattle.formula.specs.Formula.{formulaOf};
 ghost use Rattle.listing.specs.declared.Paged.the-variants.{Page};
-ghost use Rattle.listing.specs.Page.{turned};
-ghost use Rattle.listing.specs.Refused.{sheetOf};
-ghost use Rattle.listing.specs.Checked.{OnPage, wipedOutcome};
+ghost use Rattle.listing.specs.Page.{pageMemory, paged, sheetOf};
+ghost use Rattle.listing.specs.Inner.Pages.{OnPage, wipedOutcome};
 use crate::Paged;
 use crate::openings;
 use rules::State;
 
-// An answer. There are at most 65,536 entries.
+// An answer. There is at most one entry for each opening.
 fn answer(next: u32, entries: usize, paused: bool) -> Paged
-    requires { ⌜ entries ≤ 65536 ⌝ }
+    requires { ⌜ entries ≤ 2 ^ limits .group ⌝ }
     ensures { λ r. ⌜ r ≡ Page next entries paused ⌝ }
 {
     Paged::Page {
@@ -44,8 +44,8 @@ pub(crate) fn fill(
     budget: u32,
     output: &mut [u32],
 ) -> Paged
-    requires { ⌜ OnPage (now block) (now lits) (now kinds) k start (now output) ⌝ }
-    ensures { λ r. ⌜ wipedOutcome (formulaOf (now (block .entry))) r (now (lits .exit)) (now (kinds .exit)) (now (output .exit)) ≡ turned (formulaOf (now (block .entry))) (now (lits .entry)) (now (kinds .entry)) (sheetOf (now (block .entry)) (now (lits .entry)) (now (kinds .entry)) start (now (preferred .entry)) budget (now (output .entry))) ⌝ }
+    requires { ⌜ OnPage (now block) (pageMemory (now lits) (now kinds) (now output)) k start ⌝ }
+    ensures { λ r. ⌜ wipedOutcome (formulaOf (now (block .entry))) r (pageMemory (now (lits .exit)) (now (kinds .exit)) (now (output .exit))) ≡ paged (formulaOf (now (block .entry))) (pageMemory (now (lits .entry)) (now (kinds .entry)) (now (output .entry)) .work) (sheetOf (formulaOf (now (block .entry))) (pageMemory (now (lits .entry)) (now (kinds .entry)) (now (output .entry))) start (now (preferred .entry)) budget) ⌝ }
 {
     let total = openings::count(k);
     let mut n = start;

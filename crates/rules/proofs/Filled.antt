@@ -8,19 +8,24 @@ use native.Mathlib.Omega.{arith}
 use lib.IntN.{ℤ, pos, natAbs, negsuc, negℤ}
 use lib.ListN.{length, getD, take, set, replicate, length-set, length-replicate}
 use lib.Seq.{getD-set-same, getD-set-other, take-length, getD-take, take-take, length-take-le}
-use Rattle.words.specs.Lists.{take-more, blank, any}
-use Rattle.formula.specs.Limits.{limits, variables-are}
-use Rattle.formula.specs.Named.{all-named, known-up, Named}
+use Rattle.words.specs.Laws.Lists.{take-more, blank}
+use Rattle.words.specs.Lists.{any}
+use Rattle.formula.specs.Limits.{limits}
+use Rattle.formula.specs.Laws.Limits.{variables-are}
+use Rattle.formula.specs.Laws.Named.{all-named, known-up}
+use Rattle.formula.specs.Inner.Named.{Named}
 use Rattle.theory.specs.Record.{among}
 use Rattle.rules.specs.Inner.Ready.{Bound}
 use Rattle.rules.specs.Inner.Tables.{places, Known, Written, Values, Quantifiers, signOf, valueIn}
 use mathlib.Core.Bool.{true, false, cond}
-use Rattle.words.specs.Bools.{clash}
-use Rattle.words.specs.Words.{negative, eqZ, mem, mem-here, mem-other, plus-other, minus-other, eqZ-ne}
+use Rattle.words.specs.Laws.Bools.{clash}
+use Rattle.words.specs.Words.{negative, eqZ, mem}
+use Rattle.words.specs.Laws.Words.{mem-here, mem-other, plus-other, minus-other, eqZ-ne}
 use Rattle.formula.specs.Block.{names}
-use Rattle.formula.specs.Prefix.{fresh-word, fresh-at}
+use Rattle.formula.specs.Laws.Prefix.{fresh-word, fresh-at}
 use native.Mathlib.Nat.{le-refl}
-use Rattle.formula.specs.Places.{literalPlaces, placeOf, wordAt, place-word, word-place, place-within}
+use Rattle.formula.specs.Inner.Places.{literalPlaces, placeOf, wordAt}
+use Rattle.formula.specs.Laws.Places.{place-word, word-place, place-within}
 use Rattle.rules.specs.Inner.ByLiteral.{statusOf, statusBy, statusIn, Statuses}
 
 -- a variable's number is a place of a table

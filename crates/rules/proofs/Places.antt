@@ -15,11 +15,13 @@ use mathlib.Core.Bool.{cond}
 use lib.Dec.{eqb}
 use lib.IntN.{ℤ, pos, negℤ, natAbs}
 use Rattle.words.specs.declared.Literal.{Literal}
-use Rattle.words.specs.Words.{opposite, opposite-is, natAbs-neg, mem-e}
-use Rattle.words.specs.Bools.{to-false}
-use Rattle.formula.specs.Limits.{limits, variables-small}
+use Rattle.words.specs.Words.{opposite}
+use Rattle.words.specs.Laws.Words.{opposite-is, natAbs-neg, mem-e}
+use Rattle.words.specs.Laws.Bools.{to-false}
+use Rattle.formula.specs.Limits.{limits}
+use Rattle.formula.specs.Laws.Limits.{variables-small}
 use Rattle.formula.specs.Formula.{universal}
-use Rattle.formula.specs.Named.{in-named}
+use Rattle.formula.specs.Laws.Named.{in-named}
 use Rattle.theory.specs.Record.{entry}
 use Rattle.rules.specs.Search.{search}
 use Rattle.rules.specs.Due.{literal}

@@ -9,12 +9,14 @@ use lib.IntN.{ℤ, pos, natAbs}
 use lib.ListN.{length, getD, take, drop}
 use lib.Seq.{getD-take, length-take-le}
 use borrow.Author.Tests.{ne-eqb, lt-ltb, le-ltb}
-use Rattle.words.specs.Lists.{any, any-found, any-past, any-ended}
+use Rattle.words.specs.Lists.{any}
+use Rattle.words.specs.Laws.Lists.{any-found, any-past, any-ended}
 use Rattle.formula.specs.Formula.{existential, universal}
 use Rattle.formula.specs.Block.{noVariable, twice}
-use Rattle.formula.specs.Limits.{variables-are}
-use Rattle.formula.specs.Named.{Named, all-named}
-use Rattle.formula.specs.Permuted.{quantifier}
+use Rattle.formula.specs.Laws.Limits.{variables-are}
+use Rattle.formula.specs.Inner.Named.{Named}
+use Rattle.formula.specs.Laws.Named.{all-named}
+use Rattle.formula.specs.Laws.Permuted.{quantifier}
 use Rattle.theory.specs.Record.{entry}
 use Rattle.rules.specs.Trail.{Trail, recordOf}
 use Rattle.rules.specs.Check.{badKind, badEntries, badRecord}

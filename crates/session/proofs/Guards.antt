@@ -6,23 +6,26 @@ use mathlib.Core.List.{List}
 use native.Mathlib.Omega.{arith}
 use lib.IntN.{ℤ, natAbs}
 use borrow.Author.Tests.{eq-eqb, ne-eqb}
-use Rattle.words.specs.Rows.{refusalOf, stops, goes-on}
+use Rattle.words.specs.Rows.{refusalOf}
+use Rattle.words.specs.Laws.Rows.{stops, goes-on}
 use Rattle.words.specs.declared.Literal.{Literal}
 use Rattle.formula.specs.declared.Checked.{Checked}
 use Rattle.formula.specs.declared.Checked.the-variants.{Accepted, Refused}
 use Rattle.formula.specs.Limits.{limits}
 use Rattle.formula.specs.Formula.{prefixOf}
 use Rattle.formula.specs.Block.{rows, refusal}
-use Rattle.formula.specs.Check.{checkedOf, checked-accepted, checked-refused}
+use Rattle.formula.specs.Check.{checkedOf}
+use Rattle.formula.specs.Laws.Check.{checked-accepted, checked-refused}
 use Rattle.theory.specs.Record.{Assignment}
 use Rattle.theory.specs.Tests.{isOpen}
-use Rattle.rules.specs.declared.Rule.{Rule}
+use Rattle.rules.specs.declared.rule.Rule.{Rule}
 use Rattle.rules.specs.Check.{badRecord}
+use Rattle.rules.specs.Preferred.{decides}
 use Rattle.session.specs.declared.Revision.{Revision}
 use Rattle.session.specs.declared.Session.{Session}
 use Rattle.session.specs.Memory.{Memory}
-use Rattle.session.specs.Refusals.{short, over, decides, ofBuffers, openRows, openRefusal, ofSession}
-use Rattle.session.specs.Checked.{sessionRefusal, proposalRefusal}
+use Rattle.session.specs.Refusals.{short, over, ofBuffers, openRows, openRefusal, ofSession}
+use Rattle.session.specs.Inner.Guards.{sessionRefusal, proposalRefusal}
 
 -- ---- rows 1 to 11
 refused-some : (n k : ℕ) → checkedOf n ≡ Refused k → k ≡ 0 → ⊥
@@ -57,7 +60,7 @@ module _ (s : Session) (b : List ℤ) (m : Memory) (seen : Revision) {r : ℕ} (
     unfolding openRefusal sessionRefusal
     from-12 = goes-on (openRows b m) (ofSession s b m seen) refl (sym e ∙ z)
 
-    module _ {t : Bool} (bad : t ≡ badRecord (prefixOf b) (m .lits) (m .kinds) (s .length)) where
+    module _ {t : Bool} (bad : t ≡ badRecord (prefixOf b) (m .trail) (s .length)) where
       pub session-record : t ≡ true → 12 ≡ sessionRefusal s b m seen
       session-record x = rw (from-12, ← bad, x)
 

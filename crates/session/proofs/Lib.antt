@@ -2,4 +2,4 @@
 pub mod Guards
 pub mod Lent
 pub mod Exits
-pub mod Turns
+pub mod Rounds

@@ -3,66 +3,66 @@
 use Prim.Native.Nat.{ℕ, zero, suc, _+_, _≤_, _<_}
 use mathlib.Core.Path.{_≡_, refl, sym, _∙_, ap}
 use mathlib.Core.Logic.{_⊎_, inl, inr}
-use mathlib.Core.Bool.{Bool, true, false}
+use mathlib.Core.Bool.{Bool, true, false, cond}
 use mathlib.Core.List.{List}
 use native.Mathlib.Omega.{arith}
 use lib.IntN.{ℤ, pos, natAbs}
+use Rattle.words.specs.declared.Literal.{Literal}
 use Rattle.formula.specs.Limits.{limits}
-use Rattle.formula.specs.Formula.{Formula, formulaOf, prefixOf}
+use Rattle.formula.specs.Formula.{formulaOf, prefixOf}
 use Rattle.formula.specs.Block.{refusal}
-use Rattle.theory.specs.Record.{Record, Assignment, trueIn}
-use Rattle.rules.specs.declared.State.the-variants.{Open}
-use Rattle.rules.specs.Due.{literal, pick, due}
+use Rattle.theory.specs.Record.{Assignment, trueIn}
+use Rattle.rules.specs.declared.rule.State.the-variants.{Open}
+use Rattle.rules.specs.declared.rule.Rule.{Rule}
+use Rattle.rules.specs.Due.{literal, due}
 use Rattle.rules.specs.Preferred.{firstOpen}
-use Rattle.rules.specs.Apply.{Search, recordOf}
-use Rattle.rules.specs.Searches.{first-open}
-use Rattle.rules.specs.Steps.{KeptIn, Permitted, recordIn}
+use Rattle.rules.specs.Search.{Search, recordIn}
+use Rattle.rules.specs.Inner.Ready.{KeptIn}
+use Rattle.rules.specs.Preferred.{firstOpen, decides, proposalOf}
 use Rattle.session.specs.declared.Revision.{Revision}
 use Rattle.session.specs.declared.Session.{Session}
 use Rattle.session.specs.declared.Ran.{Ran}
 use Rattle.session.specs.declared.Ran.the-variants.{Until, Stopped}
 use Rattle.session.specs.Memory.{memoryOf}
-use Rattle.session.specs.Refusals.{lastRevision, decides, runRefusal}
-use Rattle.session.specs.Accepted.{Guarded, run-guarded, step-passes}
+use Rattle.session.specs.Refusals.{lastRevision, runRefusal}
+use Rattle.session.specs.Laws.Accepted.{Guarded, run-guarded, step-passes}
 use Rattle.session.specs.Outcome.{moved, searchOf}
-use Rattle.session.specs.Checked.{proposalOf}
 use Rattle.session.specs.Run.{trip, advance, ran, runOf}
-use Rattle.session.specs.Advance.{apply-proposal, advance-keeps}
-use Rattle.session.specs.Trips.{goOn, Went, went}
+use Rattle.session.specs.Laws.Advance.{proposal-permitted, advance-keeps}
+use Rattle.session.specs.Laws.Trips.{goOn, Went, went}
 use Rattle.session.specs.Play.{Desk, desk, step, run, call}
 use Rattle.session.specs.Refused.{run-refused}
 use Rattle.session.specs.Follows.{accepted-is}
 
--- "At Decide it proposes the first open one in the list, else 0."
-abbrev pub proposalAt : Formula → Record → List ℤ → ℤ
-proposalAt F r preferred = proposalOf (F .prefix) (trueIn r) preferred (due F r)
+abbrev pub searchAt : Desk → Search
+searchAt d = searchOf (d .latest) (d .memory)
+
+-- what a run would propose on a desk
+abbrev pub proposalAt : List ℤ → List ℤ → Desk → Literal
+proposalAt b preferred d =
+    let r = recordIn (searchAt d) in
+    literal (proposalOf (prefixOf b) (trueIn r) preferred (due (formulaOf b) r))
 
 -- one step by hand with that proposal, at the revision of the moment; and n of them
 unfoldable pub handed : List ℤ → List ℤ → Desk → Desk
-handed b preferred d =
-    let r = recordOf (d .memory .lits) (d .memory .kinds) (d .latest .length) in
-    call b d (step (d .latest .revision) (literal (proposalAt (formulaOf b) r preferred)))
+handed b preferred d = call b d (step (d .latest .revision) (proposalAt b preferred d))
 
 unfoldable pub byHand : List ℤ → List ℤ → ℕ → Desk → Desk
 byHand b preferred zero d = d
 byHand b preferred (suc n) d = byHand b preferred n (handed b preferred d)
 
 -- ---- the proposal is one that a step accepts
-proposal-due : (rule : Bool) (x : ℤ) → (natAbs (pick rule x (pos 0)) ≡ 0) ⊎ (rule ≡ true)
-proposal-due true x = inr refl
-proposal-due false x = inl refl
-
-proposal-permitted : (p : List ℤ) (ρ : Assignment) (rule : Bool) (x : ℤ) → Permitted p ρ x → Permitted p ρ (pick rule x (pos 0))
-proposal-permitted p ρ true x a = a
-proposal-permitted p ρ false x a = inl refl
+proposal-due : (p : List ℤ) (ρ : Assignment) (preferred : List ℤ) (rule : Rule) → (natAbs (proposalOf p ρ preferred rule) ≡ 0) ⊎ (decides rule ≡ true)
+proposal-due p ρ preferred rule = go (decides rule)
+  where
+    go : (d : Bool) → (natAbs (cond d (firstOpen p ρ preferred) (pos 0)) ≡ 0) ⊎ (d ≡ true)
+    go true = inr refl
+    go false = inl refl
 
 -- ---- steps by hand, rule by rule
 -- a desk whose search has gone on by n accepted steps
 abbrev deskAfter : Desk → ℕ → Search → Desk
 deskAfter d n u = desk (moved (d .latest) n u) (memoryOf u) (d .steps + n)
-
-abbrev pub searchAt : Desk → Search
-searchAt d = searchOf (d .latest) (d .memory)
 
 module _ (b : List ℤ) (block : refusal limits b ≡ 0) (preferred : List ℤ) where
   hand-step : (d : Desk) → KeptIn (prefixOf b) (searchAt d) → d .latest .state ≡ Open → d .latest .revision .0 < lastRevision
@@ -71,12 +71,10 @@ module _ (b : List ℤ) (block : refusal limits b ≡ 0) (preferred : List ℤ) 
   hand-step d k o h =
       let r = recordIn (searchAt d) in
       let F = formulaOf b in
-      let x = firstOpen (F .prefix) (trueIn r) preferred in
-      let l = literal (proposalAt F r preferred) in
       let g : Guarded (d .latest) b (d .memory) (d .latest .revision) = record { block = block; kept = k; live = o; current = refl } in
       let below : d .latest .revision .0 ≡ lastRevision → ⊥ = λ e. omega arith in
-      let e = step-passes (d .latest) b (d .memory) (d .latest .revision) g below l (proposal-due (decides (due F r)) x) (proposal-permitted (F .prefix) (trueIn r) (decides (due F r)) x (first-open (F .prefix) (trueIn r) preferred)) in
-      rw (accepted-is (d .latest) b (d .memory) (d .latest .revision) l e, apply-proposal (F .prefix) (due F r) x (searchAt d))
+      let e = step-passes (d .latest) b (d .memory) (d .latest .revision) g below (proposalAt b preferred d) (proposal-due (F .prefix) (trueIn r) preferred (due F r)) (proposal-permitted (F .prefix) (trueIn r) preferred (due F r)) in
+      rw (accepted-is (d .latest) b (d .memory) (d .latest .revision) (proposalAt b preferred d) e)
 
   hand-goes : (c : ℕ) (d : Desk) → KeptIn (prefixOf b) (searchAt d) → d .latest .revision .0 + c ≤ lastRevision → ((j : ℕ) → j < c → goOn (formulaOf b) preferred j (searchAt d) .state ≡ Open)
       → byHand b preferred c d ≡ deskAfter d c (goOn (formulaOf b) preferred c (searchAt d))

@@ -15,17 +15,16 @@ use Rattle.formula.specs.Formula.{formulaOf, variablesOf, prefixOf}
 use Rattle.formula.specs.Block.{refusal}
 use Rattle.formula.specs.Truth.{true?}
 use Rattle.theory.specs.Rules.{going, Path, stop}
-use Rattle.theory.specs.Paths.{path-snoc}
-use Rattle.theory.specs.Sound.{sound-formula}
-use Rattle.theory.specs.Good.{good-none}
-use Rattle.theory.specs.Finite.{finite-formula}
-use Rattle.theory.specs.Progress.{never-stuck}
-use Rattle.rules.specs.declared.State.the-variants.{Open, Valid, Unsat}
+use Rattle.theory.specs.Laws.Moves.{path-snoc, good-none}
+use Rattle.theory.specs.Theorem.{sound-formula, finite-formula, never-stuck}
+use Rattle.rules.specs.declared.rule.State.the-variants.{Open, Valid, Unsat}
 use Rattle.rules.specs.Due.{literal}
-use Rattle.rules.specs.Apply.{recordOf, wiped}
-use Rattle.rules.specs.Records.{wiped-length}
-use Rattle.rules.specs.Passed.{good-kept}
-use Rattle.rules.specs.Steps.{stateOf, recordIn, KeptIn}
+use Rattle.rules.specs.Trail.{recordOf, wipedTrail}
+use Rattle.rules.specs.Laws.Wiped.{wiped-length}
+use Rattle.rules.specs.Laws.Good.{good-kept}
+use Rattle.rules.specs.Search.{standingOf, recordIn}
+use Rattle.rules.specs.Inner.Ready.{KeptIn}
+use Rattle.rules.specs.Laws.Accepted.{prefix-length, accepted-bound, accepted-proper}
 use Rattle.session.specs.declared.Revision.{Revision}
 use Rattle.session.specs.declared.Session.{Session}
 use Rattle.session.specs.declared.Answer.{Answer}
@@ -34,7 +33,7 @@ use Rattle.session.specs.Memory.{Memory, memory}
 use Rattle.session.specs.Refusals.{lastRevision, openRefusal}
 use Rattle.session.specs.Outcome.{session, openOutcome, stepOutcome}
 use Rattle.session.specs.Play.{Desk, desk, Call, step, run, afterStep, call, play}
-use Rattle.session.specs.Accepted.{prefix-length, opened as opens, accepted-proper, Guarded, step-guarded, step-last, step-passes}
+use Rattle.session.specs.Laws.Accepted.{opened as opens, Guarded, step-guarded, step-last, step-passes}
 use Rattle.session.specs.Refused.{unless-to, step-refused, step-refused-leaves}
 use Rattle.session.specs.Follows.{Follows, accepted-is, accepted-step, answered-accepted}
 use Rattle.session.specs.ByHand.{searchAt, handed, byHand, run-is-steps}
@@ -57,7 +56,7 @@ pub record Demand (b : List ℤ) (first : ℕ) (d : Desk) : Type 0 where
 
 -- ---- what every call keeps
 record Reached (b : List ℤ) (first : ℕ) (d : Desk) : Type 0 where
-  path : Path (formulaOf b) (d .steps) (going []) (stateOf (searchAt d))
+  path : Path (formulaOf b) (d .steps) (going []) (standingOf (searchAt d))
   kept : KeptIn (prefixOf b) (searchAt d)
   revision : d .latest .revision .0 ≡ first + d .steps
 
@@ -128,21 +127,21 @@ module _ (b : List ℤ) (block : refusal limits b ≡ 0) (first : ℕ) where
 -- ---- a fresh desk
 module _ (b : List ℤ) (m : Memory) (rev : Revision) where
   opened : Desk
-  opened = desk (session 0 (rev .0) Open) (memory (wiped (pos 0) (m .lits) 0 (variablesOf b)) (wiped 0 (m .kinds) 0 (variablesOf b))) 0
+  opened = desk (session 0 (rev .0) Open) (record { trail = wipedTrail (m .trail) 0 (variablesOf b) }) 0
 
   open-reached : openRefusal b m ≡ 0 → Reached b (rev .0) opened
   unfolding opened formulaOf recordOf
   open-reached e =
-      let o = opens b m e .lent in
+      let o = opens b m e in
       let F = formulaOf b in
-      let V′ = variablesOf b in
+      let bound = accepted-bound b (o .block) in
+      let n = prefix-length b (o .block) in
       record {
         path = stop;
         kept = record {
-          prefix = o .prefix;
-          lits-room = rw wiped-length (o .room .lits);
-          kinds-room = rw wiped-length (o .room .kinds);
-          good = good-kept F (wiped (pos 0) (m .lits) 0 V′) (wiped 0 (m .kinds) 0 V′) 0 (o .prefix) (omega arith) (good-none F);
+          prefix = bound;
+          room = record { lits = rw (wiped-length, n) (o .room .lits); kinds = rw (wiped-length, n) (o .room .kinds) };
+          good = good-kept F (wipedTrail (m .trail) 0 (variablesOf b)) 0 bound (omega arith) (good-none F);
         };
         revision = omega arith;
       }

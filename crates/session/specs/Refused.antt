@@ -1,16 +1,17 @@
 -- A refused call: "Each returns its number alone and leaves all memory and the session as they were", and a call whose seen revision is not
 -- the session's is always one. By the two cases of the number, 0 and not 0.
-use mathlib.Core.Path.{_≡_, refl, sym}
+use mathlib.Core.Path.{_≡_, refl}
 use mathlib.Core.Bool.{true}
 use mathlib.Core.List.{List}
 use Prim.Native.Nat.{ℕ, zero, suc}
 use native.Mathlib.Omega.{arith}
 use lib.IntN.{ℤ}
 use borrow.Author.Tests.{ne-eqb}
-use Rattle.words.specs.Bools.{not-f}
+use Rattle.words.specs.Laws.Bools.{not-f}
 use Rattle.words.specs.Lists.{In}
 use Rattle.words.specs.Outcomes.{Outcome, outcome, unless, Left, unless-left}
-use Rattle.words.specs.Rows.{upTo, refused-by}
+use Rattle.words.specs.Rows.{upTo}
+use Rattle.words.specs.Laws.Rows.{refused-by}
 use Rattle.words.specs.declared.Literal.{Literal}
 use Rattle.session.specs.declared.Revision.{Revision}
 use Rattle.session.specs.declared.Session.{Session}

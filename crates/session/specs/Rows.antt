@@ -5,7 +5,8 @@ use mathlib.Core.List.{List, [], _∷_, _++_}
 use Prim.Native.Nat.{ℕ}
 use lib.IntN.{ℤ}
 use Rattle.words.specs.Lists.{In}
-use Rattle.words.specs.Rows.{Numbered, numbered, given}
+use Rattle.words.specs.Rows.{Numbered}
+use Rattle.words.specs.Laws.Rows.{numbered, given}
 use Rattle.words.specs.declared.Literal.{Literal}
 use Rattle.formula.specs.Rows.{blockNumbers}
 use Rattle.session.specs.declared.Revision.{Revision}

@@ -5,26 +5,8 @@ pub mod Record
 pub mod Tests
 pub mod Rules
 pub mod Start
--- assignments, the value of a formula, what the tests say
-pub mod Assignment
-pub mod Asked
-pub mod Value
-pub mod Tested
--- the laws: group exchange, decide, early choices; conflict, leaf; unit, monotone
-pub mod Choices
-pub mod Conflict
-pub mod Forced
-pub mod Monotone
--- the invariant, soundness
-pub mod Invariant
-pub mod Sound
--- what a rule does to a record; finiteness
-pub mod Moves
-pub mod Good
-pub mod Free
-pub mod Finite
--- progress, and all together
-pub mod Paths
-pub mod Progress
+-- what is proved about them on the way
+pub mod Laws
+-- the theorems, and why the rules are as they are
 pub mod Theorem
 pub mod Examples

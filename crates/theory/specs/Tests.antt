@@ -1,6 +1,6 @@
 -- The tests that the rules make of a clause, of a literal and of a record. p is the prefix, m the clauses, ρ says which literals are true.
-use mathlib.Core.Bool.{Bool, not, _&&_, _||_}
-use mathlib.Core.List.{List}
+use mathlib.Core.Bool.{Bool, not, cond, _&&_, _||_}
+use mathlib.Core.List.{List, [], _∷_}
 use lib.Dec.{leb, ltb}
 use lib.IntN.{ℤ, negℤ}
 use Rattle.words.specs.Lists.{any, all}
@@ -23,13 +23,17 @@ inConflict p ρ C = not (any ρ C) && not (any (unassignedE p ρ) C)
 unfoldable pub conflict : List ℤ → List (List ℤ) → Assignment → Bool
 conflict p m ρ = any (inConflict p ρ) m
 
+-- "exactly one unassigned existential literal l": x is no other
+abbrev pub isOnly : List ℤ → Assignment → ℤ → ℤ → Bool
+isOnly p ρ l x = not (unassignedE p ρ x) || eqZ x l
+
+-- "each unassigned universal literal at a higher level than l": so x, if it is one
+abbrev pub isDeeper : List ℤ → Assignment → ℤ → ℤ → Bool
+isDeeper p ρ l x = not (unassignedU p ρ x) || ltb (level p l) (level p x)
+
 -- "no true literal, exactly one unassigned existential literal l, and each unassigned universal literal at a higher level than l"
 unfoldable pub unitOn : List ℤ → Assignment → List ℤ → ℤ → Bool
-unitOn p ρ C l =
-    not (any ρ C)
-    && (mem l C && unassignedE p ρ l)
-    && all (λ x. not (unassignedE p ρ x) || eqZ x l) C
-    && all (λ x. not (unassignedU p ρ x) || ltb (level p l) (level p x)) C
+unitOn p ρ C l = not (any ρ C) && (mem l C && unassignedE p ρ l) && all (isOnly p ρ l) C && all (isDeeper p ρ l) C
 
 -- "occurs with one sign only over the whole matrix": l occurs and its opposite does not
 unfoldable pub occurs : List (List ℤ) → ℤ → Bool
@@ -42,6 +46,14 @@ oneSign m l = occurs m l && not (occurs m (negℤ l))
 unfoldable pub monotone : List ℤ → List (List ℤ) → Assignment → ℤ → Bool
 monotone p m ρ l = (unassignedE p ρ l && oneSign m l) || (unassignedU p ρ l && oneSign m (negℤ l))
 
+-- the same over the clauses with no true literal
+unfoldable pub untrueOf : Assignment → List (List ℤ) → List (List ℤ)
+untrueOf ρ [] = []
+untrueOf ρ (C ∷ m) = cond (any ρ C) (untrueOf ρ m) (C ∷ untrueOf ρ m)
+
+unfoldable pub monotoneOpen : List ℤ → List (List ℤ) → Assignment → ℤ → Bool
+monotoneOpen p m ρ l = monotone p (untrueOf ρ m) ρ l
+
 -- the widest that is sound: l stands in no clause that lacks a true literal
 unfoldable pub absent : List (List ℤ) → Assignment → ℤ → Bool
 absent m ρ l = all (λ C. any ρ C || not (mem l C)) m
@@ -49,10 +61,13 @@ absent m ρ l = all (λ C. any ρ C || not (mem l C)) m
 unfoldable pub monotoneWide : List ℤ → List (List ℤ) → Assignment → ℤ → Bool
 monotoneWide p m ρ l = (unassignedE p ρ l && absent m ρ (negℤ l)) || (unassignedU p ρ l && absent m ρ l)
 
+-- "no variable of a lower level is": so the one that q binds
+abbrev pub notBelow : List ℤ → Assignment → ℤ → ℤ → Bool
+notBelow p ρ l q = assigned ρ q || leb (level p l) (level p q)
+
 -- "A literal is open if its variable is unassigned and no variable of a lower level is."
 unfoldable pub isOpen : List ℤ → Assignment → ℤ → Bool
-isOpen p ρ l =
-    (unassignedE p ρ l || unassignedU p ρ l) && all (λ q. assigned ρ q || leb (level p l) (level p q)) p
+isOpen p ρ l = (unassignedE p ρ l || unassignedU p ρ l) && all (notBelow p ρ l) p
 
 -- "All assigned"
 unfoldable pub allAssigned : List ℤ → Assignment → Bool

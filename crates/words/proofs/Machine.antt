@@ -1,8 +1,8 @@
 -- What the machine reads back from a word's bits is the word; and every word but the least has a negation that is a word.
-use mathlib.Core.Path.{_≡_, refl, ap, _∙_}
+use mathlib.Core.Path.{_≡_, refl, _∙_}
 use mathlib.Core.Bool.{true, false}
-use Prim.Native.Nat.{ℕ, zero, suc, _-_, _≤_, _<_, _^_, zero-le}
-use native.Mathlib.Nat.{lt-trans, lt-of-le-of-lt}
+use Prim.Native.Nat.{zero, suc, _-_, _≤_, _<_, _^_, zero-le}
+use native.Mathlib.Nat.{lt-of-le-of-lt}
 use native.Mathlib.Omega.{arith}
 use lib.Dec.{T, lit<}
 use lib.IntN.{ℤ, pos, negsuc, negℤ, natAbs, _-ℤ_, +ℤ-idl}
@@ -11,7 +11,7 @@ use borrow.Author.Tests.{le-ltb}
 use mir.Syntax.{w32, w64}
 use mir.Val.{SFits, Fits, toZ, ofZ}
 use mir.ValLaws.{toZ-ofZ}
-use Rattle.words.specs.Bools.{clash}
+use Rattle.words.specs.Laws.Bools.{clash}
 use Rattle.words.specs.Words.{negative}
 
 pub below-zero : (x : ℤ) → ltZ x (pos 0) ≡ negative x

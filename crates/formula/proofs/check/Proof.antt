@@ -7,10 +7,11 @@ use lib.IntN.{ℤ}
 use lib.ListN.{length, drop}
 use borrow.Author.Tests.{lt-ltb, le-ltb}
 use Rattle.words.specs.Rows.{refusalOf}
-use Rattle.formula.specs.Limits.{limits, variables-are, clauses-are, literals-are}
+use Rattle.formula.specs.Limits.{limits}
+use Rattle.formula.specs.Laws.Limits.{variables-are, clauses-are, literals-are}
 use Rattle.formula.specs.Formula.{variablesOf, clauseCountOf, literalCountOf}
 use Rattle.formula.specs.Block.{rows, refusal}
-use Rattle.formula.specs.Layout.{Counts, good-counts, prefix-length}
+use Rattle.formula.specs.Laws.Layout.{Counts, good-counts, prefix-length}
 use Rattle.formula.specs.Check.{checkedOf}
 use Rattle.formula.proofs.Whole.{wrong-length, right-length}
 use Rattle.formula.proofs.check.Statement.{statement}

@@ -7,7 +7,7 @@ use lib.Dec.{eqb}
 use lib.IntN.{ℤ, natAbs}
 use lib.ListN.{getD}
 use Rattle.words.specs.Words.{mem}
-use Rattle.formula.specs.Places.{placeOf, wordAt}
+use Rattle.formula.specs.Inner.Places.{placeOf, wordAt}
 use Rattle.rules.specs.Inner.Tables.{signOf}
 
 -- 1 at the place of each literal that is one of the words, else 0

@@ -5,7 +5,7 @@ use mathlib.Core.List.{List}
 use Prim.Native.Nat.{ℕ, _<_}
 use lib.IntN.{ℤ, pos, negℤ}
 use lib.ListN.{length}
-use Rattle.formula.specs.Named.{Named}
+use Rattle.formula.specs.Inner.Named.{Named}
 use Rattle.theory.specs.Record.{Record, Assignment, trueIn}
 use Rattle.theory.specs.Tests.{unassignedE, unassignedU}
 use Rattle.rules.specs.Due.{last}

@@ -6,7 +6,7 @@ use Prim.Native.Nat.{ℕ}
 use lib.IntN.{ℤ}
 use lib.ListN.{length, take}
 use Rattle.formula.specs.Limits.{limits}
-use Rattle.formula.specs.Named.{known-up}
+use Rattle.formula.specs.Laws.Named.{known-up}
 use Rattle.theory.specs.Record.{literals, among, trueIn}
 use Rattle.rules.specs.Trail.{Trail, recordOf}
 use Rattle.rules.specs.Inner.Ready.{Kept, formula, Bound, Ready, Room, OnBuffers, OnBlock, HeldOn}
@@ -20,7 +20,7 @@ use Rattle.formula.specs.Formula.{variablesOf, prefixOf, endsOf, literalsOf, fo
 use Rattle.formula.specs.Block.{refusal}
 use Rattle.formula.specs.Proper.{Proper}
 use Rattle.rules.specs.Check.{badRecord}
-use Rattle.formula.specs.Accepted as block
+use Rattle.formula.specs.Laws.Accepted as block
 
 module _ (p : List ℤ) (t : Trail) (n : ℕ) (kept : Kept p t n) where
   pub kept-literals : literals (recordOf t n) ≡ take n (t .lits)

@@ -11,20 +11,24 @@ use lib.IntN.{ℤ, natAbs, pos, negsuc, negℤ}
 use lib.ListN.{length, take, drop, take-append-drop, getD, List·getD-eq-default}
 use lib.Seq.{drop-drop, drop-length}
 use borrow.Author.Tests.{ltb-false, eqb-true, not-false, ltb-true}
-use Rattle.words.specs.Bools.{or-fl, or-fr, clash, look, to-false}
-use Rattle.words.specs.Lists.{any, In, in-at}
-use Rattle.words.specs.Words.{negative, mem, mem-append, mem-e}
+use Rattle.words.specs.Laws.Bools.{or-fl, or-fr, clash, look, to-false}
+use Rattle.words.specs.Lists.{any, In}
+use Rattle.words.specs.Laws.Lists.{in-at}
+use Rattle.words.specs.Words.{negative, mem}
+use Rattle.words.specs.Laws.Words.{mem-append, mem-e}
 use Rattle.formula.specs.Formula.{clausesFrom, existential, universal, level}
 use Rattle.formula.specs.Block.{badEnds, twice}
 use Rattle.theory.specs.Tests.{occurs, unassignedE, unassignedU, inConflict}
 use Rattle.rules.specs.Inner.Tables.{Spread, Known, signOf, valueIn, Values, Quantifiers, Levels}
 use Rattle.rules.specs.Inner.Ready.{Ready, Bound}
-use Rattle.formula.specs.Limits.{limits, variables-are}
-use Rattle.formula.specs.Named.{known-up, Named, in-named}
+use Rattle.formula.specs.Limits.{limits}
+use Rattle.formula.specs.Laws.Limits.{variables-are}
+use Rattle.formula.specs.Laws.Named.{known-up, in-named}
+use Rattle.formula.specs.Inner.Named.{Named}
 use mathlib.Core.Logic.{_⊎_, inl, inr}
-use Rattle.formula.specs.Prefix.{once-in, level-few}
-use Rattle.formula.specs.Permuted.{all-bound, quantifier}
-use Rattle.formula.specs.Clauses.{clauses-in}
+use Rattle.formula.specs.Laws.Prefix.{once-in, level-few}
+use Rattle.formula.specs.Laws.Permuted.{all-bound, quantifier}
+use Rattle.formula.specs.Laws.Clauses.{clauses-in}
 use Rattle.theory.specs.Record.{Assignment, among, assigned}
 use Rattle.rules.specs.Due.{lowest, lowestUnit}
 use Rattle.rules.specs.Inner.Clauses.{Placed, Clauses, levelBy, conflictBy, lowestUnitBy}

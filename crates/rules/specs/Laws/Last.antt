@@ -7,7 +7,7 @@ use native.Mathlib.Omega.{arith}
 use lib.Dec.{eqb}
 use lib.ListN.{length, getD, drop}
 use borrow.Author.Tests.{eqb-true}
-use Rattle.words.specs.Bools.{and-i, not-f}
+use Rattle.words.specs.Laws.Bools.{and-i, not-f}
 use Rattle.words.specs.Lists.{all}
 use Rattle.theory.specs.Record.{Entry, Record, without}
 use Rattle.rules.specs.Trail.{Trail, recordOf}

@@ -12,10 +12,12 @@ use lib.IntN.{ℤ, pos}
 use lib.ListN.{length, getD, take, drop, set, replicate}
 use lib.Seq.{sets, length-take-le, take-take, take-suc, take-suc-set, getD-take, split-at}
 use borrow.Author.Tests.{ltb-false, le-ltb}
-use Rattle.words.specs.Bools.{or-fl, or-fr}
-use Rattle.words.specs.Lists.{In, here, there, any, any-none, in-at}
+use Rattle.words.specs.Laws.Bools.{or-fl, or-fr}
+use Rattle.words.specs.Lists.{In, here, there, any}
+use Rattle.words.specs.Laws.Lists.{any-none, in-at}
 use Rattle.formula.specs.Block.{noVariable, twice}
-use Rattle.formula.specs.Named.{Named, named}
+use Rattle.formula.specs.Inner.Named.{Named}
+use Rattle.formula.specs.Laws.Named.{named}
 use Rattle.theory.specs.Record.{Entry, entry, Record, literals}
 use Rattle.rules.specs.Trail.{Trail, trail, entries, recordOf, put, wiped, wipedTrail}
 use Rattle.rules.specs.Check.{badKind, badEntries, badRecord}

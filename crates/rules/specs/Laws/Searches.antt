@@ -7,11 +7,12 @@ use mathlib.Core.List.{List, [], _∷_, _++_}
 use native.Mathlib.Omega.{arith}
 use lib.IntN.{ℤ, pos, negℤ, natAbs}
 use lib.ListN.{getD}
-use Rattle.words.specs.Lists.{In, here, there, any, all-i}
+use Rattle.words.specs.Lists.{In, here, there, any}
+use Rattle.words.specs.Laws.Lists.{all-i}
 use Rattle.words.specs.declared.Literal.{Literal}
 use Rattle.theory.specs.Record.{Assignment, assigned}
 use Rattle.theory.specs.Tests.{unitOn, monotone, isOpen, allAssigned}
-use Rattle.theory.specs.Progress.{First}
+use Rattle.theory.specs.Laws.First.{First}
 use Rattle.rules.specs.Due.{literal, onFound, onPicked, firstOf, lowest, candidate, isUnit, lowestUnit, firstMonotone, firstUnassigned}
 use Rattle.rules.specs.Preferred.{firstOpen}
 use Rattle.rules.specs.declared.found.Found.{Found}

@@ -10,16 +10,16 @@ use lib.Dec.{eqb}
 use lib.IntN.{ℤ, pos, negℤ, natAbs}
 use lib.ListN.{length, getD, drop, length-set, length-append}
 use borrow.Author.Tests.{eq-eqb}
-use Rattle.words.specs.Bools.{look, clash}
+use Rattle.words.specs.Laws.Bools.{look, clash}
 use Rattle.formula.specs.Formula.{Formula, universal}
-use Rattle.formula.specs.Prefix.{stands-bound}
+use Rattle.formula.specs.Laws.Prefix.{stands-bound}
 use Rattle.theory.specs.Record.{entry, Record, Assignment, trueIn}
 use Rattle.theory.specs.Tests.{isOpen}
 use Rattle.theory.specs.Rules.{going, Quiet, Step}
-use Rattle.theory.specs.Tested.{open-e}
-use Rattle.theory.specs.Monotone.{monotone-wide}
-use Rattle.theory.specs.Good.{good-step}
-use Rattle.theory.specs.Free.{good-taken}
+use Rattle.theory.specs.Laws.Tested.{open-e}
+use Rattle.theory.specs.Laws.Monotone.{monotone-wide}
+use Rattle.theory.specs.Laws.Moves.{good-step}
+use Rattle.theory.specs.Laws.Work.{good-taken}
 use Rattle.rules.specs.Trail.{put, recordOf}
 use Rattle.rules.specs.Search.{Search, recordIn, standingOf}
 use Rattle.rules.specs.Due.{literal, due}

@@ -12,20 +12,24 @@ use lib.Dec.{eqb, leb}
 use lib.IntN.{ℤ, pos, negsuc, negℤ, natAbs}
 use lib.ListN.{length, getD}
 use borrow.Author.Tests.{eq-eqb, ne-eqb, le-leb, lt-leb, leb-true}
-use Rattle.words.specs.Bools.{look, bool-eq, and-r, or-l, or-r, or-e}
-use Rattle.words.specs.Lists.{In, all, any, all-i, all-e, any-i, in-middle}
+use Rattle.words.specs.Laws.Bools.{look, bool-eq, and-r, or-l, or-r, or-e}
+use Rattle.words.specs.Lists.{In, all, any}
+use Rattle.words.specs.Laws.Lists.{all-i, all-e, any-i, in-middle}
 use Rattle.words.specs.declared.Literal.{Literal}
-use Rattle.words.specs.Words.{mem, mem-i, mem-e, natAbs-neg, negneg}
-use Rattle.formula.specs.Limits.{limits, maxVariables, variables-are}
+use Rattle.words.specs.Words.{mem}
+use Rattle.words.specs.Laws.Words.{mem-i, mem-e, natAbs-neg, negneg}
+use Rattle.formula.specs.Limits.{limits, maxVariables}
+use Rattle.formula.specs.Laws.Limits.{variables-are}
 use Rattle.formula.specs.Formula.{existential, universal, levelOf, level}
 use Rattle.formula.specs.Block.{names}
-use Rattle.formula.specs.Named.{in-named}
-use Rattle.formula.specs.Places.{placeOf, word-place, place-plus, place-minus}
-use Rattle.formula.specs.Prefix.{stands, binds, level-few, one-sign}
-use Rattle.formula.specs.Permuted.{all-bound, no-other}
+use Rattle.formula.specs.Laws.Named.{in-named}
+use Rattle.formula.specs.Inner.Places.{placeOf}
+use Rattle.formula.specs.Laws.Places.{word-place, place-plus, place-minus}
+use Rattle.formula.specs.Laws.Prefix.{stands, binds, level-few, one-sign}
+use Rattle.formula.specs.Laws.Permuted.{all-bound, no-other}
 use Rattle.theory.specs.Record.{Assignment, assigned}
 use Rattle.theory.specs.Tests.{unassignedE, unassignedU, oneSign, monotone, isOpen, allAssigned}
-use Rattle.theory.specs.Progress.{first-open}
+use Rattle.theory.specs.Laws.First.{first-open}
 use Rattle.rules.specs.Due.{literal, onPicked, firstOf, firstMonotone, firstUnassigned}
 use Rattle.rules.specs.Preferred.{firstOpen}
 use Rattle.rules.specs.Inner.Tables.{valueIn, Values, Quantifiers, Levels, Lowest, Spread, places}

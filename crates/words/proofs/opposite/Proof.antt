@@ -1,7 +1,7 @@
 -- Only the least word is too large for its negation to fit.
 use mathlib.Core.Path.{sym, _∙_}
 use native.Mathlib.Omega.{arith}
-use Rattle.words.specs.Words.{opposite-is, opposite-none}
+use Rattle.words.specs.Laws.Words.{opposite-is, opposite-none}
 use Rattle.words.proofs.Machine.{least, not-least, negates, read-negated}
 use Rattle.words.proofs.opposite.Statement.{statement}
 use Rattle.words.proofs.opposite.Tie as tie

@@ -1,7 +1,7 @@
 -- The least word's size stands in the code; any other word has a negation, and that or the word itself is its size.
 use mathlib.Core.Path.{sym, ap, _∙_}
 use lib.IntN.{natAbs}
-use Rattle.words.specs.Words.{natAbs-neg}
+use Rattle.words.specs.Laws.Words.{natAbs-neg}
 use Rattle.words.proofs.Machine.{read, least, is-size, negated-size, size-cast, negates, read-negated}
 use Rattle.words.proofs.size.Statement.{statement}
 use Rattle.words.proofs.size.Tie as tie

@@ -1,8 +1,9 @@
 -- The marks are the variables of the words passed, from the last one on; a word over the table's size is answered at once.
 use mathlib.Core.Path.{_≡_}
-use Prim.Native.Nat.{_+_, _-_, _≤_}
+use Prim.Native.Nat.{_+_, _-_}
 use native.Mathlib.Omega.{arith}
-use Rattle.formula.specs.Limits.{limits, variables-are}
+use Rattle.formula.specs.Limits.{limits}
+use Rattle.formula.specs.Laws.Limits.{variables-are}
 use Rattle.formula.proofs.Seen.{Seen, begin, large, hit, more, end}
 use Rattle.formula.proofs.marks.variable_twice.Statement.{statement}
 use Rattle.formula.proofs.marks.variable_twice.Tie as tie

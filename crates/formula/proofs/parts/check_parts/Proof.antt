@@ -5,9 +5,9 @@ use lib.ListN.{drop}
 use Rattle.words.specs.Rows.{Row, refusalOf}
 use Rattle.formula.specs.Limits.{limits}
 use Rattle.formula.specs.Block.{twice}
-use Rattle.formula.specs.Named.{all-named, named-up, known-up, repeated-is}
+use Rattle.formula.specs.Laws.Named.{all-named, named-up, known-up, repeated-is}
 use Rattle.formula.specs.Check.{checkedOf}
-use Rattle.formula.specs.Tables.{partRows}
+use Rattle.formula.specs.Inner.Tables.{partRows}
 use Rattle.formula.proofs.parts.check_parts.Statement.{statement}
 use Rattle.formula.proofs.parts.check_parts.Tie as tie
 

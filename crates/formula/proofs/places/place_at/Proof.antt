@@ -2,7 +2,8 @@
 use mathlib.Core.Path.{sym}
 use lib.IntN.{pos}
 use lib.ListN.{getD}
-use Rattle.formula.specs.Limits.{maxVariables, variables-are}
+use Rattle.formula.specs.Limits.{maxVariables}
+use Rattle.formula.specs.Laws.Limits.{variables-are}
 use borrow.Author.Needs.{needs, sfits-of}
 use Rattle.formula.proofs.Raised.{place-none, word-fits, sum-fits, sum-cast, sum-place}
 use Rattle.formula.proofs.places.place_at.Statement.{statement}
@@ -10,12 +11,6 @@ use Rattle.formula.proofs.places.place_at.Tie as tie
 
 returns : tie.Need-returns
 returns c = place-none (c .before .args .ws .now) _ maxVariables (sym variables-are) (c .if1 .taken)
-
-mul-word : tie.Need-mul-word
-mul-word c = search needs
-
-shared-slice-copy-out-word : tie.Need-shared-slice-copy-out-word
-shared-slice-copy-out-word c = search needs
 
 cast-word : tie.Need-cast-word
 cast-word c =
@@ -42,8 +37,8 @@ place-at-spec =
     tie.close
     (tie.spec
     returns
-    mul-word
-    shared-slice-copy-out-word
+    (λ c. search needs)
+    (λ c. search needs)
     cast-word
     add-result
     cast-result

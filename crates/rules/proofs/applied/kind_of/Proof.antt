@@ -10,7 +10,7 @@ use mir.Syntax.{w32}
 use mir.ValLaws.{toZ-ofZ}
 use native.Mathlib.Omega.{arith}
 use borrow.Author.Needs.{needs}
-use Rattle.formula.specs.Limits.{variables-are}
+use Rattle.formula.specs.Laws.Limits.{variables-are}
 use Rattle.rules.proofs.Places.{kind-by, kind-over}
 use Rattle.rules.proofs.Filled.{bound-written, quantifiers-of}
 use Rattle.rules.proofs.applied.kind_of.Statement.{statement}

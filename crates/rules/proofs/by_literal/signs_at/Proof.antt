@@ -1,7 +1,7 @@
 -- A variable's two places say with which signs it occurs.
 use native.Mathlib.Omega.{arith}
 use borrow.Author.Tests.{eq-eqb, ne-eqb}
-use Rattle.formula.specs.Limits.{variables-are}
+use Rattle.formula.specs.Laws.Limits.{variables-are}
 use Rattle.rules.proofs.by_literal.signs_at.Statement.{statement}
 use Rattle.rules.proofs.by_literal.signs_at.Tie as tie
 

@@ -6,7 +6,8 @@ use lib.ListN.{length, drop}
 use borrow.Author.Needs.{needs}
 use Rattle.rules.specs.Inner.ByLiteral.{statusIn}
 use Rattle.rules.specs.Inner.Clauses.{keepsBy, conflictBy}
-use Rattle.words.specs.Lists.{any, any-found, any-past, any-ended}
+use Rattle.words.specs.Lists.{any}
+use Rattle.words.specs.Laws.Lists.{any-found, any-past, any-ended}
 use mathlib.Core.Bool.{not}
 use lib.IntN.{pos}
 use Rattle.rules.proofs.Walk.{keeps-true, keeps-existential, keeps-not}

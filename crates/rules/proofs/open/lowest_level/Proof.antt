@@ -7,8 +7,8 @@ use lib.ListN.{length}
 use mir.Syntax.{w32}
 use mir.ValLaws.{toZ-ofZ}
 use borrow.Author.Needs.{needs}
-use Rattle.formula.specs.Limits.{variables-are}
-use Rattle.formula.specs.Named.{in-named}
+use Rattle.formula.specs.Laws.Limits.{variables-are}
+use Rattle.formula.specs.Laws.Named.{in-named}
 use Rattle.rules.specs.Inner.Tables.{places}
 use Rattle.rules.specs.Inner.Variables.{lowestIn}
 use Rattle.rules.specs.Laws.VariablesMean.{unassigned-in}

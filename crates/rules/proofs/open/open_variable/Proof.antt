@@ -1,7 +1,7 @@
 -- The four tests in turn; a variable of the prefix has a place.
 use native.Mathlib.Omega.{arith}
 use borrow.Author.Tests.{eq-eqb, ne-eqb, le-leb, lt-leb}
-use Rattle.formula.specs.Limits.{variables-are}
+use Rattle.formula.specs.Laws.Limits.{variables-are}
 use Rattle.rules.specs.Inner.Variables.{openIn}
 use Rattle.rules.proofs.open.open_variable.Statement.{statement}
 use Rattle.rules.proofs.open.open_variable.Tie as tie

@@ -6,7 +6,7 @@ use borrow.Author.Needs.{needs}
 use Rattle.words.specs.Lists.{any}
 use Rattle.formula.specs.Limits.{limits}
 use Rattle.formula.specs.Block.{noVariable, twice}
-use Rattle.formula.specs.Named.{known-up, repeated-is}
+use Rattle.formula.specs.Laws.Named.{known-up, repeated-is}
 use Rattle.rules.specs.Trail.{trail}
 use Rattle.rules.specs.Inner.Ready.{Bound, Room}
 use Rattle.rules.specs.Laws.Records.{room-less}

@@ -4,8 +4,9 @@ use mir.Syntax.{w32}
 use mir.Val.{toZ, ofZ}
 use mir.ValLaws.{toZ-ofZ}
 use borrow.Author.Needs.{needs, sfits-of}
-use Rattle.words.specs.Words.{opposite, opposite-is}
-use Rattle.formula.specs.Limits.{variables-small}
+use Rattle.words.specs.Words.{opposite}
+use Rattle.words.specs.Laws.Words.{opposite-is}
+use Rattle.formula.specs.Laws.Limits.{variables-small}
 use native.Mathlib.Nat.{le-trans}
 use Rattle.rules.specs.Due.{literal}
 use Rattle.rules.proofs.variables.opposite_at.Statement.{statement}
