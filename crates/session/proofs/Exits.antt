@@ -29,7 +29,7 @@ use Rattle.session.specs.Memory.{Memory}
 use Rattle.session.specs.Refusals.{lastRevision, openRefusal, sessionRows, ofStep, stepRefusal, ofRun, runRefusal}
 use Rattle.session.specs.Outcome.{session, openOutcome, stepOutcome}
 use Rattle.session.specs.Run.{trip, runFrom, runOf}
-use Rattle.session.specs.Laws.Trips.{travelled}
+use Rattle.session.specs.Laws.Runs.{travelled}
 use Rattle.session.specs.Inner.Guards.{sessionRefusal, proposalRefusal}
 use Rattle.session.proofs.Lent.{passed}
 

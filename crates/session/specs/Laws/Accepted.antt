@@ -1,5 +1,5 @@
 -- What the rows that a call has passed show: the block's formula is proper and its prefix bound, the record is one that the rules keep.
-use Prim.Native.Nat.{ℕ, _+_, _-_, _≤_}
+use Prim.Native.Nat.{ℕ, _+_, _≤_, _<_}
 use mathlib.Core.Path.{_≡_, refl, _∙_}
 use mathlib.Core.Logic.{_⊎_, inl, inr}
 use mathlib.Core.Bool.{Bool, true, false, not, _&&_, and-false}
@@ -7,7 +7,7 @@ use mathlib.Core.List.{List}
 use lib.Dec.{eqb, ltb}
 use lib.IntN.{ℤ, natAbs}
 use lib.ListN.{length}
-use borrow.Author.Tests.{eqb-true, eqb-false, ltb-false, not-false, le-ltb, eq-eqb, ne-eqb}
+use borrow.Author.Tests.{eqb-true, eqb-false, ltb-false, not-false, le-ltb, lt-ltb, eq-eqb, ne-eqb}
 use Rattle.words.specs.Laws.Bools.{clash, look, or-fl, or-fr, not-f}
 use Rattle.words.specs.Rows.{refusalOf}
 use Rattle.words.specs.Laws.Rows.{goes-on, first-part, passed}
@@ -125,9 +125,13 @@ module _ (s : Session) (b : List ℤ) (m : Memory) (seen : Revision) (g : Guarde
   unfolding stepRefusal sessionRefusal
   from-15 l = goes-on (sessionRows s b m seen) (ofStep s b m seen l) refl guard-passes
 
-  -- row 15 before 16 and 17
+  -- row 15, for a step before 16 and 17
   pub step-last : s .revision .0 ≡ lastRevision → (l : Literal) → stepRefusal s b m seen l ≡ 15
   step-last e l = rw (from-15 l, eq-eqb (s .revision .0) lastRevision e)
+
+  pub run-last : (budget : ℕ) → lastRevision < s .revision .0 + budget → runRefusal s b m seen budget ≡ 15
+  unfolding runRefusal sessionRefusal
+  run-last budget h = rw (goes-on (sessionRows s b m seen) (ofRun s b m seen budget) refl guard-passes, lt-ltb lastRevision (s .revision .0 + budget) h)
 
   module _ (below : s .revision .0 ≡ lastRevision → ⊥) (l : Literal) where
     unproposed : (x : Bool) → natAbs (l .0) ≡ 0 → (proposed l && x) ≡ false
