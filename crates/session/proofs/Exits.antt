@@ -1,6 +1,6 @@
 -- The ways out of opening, a step and a run: one law for each, from the facts on that path.
 use Prim.Native.Nat.{ℕ, _+_, _-_, _≤_, _<_}
-use mathlib.Core.Path.{_≡_, refl, sym, _∙_}
+use mathlib.Core.Path.{_≡_, sym, _∙_}
 use mathlib.Core.List.{List}
 use native.Mathlib.Omega.{arith}
 use lib.IntN.{ℤ}
@@ -8,7 +8,7 @@ use lib.ListN.{take}
 use borrow.Author.Tests.{eq-eqb, ne-eqb, lt-ltb, le-ltb}
 use Rattle.words.specs.Outcomes.{outcome, unless-number}
 use Rattle.words.specs.Rows.{refusalOf}
-use Rattle.words.specs.Laws.Rows.{stops, goes-on}
+use Rattle.words.specs.Laws.Rows.{stops}
 use Rattle.words.specs.declared.Literal.{Literal}
 use Rattle.formula.specs.Formula.{variablesOf, prefixOf, formulaOf}
 use Rattle.theory.specs.Record.{among}
@@ -29,6 +29,7 @@ use Rattle.session.specs.Memory.{Memory}
 use Rattle.session.specs.Refusals.{lastRevision, openRefusal, sessionRows, ofStep, stepRefusal, ofRun, runRefusal}
 use Rattle.session.specs.Outcome.{session, openOutcome, stepOutcome}
 use Rattle.session.specs.Run.{trip, runFrom, runOf}
+use Rattle.session.specs.Laws.Accepted.{step-from-15, run-from-15}
 use Rattle.session.specs.Laws.Runs.{travelled}
 use Rattle.session.specs.Inner.Guards.{sessionRefusal, proposalRefusal}
 use Rattle.session.proofs.Lent.{passed}
@@ -50,13 +51,12 @@ module _ (s : Session) (b : List ℤ) (m : Memory) (seen : Revision) (l : Litera
   step-refused f = rw (← stops (sessionRows s b m seen) (ofStep s b m seen l) e f) (unless-number Refused r m _ f)
 
   module _ (z : r ≡ 0) where
-    step-from-15 : stepRefusal s b m seen l ≡ refusalOf (ofStep s b m seen l)
-    unfolding stepRefusal sessionRefusal
-    step-from-15 = goes-on (sessionRows s b m seen) (ofStep s b m seen l) refl (sym e ∙ z)
+    from-15 : stepRefusal s b m seen l ≡ refusalOf (ofStep s b m seen l)
+    from-15 = step-from-15 s b m seen l (sym e ∙ z)
 
     pub step-last : s .revision .0 ≡ lastRevision → outcome (Refused 15) m ≡ stepOutcome s b m seen l
     unfolding stepOutcome
-    step-last h = rw (step-from-15, eq-eqb (s .revision .0) lastRevision h)
+    step-last h = rw (from-15, eq-eqb (s .revision .0) lastRevision h)
 
     module _
         (below : s .revision .0 ≡ lastRevision → ⊥)
@@ -67,7 +67,7 @@ module _ (s : Session) (b : List ℤ) (m : Memory) (seen : Revision) (l : Litera
         unfolding proposalRefusal formulaOf
         step-from-16 =
             let g = passed s b m seen e z in
-            rw (step-from-15, ne-eqb (s .revision .0) lastRevision below, kept-true (prefixOf b) (m .trail) (s .length) (g .kept), ← is, proper)
+            rw (from-15, ne-eqb (s .revision .0) lastRevision below, kept-true (prefixOf b) (m .trail) (s .length) (g .kept), ← is, proper)
 
         pub step-improper : (q ≡ 0 → ⊥) → outcome (Refused q) m ≡ stepOutcome s b m seen l
         unfolding stepOutcome
@@ -89,13 +89,9 @@ module _ (s : Session) (b : List ℤ) (m : Memory) (seen : Revision) (budget : �
   run-refused f = rw (← stops (sessionRows s b m seen) (ofRun s b m seen budget) e f) (unless-number Stopped r m _ f)
 
   module _ (z : r ≡ 0) {w : ℕ} (is : w ≡ budget) where
-    run-from-15 : runRefusal s b m seen budget ≡ refusalOf (ofRun s b m seen budget)
-    unfolding runRefusal sessionRefusal
-    run-from-15 = goes-on (sessionRows s b m seen) (ofRun s b m seen budget) refl (sym e ∙ z)
-
     pub run-over : lastRevision - s .revision .0 < w → outcome (Stopped 15) m ≡ runOf s b m seen budget preferred
     unfolding runOf
-    run-over h = rw (run-from-15, lt-ltb lastRevision (s .revision .0 + budget) (omega arith))
+    run-over h = rw (run-from-15 s b m seen budget (sym e ∙ z), lt-ltb lastRevision (s .revision .0 + budget) (omega arith))
 
     pub run-moves : s .revision .0 ≤ lastRevision → w ≤ lastRevision - s .revision .0
         → (t : Reached) (steps : ℕ) (t′ : Trail) → trip (reached t t′) steps ≡ runFrom (formulaOf b) preferred budget (search (m .trail) (s .length) Open) 0
@@ -104,7 +100,7 @@ module _ (s : Session) (b : List ℤ) (m : Memory) (seen : Revision) (budget : �
     unfolding runOf
     run-moves low h t steps t′ a q d =
         let g = passed s b m seen e z in
-        rw (run-from-15, le-ltb lastRevision (s .revision .0 + budget) (omega arith), g .live, ← a, d, q)
+        rw (run-from-15 s b m seen budget (sym e ∙ z), le-ltb lastRevision (s .revision .0 + budget) (omega arith), g .live, ← a, d, q)
 
 -- a run's steps are at most its budget
 pub steps-within : {b : List ℤ} {t : Trail} {n : ℕ} → OnBlock b t n → (budget : ℕ) (preferred : List ℤ) {u : Search} {steps : ℕ}

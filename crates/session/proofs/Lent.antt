@@ -10,7 +10,7 @@ use Rattle.rules.specs.Search.{search}
 use Rattle.rules.specs.Due.{due}
 use Rattle.rules.specs.Inner.Ready.{OnBlock, HeldOn, Fitting}
 use Rattle.rules.specs.Laws.Steps.{due-fits}
-use Rattle.rules.specs.Laws.Kept.{kept-written}
+use Rattle.rules.specs.Laws.Accepted.{held-on}
 use Rattle.session.specs.declared.Revision.{Revision}
 use Rattle.session.specs.declared.Session.{Session}
 use Rattle.session.specs.Memory.{Memory}
@@ -25,7 +25,7 @@ module _ {b : List ℤ} {t : Trail} {n : ℕ} (o : OnBlock b t n) where
 
   -- the record with no kinds
   pub held : HeldOn b (t .lits) n
-  held = record { block = o .block; written = kept-written (prefixOf b) t n (o .kept) }
+  held = held-on b t n o
 
 -- ---- rows 1 to 14 have passed
 module _ (s : Session) (b : List ℤ) (m : Memory) (seen : Revision) {r : ℕ} (e : r ≡ sessionRefusal s b m seen) (z : r ≡ 0) where
