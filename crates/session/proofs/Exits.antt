@@ -36,9 +36,9 @@ use Rattle.session.proofs.Lent.{passed}
 
 -- ---- opening
 module _ (b : List ℤ) (m : Memory) (rev : Revision) {r : ℕ} (e : r ≡ openRefusal b m) where
-  pub open-refused : (r ≡ 0 → ⊥) → outcome (Refused r) m ≡ openOutcome b m rev
+  pub open-stops : (r ≡ 0 → ⊥) → outcome (Refused r) m ≡ openOutcome b m rev
   unfolding openOutcome
-  open-refused f = rw (← e) (unless-number Refused r m _ f)
+  open-stops f = rw (← e) (unless-number Refused r m _ f)
 
   pub open-clears : r ≡ 0 → {n : ℕ} → n ≡ variablesOf b → {t′ : Trail} → t′ ≡ wipedTrail (m .trail) 0 n → outcome (To (session 0 (rev .0) Open)) (record { trail = t′ }) ≡ openOutcome b m rev
   unfolding openOutcome
@@ -46,9 +46,9 @@ module _ (b : List ℤ) (m : Memory) (rev : Revision) {r : ℕ} (e : r ≡ openR
 
 -- ---- a step
 module _ (s : Session) (b : List ℤ) (m : Memory) (seen : Revision) (l : Literal) {r : ℕ} (e : r ≡ sessionRefusal s b m seen) where
-  pub step-refused : (r ≡ 0 → ⊥) → outcome (Refused r) m ≡ stepOutcome s b m seen l
+  pub step-stops : (r ≡ 0 → ⊥) → outcome (Refused r) m ≡ stepOutcome s b m seen l
   unfolding stepOutcome stepRefusal sessionRefusal
-  step-refused f = rw (← stops (sessionRows s b m seen) (ofStep s b m seen l) e f) (unless-number Refused r m _ f)
+  step-stops f = rw (← stops (sessionRows s b m seen) (ofStep s b m seen l) e f) (unless-number Refused r m _ f)
 
   module _ (z : r ≡ 0) where
     from-15 : stepRefusal s b m seen l ≡ refusalOf (ofStep s b m seen l)
@@ -84,9 +84,9 @@ module _ (s : Session) (b : List ℤ) (m : Memory) (seen : Revision) (l : Litera
 
 -- ---- a run
 module _ (s : Session) (b : List ℤ) (m : Memory) (seen : Revision) (budget : ℕ) (preferred : List ℤ) {r : ℕ} (e : r ≡ sessionRefusal s b m seen) where
-  pub run-refused : (r ≡ 0 → ⊥) → outcome (Stopped r) m ≡ runOf s b m seen budget preferred
+  pub run-stops : (r ≡ 0 → ⊥) → outcome (Stopped r) m ≡ runOf s b m seen budget preferred
   unfolding runOf runRefusal sessionRefusal
-  run-refused f = rw (← stops (sessionRows s b m seen) (ofRun s b m seen budget) e f) (unless-number Stopped r m _ f)
+  run-stops f = rw (← stops (sessionRows s b m seen) (ofRun s b m seen budget) e f) (unless-number Stopped r m _ f)
 
   module _ (z : r ≡ 0) {w : ℕ} (is : w ≡ budget) where
     pub run-over : lastRevision - s .revision .0 < w → outcome (Stopped 15) m ≡ runOf s b m seen budget preferred

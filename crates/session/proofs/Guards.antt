@@ -85,11 +85,11 @@ module _ (p : List ℤ) (ρ : Assignment) (rule : Rule) (l : Literal) {n : ℕ} 
     unfolding proposalRefusal
     proposal-undue x = rw (← sized, ne-eqb n 0 some, ← decided, x)
 
-    module _ (x : not d ≡ false) {o : Bool} (opened : o ≡ isOpen p ρ (l .0)) where
+    module _ (x : not d ≡ false) {o : Bool} (free : o ≡ isOpen p ρ (l .0)) where
       pub proposal-closed : not o ≡ true → 17 ≡ proposalRefusal p ρ rule l
       unfolding proposalRefusal
-      proposal-closed y = rw (← sized, ne-eqb n 0 some, ← decided, x, ← opened, y)
+      proposal-closed y = rw (← sized, ne-eqb n 0 some, ← decided, x, ← free, y)
 
       pub proposal-passes : not o ≡ false → 0 ≡ proposalRefusal p ρ rule l
       unfolding proposalRefusal
-      proposal-passes y = rw (← sized, ne-eqb n 0 some, ← decided, x, ← opened, y)
+      proposal-passes y = rw (← sized, ne-eqb n 0 some, ← decided, x, ← free, y)

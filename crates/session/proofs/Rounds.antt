@@ -37,14 +37,14 @@ module _ {b : List ℤ} {t : Trail} {n : ℕ} (o : OnBlock b t n) (preferred : L
   advanced {rule} is {l} from {u} a = a ∙ rw (from, ← kept-true (prefixOf b) t n (o .kept), is)
 
   -- it leaves checked input, and buffers as long as before
-  abbrev next : Search
-  next = advance (formulaOf b) preferred (search t n Open)
+  abbrev onward : Search
+  onward = advance (formulaOf b) preferred (search t n Open)
 
-  advance-on : OnBlock b (next .trail) (next .count)
+  advance-on : OnBlock b (onward .trail) (onward .count)
   unfolding formulaOf
   advance-on = record { block = o .block; kept = advance-keeps (formulaOf b) preferred (search t n Open) (o .kept) }
 
-  advance-lengths : (length (next .trail .lits) ≡ length (t .lits)) × (length (next .trail .kinds) ≡ length (t .kinds))
+  advance-lengths : (length (onward .trail .lits) ≡ length (t .lits)) × (length (onward .trail .kinds) ≡ length (t .kinds))
   unfolding advance
   advance-lengths = apply-lengths (formulaOf b .prefix) (due (formulaOf b) (recordOf t n)) _ (search t n Open)
 

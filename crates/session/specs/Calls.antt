@@ -1,4 +1,4 @@
--- "any history of calls": a desk after a list of calls, each given that formula, that record and the latest session.
+-- [demand.2.history] A desk after a list of calls, each on that block and that record and with the latest session.
 use Prim.Native.Nat.{ℕ, _+_}
 use mathlib.Core.List.{List, [], _∷_}
 use lib.IntN.{ℤ}
@@ -13,7 +13,7 @@ use Rattle.session.specs.Memory.{Memory}
 use Rattle.session.specs.Outcome.{stepOutcome}
 use Rattle.session.specs.Run.{runOf}
 
--- the latest session, the two buffers, and the accepted steps so far
+-- the latest session, the memory, and the accepted steps so far
 pub record Desk : Type 0 where
   pub latest : Session
   pub memory : Memory

@@ -1,6 +1,5 @@
--- Demand 2 for any history of calls: "any list of steps and runs with any arguments, refused ones included, each given that formula, that
--- record and the latest session". On every desk that calls lead to from a fresh one the accepted steps are a path of the theory's rules from
--- the empty record to the search that stands there; what the theory says of such paths is said of the desk.
+-- [demand.2] Any history of calls from an accepted opening on. On every desk that they lead to, the accepted steps are a path of the theory's rules
+-- from the empty record to the search that stands there; what the theory says of such paths is said of the desk.
 use Prim.Native.Nat.{ℕ, zero, suc, _+_, _-_, _^_, _≤_, _<_}
 use mathlib.Core.Path.{_≡_, refl, ap}
 use mathlib.Core.Logic.{inl}
@@ -39,7 +38,7 @@ use Rattle.session.specs.Run.{runOf}
 use Rattle.session.specs.Calls.{Desk, desk, Call, step, run, afterStep, call, play}
 use Rattle.session.specs.Laws.Accepted.{opened, Guarded, step-guarded, step-last, run-last, step-passes}
 use Rattle.session.specs.Refused.{unless-to, step-refused, run-refused, step-refused-leaves}
-use Rattle.session.specs.Stepped.{Follows, accepted-is, accepted-step, answered-accepted}
+use Rattle.session.specs.Stepped.{Stepped, accepted-is, accepted-step, answered-accepted}
 use Rattle.session.specs.RunSteps.{searchAt, handed, byHand, hand-used, run-is-steps, run-pauses}
 
 -- the state that tells the truth
@@ -67,14 +66,14 @@ pub record Demand (b : List ℤ) (first : ℕ) (d : Desk) : Type 0 where
       → (preferred : List ℤ) → runOf (d .latest) b (d .memory) (d .latest .revision) budget preferred .answer ≡ Stopped 15
 
 -- ---- what every call keeps
-record Reached (b : List ℤ) (first : ℕ) (d : Desk) : Type 0 where
+record Invariant (b : List ℤ) (first : ℕ) (d : Desk) : Type 0 where
   path : Path (formulaOf b) (d .steps) (going []) (standingOf (searchAt d))
   kept : KeptIn (prefixOf b) (searchAt d)
   revision : d .latest .revision .0 ≡ first + d .steps
 
 module _ (b : List ℤ) (first : ℕ) where
   -- one more rule
-  grown : (d : Desk) (l : ℤ) (s′ : Session) (m′ : Memory) → Reached b first d → d .latest .state ≡ Open → Follows b l (d .latest) s′ (d .memory) m′ → Reached b first (desk s′ m′ (d .steps + 1))
+  grown : (d : Desk) (l : ℤ) (s′ : Session) (m′ : Memory) → Invariant b first d → d .latest .state ≡ Open → Stepped b l (d .latest) s′ (d .memory) m′ → Invariant b first (desk s′ m′ (d .steps + 1))
   grown d l s′ m′ r o f =
       let x : d .steps + 1 ≡ suc (d .steps) = omega arith in
       let y = r .revision in
@@ -85,44 +84,44 @@ module _ (b : List ℤ) (first : ℕ) where
         revision = omega arith;
       }
 
-  step-reached : (d : Desk) (seen : Revision) (l : Literal) → Reached b first d → Reached b first (call b d (step seen l))
+  step-holds : (d : Desk) (seen : Revision) (l : Literal) → Invariant b first d → Invariant b first (call b d (step seen l))
   unfolding call
-  step-reached d seen l r = go (stepOutcome (d .latest) b (d .memory) seen l .answer) refl
+  step-holds d seen l r = go (stepOutcome (d .latest) b (d .memory) seen l .answer) refl
     where
       o : Outcome Memory Answer
       o = stepOutcome (d .latest) b (d .memory) seen l
 
-      go : (a : Answer) → o .answer ≡ a → Reached b first (afterStep d a (o .memory))
+      go : (a : Answer) → o .answer ≡ a → Invariant b first (afterStep d a (o .memory))
       go (To s′) e =
           let g = step-guarded (d .latest) b (d .memory) seen l (answered-accepted (d .latest) b (d .memory) seen l s′ e) in
           grown d (l .0) s′ (o .memory) r (g .guard .live) (accepted-step (d .latest) b (d .memory) seen l s′ e)
       go (Refused n) e = let w = step-refused-leaves (d .latest) b (d .memory) seen l n e in rw (w .memory) r
 
-  hand-reached : (preferred : List ℤ) (c : ℕ) (d : Desk) → Reached b first d → Reached b first (byHand b preferred c d)
+  hand-holds : (preferred : List ℤ) (c : ℕ) (d : Desk) → Invariant b first d → Invariant b first (byHand b preferred c d)
   unfolding byHand handed
-  hand-reached preferred zero d r = r
-  hand-reached preferred (suc c) d r = hand-reached preferred c (handed b preferred d) (step-reached d _ _ r)
+  hand-holds preferred zero d r = r
+  hand-holds preferred (suc c) d r = hand-holds preferred c (handed b preferred d) (step-holds d _ _ r)
 
   hand-calls : (preferred : List ℤ) (n : ℕ) (d : Desk) → (calls : List Call) × (play b d calls ≡ byHand b preferred n d)
   unfolding byHand handed play
   hand-calls preferred zero d = ([], refl)
   hand-calls preferred (suc n) d = let (calls, e) = hand-calls preferred n (handed b preferred d) in (step _ _ ∷ calls, e)
 
-  call-reached : (d : Desk) (c : Call) → Reached b first d → Reached b first (call b d c)
-  call-reached d (step seen l) r = step-reached d seen l r
-  call-reached d (run seen budget preferred) r = rw (run-is-steps b d seen budget preferred) (hand-reached preferred _ d r)
+  call-holds : (d : Desk) (c : Call) → Invariant b first d → Invariant b first (call b d c)
+  call-holds d (step seen l) r = step-holds d seen l r
+  call-holds d (run seen budget preferred) r = rw (run-is-steps b d seen budget preferred) (hand-holds preferred _ d r)
 
-  play-reached : (cs : List Call) (d : Desk) → Reached b first d → Reached b first (play b d cs)
+  play-holds : (cs : List Call) (d : Desk) → Invariant b first d → Invariant b first (play b d cs)
   unfolding play
-  play-reached [] d r = r
-  play-reached (c ∷ cs) d r = play-reached cs (call b d c) (call-reached d c r)
+  play-holds [] d r = r
+  play-holds (c ∷ cs) d r = play-holds cs (call b d c) (call-holds d c r)
 
 -- ---- what is kept is what is asked
 module _ (b : List ℤ) (block : refusal limits b ≡ 0) (first : ℕ) where
-  guard : (d : Desk) → Reached b first d → d .latest .state ≡ Open → Guarded (d .latest) b (d .memory) (d .latest .revision)
+  guard : (d : Desk) → Invariant b first d → d .latest .state ≡ Open → Guarded (d .latest) b (d .memory) (d .latest .revision)
   guard d r o = record { block = block; kept = r .kept; live = o; current = refl }
 
-  demand : (d : Desk) → Reached b first d → Demand b first d
+  demand : (d : Desk) → Invariant b first d → Demand b first d
   unfolding formulaOf
   demand d r =
       let F = formulaOf b in
@@ -145,7 +144,7 @@ module _ (b : List ℤ) (block : refusal limits b ≡ 0) (first : ℕ) where
       }
 
   -- a session that isn't open tells the truth
-  decided : (d : Desk) → Reached b first d → (d .latest .state ≡ Open → ⊥) → d .latest .state ≡ verdictOf (true? (formulaOf b))
+  decided : (d : Desk) → Invariant b first d → (d .latest .state ≡ Open → ⊥) → d .latest .state ≡ verdictOf (true? (formulaOf b))
   decided d r f = go (d .latest .state) refl
     where
       go : (st : State) → d .latest .state ≡ st → st ≡ verdictOf (true? (formulaOf b))
@@ -166,7 +165,7 @@ module _ (b : List ℤ) (m : Memory) (rev : Revision) (s : Session) (a : openOut
   block : refusal limits b ≡ 0
   block = opened b m open-passed .block
 
-  begun : Reached b (rev .0) (freshDesk b m rev s)
+  begun : Invariant b (rev .0) (freshDesk b m rev s)
   unfolding openOutcome formulaOf recordOf
   begun =
       let room = opened b m open-passed .room in
@@ -187,28 +186,28 @@ module _ (b : List ℤ) (m : Memory) (rev : Revision) (s : Session) (a : openOut
 
   -- [demand.2.history] whatever is called
   pub any-history : (calls : List Call) → Demand b (rev .0) (play b (freshDesk b m rev s) calls)
-  any-history calls = demand b block (rev .0) _ (play-reached b (rev .0) calls (freshDesk b m rev s) begun)
+  any-history calls = demand b block (rev .0) _ (play-holds b (rev .0) calls (freshDesk b m rev s) begun)
 
-  -- a run that is accepted ends the session, if the steps so far and its budget are together at least 2^(V+1) - 1. A budget has 32 bits: with 32
-  -- variables or more none is so large, and it takes more runs than one
+  -- [demand.2.steps] so an accepted run ends the session, with the truth, if the steps so far and its budget are together at least 2^(V+1) - 1. A
+  -- budget has 32 bits: with 32 variables or more none is so large, and a fresh session may need more runs than one
   pub enough-ends : (calls : List Call) (seen : Revision) (budget : ℕ) (preferred : List ℤ) (s′ : Session) (c : ℕ) → let d = play b (freshDesk b m rev s) calls in
       runOf (d .latest) b (d .memory) seen budget preferred .answer ≡ Until s′ c → 2 ^ suc (variablesOf b) ≤ suc (d .steps + budget) → s′ .state ≡ verdictOf (true? (formulaOf b))
   unfolding call
   enough-ends calls seen budget preferred s′ c e h =
       let d = play b (freshDesk b m rev s) calls in
-      let r = rw e at (call-reached b (rev .0) d (run seen budget preferred) (play-reached b (rev .0) calls (freshDesk b m rev s) begun)) in
+      let r = rw e at (call-holds b (rev .0) d (run seen budget preferred) (play-holds b (rev .0) calls (freshDesk b m rev s) begun)) in
       decided b block (rev .0) _ r
       (λ o.
       let u = run-pauses b d seen budget preferred s′ c e .used o in
       let l = demand b block (rev .0) _ r .open-fewer o in
       omega arith)
 
-  -- as many steps made by hand end it too, if there are revisions for them
+  -- as many steps made by hand end it too, those after the end being refused, if the first revision leaves room for them
   pub steps-end : (preferred : List ℤ) → let n = 2 ^ suc (variablesOf b) - 1 in
       rev .0 + n ≤ lastRevision → byHand b preferred n (freshDesk b m rev s) .latest .state ≡ verdictOf (true? (formulaOf b))
   steps-end preferred h =
       let n = 2 ^ suc (variablesOf b) - 1 in
-      let r = hand-reached b (rev .0) preferred n (freshDesk b m rev s) begun in
+      let r = hand-holds b (rev .0) preferred n (freshDesk b m rev s) begun in
       let first = begun .revision in
       decided b block (rev .0) _ r
       (λ o.
@@ -216,7 +215,7 @@ module _ (b : List ℤ) (m : Memory) (rev : Revision) (s : Session) (a : openOut
       let l = demand b block (rev .0) _ r .open-fewer o in
       omega arith)
 
-  -- so some history ends
+  -- so some history ends, of steps alone
   pub some-history-ends : rev .0 + (2 ^ suc (variablesOf b) - 1) ≤ lastRevision → (calls : List Call) × (play b (freshDesk b m rev s) calls .latest .state ≡ verdictOf (true? (formulaOf b)))
   some-history-ends h =
       let (calls, e) = hand-calls b (rev .0) [] (2 ^ suc (variablesOf b) - 1) (freshDesk b m rev s) in

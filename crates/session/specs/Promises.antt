@@ -1,5 +1,5 @@
--- What each public function promises of everything at entry, r being its answer and m′ the memory that it leaves; and that the promise leaves one
--- answer, one next session and one content of each lent buffer. A promise is an equation with a definition.
+-- What each public function promises of everything at entry, r being its answer and m′ the memory that it leaves; and [only] that the promise fits
+-- one answer, one next session and one content of each lent buffer. A promise is an equation with a definition.
 use mathlib.Core.Path.{_≡_, ap}
 use mathlib.Core.List.{List}
 use Prim.Native.Nat.{ℕ}

@@ -1,5 +1,5 @@
--- A refused call: "Each returns its number alone and leaves all memory and the session as they were", and a call whose seen revision is not
--- the session's is always one. By the two cases of the number, 0 and not 0.
+-- [demand.1.leaves] [table.leaves] A refused call answers its number and leaves all memory as it was; and some calls that are always refused.
+-- By the two cases of the number, 0 and not 0.
 use mathlib.Core.Path.{_≡_, refl, sym}
 use mathlib.Core.Bool.{true}
 use mathlib.Core.List.{List}

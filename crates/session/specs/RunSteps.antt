@@ -1,5 +1,5 @@
--- A run is the steps that it counts: as many accepted steps by hand, one after the other, each at the revision of the moment and with the
--- proposal that the preferences give, leave the same desk. The run's search goes on rule by rule; each of these is an accepted step.
+-- A run is steps made by hand, one after the other, each at the revision of the moment and with the proposal that the preferences give: they leave
+-- the same desk. By induction on the budget: each rule of the run is an accepted step, and after the end a step is refused.
 use Prim.Native.Nat.{ℕ, zero, suc, _+_, _≤_, _<_}
 use mathlib.Core.Path.{_≡_, refl, sym, _∙_, ap}
 use mathlib.Core.Logic.{_⊎_, inl, inr}

@@ -1,4 +1,5 @@
-// A session that goes step by step, and the run with a budget.
+// A session that goes step by step, and the run with a budget. [demand.1.any] [demand.1.ends] No entrance asks anything of its input, and each of
+// them comes to an end.
 ghost use mathlib.Core.Path.{_≡_};
 ghost use Rattle.session.specs.Memory.{memory};
 ghost use Rattle.session.specs.Outcome.{session};
@@ -17,13 +18,13 @@ pub use states::number_of;
 pub use states::state_of;
 use words::Literal;
 
-// A revision and a literal are numbers of different types: neither can stand for the other.
+// [session.types] A revision and a literal are numbers of different types: neither can stand for the other.
 pub struct Revision(pub u64);
 
 // 2^64 - 1: no step goes past it.
 const LAST_REVISION: u64 = 18446744073709551615;
 
-// Record length, revision, and open, Valid or Unsat. Any words may be handed in.
+// [session] Record length, revision, and open, Valid or Unsat. Any words may be handed in.
 pub struct Session {
     pub length: usize,
     pub revision: Revision,

@@ -2,12 +2,12 @@
 use native.Mathlib.Omega.{arith}
 use borrow.Author.Needs.{needs}
 use Rattle.session.proofs.Lent.{checked}
-use Rattle.session.proofs.Exits.{run-refused, run-over, run-moves, steps-within}
+use Rattle.session.proofs.Exits.{run-stops, run-over, run-moves, steps-within}
 use Rattle.session.proofs.Session.run.Statement.{statement}
 use Rattle.session.proofs.Session.run.Tie as tie
 
 returns : tie.Need-returns
-returns c = run-refused _ _ _ _ _ _ (c .before .session-refusal .ensures) (c .if1 .taken)
+returns c = run-stops _ _ _ _ _ _ (c .before .session-refusal .ensures) (c .if1 .taken)
 
 returns-2 : tie.Need-returns-2
 returns-2 c =

@@ -2,12 +2,12 @@
 use native.Mathlib.Omega.{arith}
 use borrow.Author.Needs.{needs}
 use Rattle.session.proofs.Lent.{checked, fitting, held}
-use Rattle.session.proofs.Exits.{step-refused, step-last, step-improper, step-moves}
+use Rattle.session.proofs.Exits.{step-stops, step-last, step-improper, step-moves}
 use Rattle.session.proofs.Session.step.Statement.{statement}
 use Rattle.session.proofs.Session.step.Tie as tie
 
 returns : tie.Need-returns
-returns c = step-refused _ _ _ _ _ (c .before .session-refusal .ensures) (c .if1 .taken)
+returns c = step-stops _ _ _ _ _ (c .before .session-refusal .ensures) (c .if1 .taken)
 
 returns-2 : tie.Need-returns-2
 returns-2 c = let g = c .before in step-last _ _ _ _ _ (g .before .session-refusal .ensures) (g .if1 .left) (omega (arith, c .if2 .taken))
