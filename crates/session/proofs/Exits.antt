@@ -29,10 +29,9 @@ use Rattle.session.specs.Memory.{Memory}
 use Rattle.session.specs.Refusals.{lastRevision, openRefusal, sessionRows, ofStep, stepRefusal, ofRun, runRefusal}
 use Rattle.session.specs.Outcome.{session, openOutcome, stepOutcome}
 use Rattle.session.specs.Run.{trip, runFrom, runOf}
-use Rattle.session.specs.Laws.Accepted.{step-from-15, run-from-15}
+use Rattle.session.specs.Laws.Accepted.{guarded, step-from-15, run-from-15}
 use Rattle.session.specs.Laws.Runs.{travelled}
 use Rattle.session.specs.Inner.Guards.{sessionRefusal, proposalRefusal}
-use Rattle.session.proofs.Lent.{passed}
 
 -- ---- opening
 module _ (b : List ℤ) (m : Memory) (rev : Revision) {r : ℕ} (e : r ≡ openRefusal b m) where
@@ -66,8 +65,8 @@ module _ (s : Session) (b : List ℤ) (m : Memory) (seen : Revision) (l : Litera
         step-from-16 : stepRefusal s b m seen l ≡ q
         unfolding proposalRefusal formulaOf
         step-from-16 =
-            let g = passed s b m seen e z in
-            rw (from-15, ne-eqb (s .revision .0) lastRevision below, kept-true (prefixOf b) (m .trail) (s .length) (g .kept), ← is, proper)
+            let g = guarded s b m seen (sym e ∙ z) in
+            rw (from-15, ne-eqb (s .revision .0) lastRevision below, kept-true (prefixOf b) (m .trail) (s .length) (g .on .kept), ← is, proper)
 
         pub step-improper : (q ≡ 0 → ⊥) → outcome (Refused q) m ≡ stepOutcome s b m seen l
         unfolding stepOutcome
@@ -79,7 +78,7 @@ module _ (s : Session) (b : List ℤ) (m : Memory) (seen : Revision) (l : Litera
             → outcome (To s′) (record { trail = t′ }) ≡ stepOutcome s b m seen l
         unfolding stepOutcome
         step-moves y t t′ a is′ =
-            let g = passed s b m seen e z in
+            let g = guarded s b m seen (sym e ∙ z) in
             rw (step-from-16, y, g .live, ← is, ← a, is′)
 
 -- ---- a run
@@ -99,7 +98,7 @@ module _ (s : Session) (b : List ℤ) (m : Memory) (seen : Revision) (budget : �
         → outcome (Until s′ steps) (record { trail = t′ }) ≡ runOf s b m seen budget preferred
     unfolding runOf
     run-moves low h t steps t′ a q d =
-        let g = passed s b m seen e z in
+        let g = guarded s b m seen (sym e ∙ z) in
         rw (run-from-15 s b m seen budget (sym e ∙ z), le-ltb lastRevision (s .revision .0 + budget) (omega arith), g .live, ← a, d, q)
 
 -- a run's steps are at most its budget

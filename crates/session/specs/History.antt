@@ -33,9 +33,8 @@ use Rattle.session.specs.declared.Ran.{Ran}
 use Rattle.session.specs.declared.Ran.the-variants.{Until, Stopped}
 use Rattle.session.specs.Memory.{Memory}
 use Rattle.session.specs.Refusals.{lastRevision, openRefusal}
-use Rattle.session.specs.Outcome.{session, openOutcome, stepOutcome}
-use Rattle.session.specs.Run.{runOf}
-use Rattle.session.specs.Calls.{Desk, desk, Call, step, run, afterStep, call, play}
+use Rattle.session.specs.Outcome.{session, openOutcome}
+use Rattle.session.specs.Calls.{Desk, desk, Call, step, run, afterStep, stepAt, runAt, call, play}
 use Rattle.session.specs.Laws.Accepted.{opened, Guarded, step-guarded, step-last, run-last, step-passes}
 use Rattle.session.specs.Refused.{unless-to, step-refused, run-refused, step-refused-leaves}
 use Rattle.session.specs.Stepped.{Stepped, accepted-is, accepted-step, answered-accepted}
@@ -58,12 +57,12 @@ pub record Demand (b : List ℤ) (first : ℕ) (d : Desk) : Type 0 where
   pub unsat-false : d .latest .state ≡ Unsat → true? (formulaOf b) ≡ false
   -- [demand.2.goes-on]
   pub accepted : d .latest .state ≡ Open → (d .latest .revision .0 ≡ lastRevision → ⊥)
-      → (s : Session) × (stepOutcome (d .latest) b (d .memory) (d .latest .revision) (literal (pos 0)) .answer ≡ To s)
+      → (s : Session) × (stepAt b d (d .latest .revision) (literal (pos 0)) .answer ≡ To s)
   -- [demand.2.last] whatever is proposed; and so is a run that would go past the last revision
   pub refused : d .latest .state ≡ Open → d .latest .revision .0 ≡ lastRevision
-      → (l : Literal) → stepOutcome (d .latest) b (d .memory) (d .latest .revision) l .answer ≡ Refused 15
+      → (l : Literal) → stepAt b d (d .latest .revision) l .answer ≡ Refused 15
   pub run-stopped : d .latest .state ≡ Open → (budget : ℕ) → lastRevision < d .latest .revision .0 + budget
-      → (preferred : List ℤ) → runOf (d .latest) b (d .memory) (d .latest .revision) budget preferred .answer ≡ Stopped 15
+      → (preferred : List ℤ) → runAt b d (d .latest .revision) budget preferred .answer ≡ Stopped 15
 
 -- ---- what every call keeps
 record Invariant (b : List ℤ) (first : ℕ) (d : Desk) : Type 0 where
@@ -86,10 +85,10 @@ module _ (b : List ℤ) (first : ℕ) where
 
   step-holds : (d : Desk) (seen : Revision) (l : Literal) → Invariant b first d → Invariant b first (call b d (step seen l))
   unfolding call
-  step-holds d seen l r = go (stepOutcome (d .latest) b (d .memory) seen l .answer) refl
+  step-holds d seen l r = go (stepAt b d seen l .answer) refl
     where
       o : Outcome Memory Answer
-      o = stepOutcome (d .latest) b (d .memory) seen l
+      o = stepAt b d seen l
 
       go : (a : Answer) → o .answer ≡ a → Invariant b first (afterStep d a (o .memory))
       go (To s′) e =
@@ -119,7 +118,7 @@ module _ (b : List ℤ) (first : ℕ) where
 -- ---- what is kept is what is asked
 module _ (b : List ℤ) (block : refusal limits b ≡ 0) (first : ℕ) where
   guard : (d : Desk) → Invariant b first d → d .latest .state ≡ Open → Guarded (d .latest) b (d .memory) (d .latest .revision)
-  guard d r o = record { block = block; kept = r .kept; live = o; current = refl }
+  guard d r o = record { on = record { block = block; kept = r .kept }; live = o; current = refl }
 
   demand : (d : Desk) → Invariant b first d → Demand b first d
   unfolding formulaOf
@@ -191,7 +190,7 @@ module _ (b : List ℤ) (m : Memory) (rev : Revision) (s : Session) (a : openOut
   -- [demand.2.steps] so an accepted run ends the session, with the truth, if the steps so far and its budget are together at least 2^(V+1) - 1. A
   -- budget has 32 bits: with 32 variables or more none is so large, and a fresh session may need more runs than one
   pub enough-ends : (calls : List Call) (seen : Revision) (budget : ℕ) (preferred : List ℤ) (s′ : Session) (c : ℕ) → let d = play b (freshDesk b m rev s) calls in
-      runOf (d .latest) b (d .memory) seen budget preferred .answer ≡ Until s′ c → 2 ^ suc (variablesOf b) ≤ suc (d .steps + budget) → s′ .state ≡ verdictOf (true? (formulaOf b))
+      runAt b d seen budget preferred .answer ≡ Until s′ c → 2 ^ suc (variablesOf b) ≤ suc (d .steps + budget) → s′ .state ≡ verdictOf (true? (formulaOf b))
   unfolding call
   enough-ends calls seen budget preferred s′ c e h =
       let d = play b (freshDesk b m rev s) calls in

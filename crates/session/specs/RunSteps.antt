@@ -2,24 +2,22 @@
 -- the same desk. By induction on the budget: each rule of the run is an accepted step, and after the end a step is refused.
 use Prim.Native.Nat.{ℕ, zero, suc, _+_, _≤_, _<_}
 use mathlib.Core.Path.{_≡_, refl, sym, _∙_, ap}
-use mathlib.Core.Logic.{_⊎_, inl, inr}
-use mathlib.Core.Bool.{Bool, true, false, cond}
+use mathlib.Core.Logic.{inl, inr}
+use mathlib.Core.Bool.{true}
 use mathlib.Core.List.{List}
 use native.Mathlib.Omega.{arith}
-use lib.IntN.{ℤ, pos, natAbs}
+use lib.IntN.{ℤ}
 use Rattle.words.specs.Laws.Bools.{look}
 use Rattle.words.specs.declared.Literal.{Literal}
 use Rattle.formula.specs.Limits.{limits}
 use Rattle.formula.specs.Formula.{formulaOf, prefixOf}
 use Rattle.formula.specs.Block.{refusal}
-use Rattle.theory.specs.Record.{Assignment, trueIn}
+use Rattle.theory.specs.Record.{trueIn}
 use Rattle.rules.specs.declared.rule.State.the-variants.{Open}
-use Rattle.rules.specs.declared.rule.Rule.{Rule}
 use Rattle.rules.specs.Due.{literal, due}
-use Rattle.rules.specs.Preferred.{firstOpen}
 use Rattle.rules.specs.Search.{Search, recordIn}
 use Rattle.rules.specs.Inner.Ready.{KeptIn}
-use Rattle.rules.specs.Preferred.{firstOpen, decides, proposalOf}
+use Rattle.rules.specs.Preferred.{proposalOf}
 use Rattle.session.specs.declared.Revision.{Revision}
 use Rattle.session.specs.declared.Session.{Session}
 use Rattle.session.specs.declared.Ran.{Ran}
@@ -29,8 +27,8 @@ use Rattle.session.specs.Refusals.{lastRevision, over, runRefusal}
 use Rattle.session.specs.Laws.Accepted.{over-open, Guarded, run-guarded, step-passes}
 use Rattle.session.specs.Outcome.{moved, searchOf}
 use Rattle.session.specs.Run.{Trip, trip, advance, runFrom, ran, runOf}
-use Rattle.session.specs.Laws.Runs.{proposal-permitted, advance-keeps, run-ended, loop-last, run-further, run-counted, Travelled, travelled}
-use Rattle.session.specs.Calls.{Desk, desk, step, run, call}
+use Rattle.session.specs.Laws.Runs.{proposal-passes, advance-keeps, run-ended, loop-last, run-further, run-counted, Travelled, travelled}
+use Rattle.session.specs.Calls.{Desk, desk, step, run, runAt, call}
 use Rattle.session.specs.Refused.{unless-until, run-refused, ended-step-refused}
 use Rattle.session.specs.Stepped.{accepted-is}
 
@@ -51,14 +49,6 @@ unfoldable pub byHand : List ℤ → List ℤ → ℕ → Desk → Desk
 byHand b preferred zero d = d
 byHand b preferred (suc n) d = byHand b preferred n (handed b preferred d)
 
--- ---- the proposal is one that a step accepts
-proposal-due : (p : List ℤ) (ρ : Assignment) (preferred : List ℤ) (rule : Rule) → (natAbs (proposalOf p ρ preferred rule) ≡ 0) ⊎ (decides rule ≡ true)
-proposal-due p ρ preferred rule = go (decides rule)
-  where
-    go : (d : Bool) → (natAbs (cond d (firstOpen p ρ preferred) (pos 0)) ≡ 0) ⊎ (d ≡ true)
-    go true = inr refl
-    go false = inl refl
-
 -- ---- steps by hand, rule by rule
 -- a desk whose search has gone on by a trip
 abbrev deskAfter : Desk → Trip → Desk
@@ -78,10 +68,10 @@ module _ (b : List ℤ) (preferred : List ℤ) where
     unfolding handed call advance formulaOf
     hand-step d k o h =
         let r = recordIn (searchAt d) in
-        let F = formulaOf b in
-        let g : Guarded (d .latest) b (d .memory) (d .latest .revision) = record { block = block; kept = k; live = o; current = refl } in
+        let (due-or-none, permitted) = proposal-passes (prefixOf b) (trueIn r) preferred (due (formulaOf b) r) in
+        let g : Guarded (d .latest) b (d .memory) (d .latest .revision) = record { on = record { block = block; kept = k }; live = o; current = refl } in
         let below : d .latest .revision .0 ≡ lastRevision → ⊥ = λ e. omega arith in
-        let e = step-passes (d .latest) b (d .memory) (d .latest .revision) g below (proposalAt b preferred d) (proposal-due (F .prefix) (trueIn r) preferred (due F r)) (proposal-permitted (F .prefix) (trueIn r) preferred (due F r)) in
+        let e = step-passes (d .latest) b (d .memory) (d .latest .revision) g below (proposalAt b preferred d) due-or-none permitted in
         rw (accepted-is (d .latest) b (d .memory) (d .latest .revision) (proposalAt b preferred d) e)
 
     -- as many as a budget are the run with that budget
@@ -129,25 +119,25 @@ module _ (b : List ℤ) (d : Desk) (seen : Revision) (budget : ℕ) (preferred :
   led = runFrom (formulaOf b) preferred budget (searchAt d) 0
 
   module _ (e : runRefusal (d .latest) b (d .memory) seen budget ≡ 0) where
-    run-accepted : runOf (d .latest) b (d .memory) seen budget preferred ≡ ran (d .latest) led
+    run-accepted : runAt b d seen budget preferred ≡ ran (d .latest) led
     unfolding runOf led
     run-accepted = rw e
 
     led-far : Travelled (formulaOf b) preferred budget (searchAt d) led
     unfolding led formulaOf
-    led-far = travelled (formulaOf b) preferred budget (searchAt d) (run-guarded (d .latest) b (d .memory) seen budget e .guard .kept)
+    led-far = travelled (formulaOf b) preferred budget (searchAt d) (run-guarded (d .latest) b (d .memory) seen budget e .guard .on .kept)
 
     accepted-hand : (n : ℕ) → n ≤ budget → runFrom (formulaOf b) preferred n (searchAt d) 0 ≡ led → byHand b preferred n d ≡ deskAfter d led
     accepted-hand n h q =
         let g = run-guarded (d .latest) b (d .memory) seen budget e in
-        hand-run b preferred (g .guard .block) n d (g .guard .kept) (omega (arith, g .below)) ∙ ap (deskAfter d) q
+        hand-run b preferred (g .guard .on .block) n d (g .guard .on .kept) (omega (arith, g .below)) ∙ ap (deskAfter d) q
 
   -- [demand.2.run] a run is the steps that it counts
-  pub run-is-steps : call b d (run seen budget preferred) ≡ byHand b preferred (counted (runOf (d .latest) b (d .memory) seen budget preferred .answer)) d
+  pub run-is-steps : call b d (run seen budget preferred) ≡ byHand b preferred (counted (runAt b d seen budget preferred .answer)) d
   unfolding call byHand led
   run-is-steps = go (runRefusal (d .latest) b (d .memory) seen budget) refl
     where
-      go : (n : ℕ) → runRefusal (d .latest) b (d .memory) seen budget ≡ n → call b d (run seen budget preferred) ≡ byHand b preferred (counted (runOf (d .latest) b (d .memory) seen budget preferred .answer)) d
+      go : (n : ℕ) → runRefusal (d .latest) b (d .memory) seen budget ≡ n → call b d (run seen budget preferred) ≡ byHand b preferred (counted (runAt b d seen budget preferred .answer)) d
       go zero e = rw (run-accepted e) (sym (accepted-hand e (led .steps) (led-far e .within) (run-counted (formulaOf b) preferred budget (searchAt d))))
       go (suc n) e = rw (run-refused (d .latest) b (d .memory) seen budget preferred n e)
 
@@ -158,7 +148,7 @@ module _ (b : List ℤ) (d : Desk) (seen : Revision) (budget : ℕ) (preferred :
     pub within : c ≤ budget
     pub used : s′ .state ≡ Open → c ≡ budget
 
-  pub run-pauses : (s′ : Session) (c : ℕ) → runOf (d .latest) b (d .memory) seen budget preferred .answer ≡ Until s′ c → Pauses s′ c
+  pub run-pauses : (s′ : Session) (c : ℕ) → runAt b d seen budget preferred .answer ≡ Until s′ c → Pauses s′ c
   unfolding runOf led
   run-pauses s′ c a =
       let e = unless-until (runRefusal (d .latest) b (d .memory) seen budget) (d .memory) _ s′ c a in

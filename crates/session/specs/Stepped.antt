@@ -61,13 +61,13 @@ module _ (s : Session) (b : List ℤ) (m : Memory) (seen : Revision) (l : Litera
       let rule = due (formulaOf b) (recordOf (m .trail) (s .length)) in
       record {
         rule = refl;
-        step = due-step (formulaOf b) t (g .guard .kept) (l .0) (g .permitted);
+        step = due-step (formulaOf b) t (g .guard .on .kept) (l .0) (g .permitted);
         revision = refl;
         zeros = apply-zeros (prefixOf b) (l .0) t rule;
         untouched = apply-untouched (prefixOf b) (l .0) t rule;
         lengths = apply-lengths (prefixOf b) rule (l .0) t;
         ended-leaves = apply-ended (prefixOf b) (l .0) t rule;
-        kept = due-keeps (formulaOf b) t (g .guard .kept) (l .0) (g .permitted);
+        kept = due-keeps (formulaOf b) t (g .guard .on .kept) (l .0) (g .permitted);
       }
 
   -- an answer with a session comes from such a step

@@ -21,9 +21,11 @@ use Rattle.rules.specs.declared.rule.State.{State}
 use Rattle.rules.specs.declared.rule.State.the-variants.{Open, Valid, Unsat}
 use Rattle.rules.specs.Due.{due}
 use Rattle.rules.specs.Preferred.{decides}
-use Rattle.rules.specs.Search.{recordIn}
-use Rattle.rules.specs.Inner.Ready.{OnBuffers, KeptIn, Permitted}
+use Rattle.rules.specs.Trail.{Trail, recordOf}
+use Rattle.rules.specs.Search.{search, recordIn}
+use Rattle.rules.specs.Inner.Ready.{OnBuffers, OnBlock, Fitting, Permitted}
 use Rattle.rules.specs.Laws.Accepted.{prefix-length, on-block}
+use Rattle.rules.specs.Laws.Steps.{due-fits}
 use Rattle.session.specs.declared.Revision.{Revision}
 use Rattle.session.specs.declared.Session.{Session}
 use Rattle.session.specs.Memory.{Memory}
@@ -52,10 +54,14 @@ module _ (b : List ℤ) (m : Memory) where
   pub open-passes : OnBuffers b (m .trail) → openRefusal b m ≡ 0
   open-passes o = rw (from-11 (o .block), le-ltb (length (m .trail .lits)) (variablesOf b) (o .room .lits), le-ltb (length (m .trail .kinds)) (variablesOf b) (o .room .kinds))
 
+-- ---- rows 1 to 12: the due rule has a place to write to
+pub fitting : {b : List ℤ} {t : Trail} {n : ℕ} → OnBlock b t n → Fitting (prefixOf b) n (due (formulaOf b) (recordOf t n))
+unfolding formulaOf
+fitting {b} {t} {n} o = due-fits (formulaOf b) (search t n Open) (o .kept)
+
 -- ---- rows 1 to 14, which a step and a run share
 pub record Guarded (s : Session) (b : List ℤ) (m : Memory) (seen : Revision) : Type 0 where
-  pub block : refusal limits b ≡ 0
-  pub kept : KeptIn (prefixOf b) (searchOf s m)
+  pub on : OnBlock b (m .trail) (s .length)
   pub live : s .state ≡ Open
   pub current : seen .0 ≡ s .revision .0
 
@@ -98,8 +104,7 @@ module _ (s : Session) (b : List ℤ) (m : Memory) (seen : Revision) where
       let o = opened b m (first-part (openRows b m) (ofSession s b m seen) e) in
       let r = passed (sessionRows s b m seen) refl e in
       record {
-        block = o .block;
-        kept = on-block b (m .trail) (s .length) o (r 12) .kept;
+        on = on-block b (m .trail) (s .length) o (r 12);
         live = over-open (s .state) (r 13);
         current = eqb-true (seen .0) (s .revision .0) (not-false _ (r 14));
       }
@@ -138,8 +143,8 @@ module _ (s : Session) (b : List ℤ) (m : Memory) (seen : Revision) where
   module _ (g : Guarded s b m seen) where
     guard-passes : sessionRefusal s b m seen ≡ 0
     guard-passes =
-        let o = open-passes b m (record { block = g .block; room = rw (← prefix-length b (g .block)) (g .kept .room) }) in
-        rw (from-12 o, g .kept .good, g .live, eq-eqb (seen .0) (s .revision .0) (g .current))
+        let o = open-passes b m (record { block = g .on .block; room = rw (← prefix-length b (g .on .block)) (g .on .kept .room) }) in
+        rw (from-12 o, g .on .kept .good, g .live, eq-eqb (seen .0) (s .revision .0) (g .current))
 
     pub step-last : s .revision .0 ≡ lastRevision → (l : Literal) → stepRefusal s b m seen l ≡ 15
     step-last e l = rw (step-from-15 l guard-passes, eq-eqb (s .revision .0) lastRevision e)

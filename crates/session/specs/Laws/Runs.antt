@@ -1,12 +1,12 @@
 -- A run's search, rule by rule: each rule is a step of the theory and keeps what the guard has shown; the search is open after the last one only
 -- if the budget is used. From the laws of the due rule, and by induction on the budget.
 use Prim.Native.Nat.{ℕ, zero, suc, _+_, _-_, _≤_, _<_}
-use mathlib.Core.Path.{_≡_, refl, sym, _∙_, ap}
-use mathlib.Core.Logic.{inl, inr}
+use mathlib.Core.Path.{_≡_, refl, _∙_, ap}
+use mathlib.Core.Logic.{_⊎_, inl, inr}
 use mathlib.Core.Bool.{Bool, true, false, cond}
 use mathlib.Core.List.{List}
 use native.Mathlib.Omega.{arith}
-use lib.IntN.{ℤ, pos}
+use lib.IntN.{ℤ, pos, natAbs}
 use Rattle.words.specs.Laws.Bools.{clash, look}
 use Rattle.formula.specs.Formula.{Formula}
 use Rattle.theory.specs.Record.{Record, Assignment, trueIn}
@@ -24,23 +24,24 @@ use Rattle.session.specs.Refusals.{over}
 use Rattle.session.specs.Run.{Trip, trip, whileOpen, advance, runFrom}
 use Rattle.session.specs.Laws.Accepted.{over-open}
 
--- ---- what a run proposes is permitted: 0, or an open literal
-pub proposal-permitted : (p : List ℤ) (ρ : Assignment) (preferred : List ℤ) (rule : Rule) → Permitted p ρ (proposalOf p ρ preferred rule)
-proposal-permitted p ρ preferred rule = go (decides rule)
+-- ---- what a run proposes passes rows 16 and 17: it is 0, or Decide is due and it is open
+pub proposal-passes : (p : List ℤ) (ρ : Assignment) (preferred : List ℤ) (rule : Rule) → let l = proposalOf p ρ preferred rule in
+    ((natAbs l ≡ 0) ⊎ (decides rule ≡ true)) × Permitted p ρ l
+proposal-passes p ρ preferred rule = go (decides rule)
   where
-    go : (d : Bool) → Permitted p ρ (cond d (firstOpen p ρ preferred) (pos 0))
-    go true = first-open p ρ preferred
-    go false = inl refl
+    go : (d : Bool) → let l = cond d (firstOpen p ρ preferred) (pos 0) in ((natAbs l ≡ 0) ⊎ (d ≡ true)) × Permitted p ρ l
+    go true = (inr refl, first-open p ρ preferred)
+    go false = (inl refl, inl refl)
 
 -- ---- one step
 module _ (F : Formula) (preferred : List ℤ) (t : Search) (k : KeptIn (F .prefix) t) where
   advance-step : Step F (recordIn t) (standingOf (advance F preferred t))
   unfolding advance
-  advance-step = due-step F t k _ (proposal-permitted (F .prefix) (trueIn (recordIn t)) preferred (due F (recordIn t)))
+  advance-step = due-step F t k _ (proposal-passes (F .prefix) (trueIn (recordIn t)) preferred (due F (recordIn t)) .1)
 
   pub advance-keeps : KeptIn (F .prefix) (advance F preferred t)
   unfolding advance
-  advance-keeps = due-keeps F t k _ (proposal-permitted (F .prefix) (trueIn (recordIn t)) preferred (due F (recordIn t)))
+  advance-keeps = due-keeps F t k _ (proposal-passes (F .prefix) (trueIn (recordIn t)) preferred (due F (recordIn t)) .1)
 
 while-ended : (st : State) (a b : Trip) → over st ≡ true → whileOpen st a b ≡ b
 while-ended Open a b h = clash h refl

@@ -1,7 +1,8 @@
 -- A way out for each part of the table; after its last row the search goes on for as many steps as it answers.
 use native.Mathlib.Omega.{arith}
 use borrow.Author.Needs.{needs}
-use Rattle.session.proofs.Lent.{checked}
+use mathlib.Core.Path.{sym, _∙_}
+use Rattle.session.specs.Laws.Accepted.{guarded}
 use Rattle.session.proofs.Exits.{run-stops, run-over, run-moves, steps-within}
 use Rattle.session.proofs.Session.run.Statement.{statement}
 use Rattle.session.proofs.Session.run.Tie as tie
@@ -17,7 +18,7 @@ returns-2 c =
 search-requires : tie.Need-search-requires
 search-requires c κs =
     let g = c .before .before .before .before in
-    checked _ _ _ _ (g .before .session-refusal .ensures) (g .if1 .left)
+    guarded _ _ _ _ (sym (g .before .session-refusal .ensures) ∙ g .if1 .left) .on
 
 add-moved : tie.Need-add-moved
 add-moved c =
@@ -25,7 +26,7 @@ add-moved c =
     let v = f .before .before .before in
     let g = v .before .before in
     let start = g .before .before .before .before .before in
-    let on = checked (start .args .self) _ _ _ (g .before .session-refusal .ensures) (g .if1 .left) in
+    let on = guarded (start .args .self) _ _ _ (sym (g .before .session-refusal .ensures) ∙ g .if1 .left) .on in
     let w = steps-within on (start .args .budget) (start .args .preferred .now) (f .search .ensures) in
     omega (arith, w, v .if2 .left, v .before .wide .ensures, c .wide2 .ensures, start .good)
 
