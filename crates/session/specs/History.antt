@@ -35,9 +35,9 @@ use Rattle.session.specs.Memory.{Memory}
 use Rattle.session.specs.Refusals.{lastRevision, openRefusal}
 use Rattle.session.specs.Outcome.{session, openOutcome}
 use Rattle.session.specs.Calls.{Desk, desk, Call, step, run, afterStep, stepAt, runAt, call, play}
-use Rattle.session.specs.Laws.Accepted.{opened, Guarded, step-guarded, step-last, run-last, step-passes}
+use Rattle.session.specs.Laws.Accepted.{opened, Guarded, step-last, run-last, step-passes}
 use Rattle.session.specs.Refused.{unless-to, step-refused, run-refused, step-refused-leaves}
-use Rattle.session.specs.Stepped.{Stepped, accepted-is, accepted-step, answered-accepted}
+use Rattle.session.specs.Stepped.{accepted-is, accepted-step}
 use Rattle.session.specs.RunSteps.{searchAt, handed, byHand, hand-used, run-is-steps, run-pauses}
 
 -- the state that tells the truth
@@ -71,29 +71,18 @@ record Invariant (b : List ℤ) (first : ℕ) (d : Desk) : Type 0 where
   revision : d .latest .revision .0 ≡ first + d .steps
 
 module _ (b : List ℤ) (first : ℕ) where
-  -- one more rule
-  grown : (d : Desk) (l : ℤ) (s′ : Session) (m′ : Memory) → Invariant b first d → d .latest .state ≡ Open → Stepped b l (d .latest) s′ (d .memory) m′ → Invariant b first (desk s′ m′ (d .steps + 1))
-  grown d l s′ m′ r o f =
-      let x : d .steps + 1 ≡ suc (d .steps) = omega arith in
-      let y = r .revision in
-      let z = f .revision in
-      record {
-        path = rw x (path-snoc (formulaOf b) (rw o at (r .path)) (f .step));
-        kept = f .kept;
-        revision = omega arith;
-      }
-
+  -- one more rule, or none
   step-holds : (d : Desk) (seen : Revision) (l : Literal) → Invariant b first d → Invariant b first (call b d (step seen l))
   unfolding call
   step-holds d seen l r = go (stepAt b d seen l .answer) refl
     where
-      o : Outcome Memory Answer
-      o = stepAt b d seen l
-
-      go : (a : Answer) → o .answer ≡ a → Invariant b first (afterStep d a (o .memory))
+      go : (a : Answer) → stepAt b d seen l .answer ≡ a → Invariant b first (afterStep d a (stepAt b d seen l .memory))
       go (To s′) e =
-          let g = step-guarded (d .latest) b (d .memory) seen l (answered-accepted (d .latest) b (d .memory) seen l s′ e) in
-          grown d (l .0) s′ (o .memory) r (g .guard .live) (accepted-step (d .latest) b (d .memory) seen l s′ e)
+          let f = accepted-step (d .latest) b (d .memory) seen l s′ e in
+          let x : d .steps + 1 ≡ suc (d .steps) = omega arith in
+          let y = r .revision in
+          let z = f .revision in
+          record { path = rw x (path-snoc (formulaOf b) (rw (f .live) at (r .path)) (f .step)); kept = f .kept; revision = omega arith }
       go (Refused n) e = let w = step-refused-leaves (d .latest) b (d .memory) seen l n e in rw (w .memory) r
 
   hand-holds : (preferred : List ℤ) (c : ℕ) (d : Desk) → Invariant b first d → Invariant b first (byHand b preferred c d)

@@ -28,6 +28,7 @@ use Rattle.rules.specs.Laws.Records.{entryAt, noEntry}
 
 -- from a session s and its memory to the next, by an accepted step with the proposal l
 pub record Stepped (b : List ℤ) (l : ℤ) (s s′ : Session) (m m′ : Memory) : Type 0 where
+  pub live : s .state ≡ Open
   -- [demand.2.rule] it is the due rule, and a rule of the theory
   pub rule : searchOf s′ m′ ≡ apply (prefixOf b) (due (formulaOf b) (recordOf (m .trail) (s .length))) l (searchOf s m)
   pub step : Step (formulaOf b) (recordOf (m .trail) (s .length)) (standingOf (searchOf s′ m′))
@@ -60,6 +61,7 @@ module _ (s : Session) (b : List ℤ) (m : Memory) (seen : Revision) (l : Litera
       let t = searchOf s m in
       let rule = due (formulaOf b) (recordOf (m .trail) (s .length)) in
       record {
+        live = g .guard .live;
         rule = refl;
         step = due-step (formulaOf b) t (g .guard .on .kept) (l .0) (g .permitted);
         revision = refl;
@@ -70,15 +72,10 @@ module _ (s : Session) (b : List ℤ) (m : Memory) (seen : Revision) (l : Litera
         kept = due-keeps (formulaOf b) t (g .guard .on .kept) (l .0) (g .permitted);
       }
 
-  -- an answer with a session comes from such a step
-  pub answered-accepted : (s′ : Session) → stepOutcome s b m seen l .answer ≡ To s′ → stepRefusal s b m seen l ≡ 0
-  unfolding stepOutcome
-  answered-accepted = unless-to (stepRefusal s b m seen l) m (stepped s b l (searchOf s m))
-
   pub accepted-step : (s′ : Session) → let o = stepOutcome s b m seen l in o .answer ≡ To s′ → Stepped b (l .0) s s′ m (o .memory)
-  unfolding ruled
+  unfolding stepOutcome ruled
   accepted-step s′ a =
-      let e = answered-accepted s′ a in
+      let e = unless-to (stepRefusal s b m seen l) m _ s′ a in
       let q = accepted-is e in
       let a′ = rw q at a in
       let z : moved s 1 ruled ≡ s′ = cc in

@@ -7,7 +7,7 @@ use mathlib.Core.List.{List}
 use lib.Dec.{eqb, ltb}
 use lib.IntN.{ℤ, natAbs}
 use lib.ListN.{length}
-use borrow.Author.Tests.{eqb-true, eqb-false, ltb-false, not-false, le-ltb, lt-ltb, eq-eqb, ne-eqb}
+use borrow.Author.Tests.{eqb-true, ltb-false, not-false, le-ltb, lt-ltb, eq-eqb, ne-eqb}
 use Rattle.words.specs.Laws.Bools.{clash, or-fl, or-fr}
 use Rattle.words.specs.Rows.{refusalOf}
 use Rattle.words.specs.Laws.Rows.{goes-on, first-part, passed}
@@ -109,10 +109,9 @@ module _ (s : Session) (b : List ℤ) (m : Memory) (seen : Revision) where
         current = eqb-true (seen .0) (s .revision .0) (not-false _ (r 14));
       }
 
-  -- an accepted step: its revision can go up, and its proposal is one that Decide may take
+  -- an accepted step: its proposal is one that Decide may take
   pub record StepGuarded (l : Literal) : Type 0 where
     pub guard : Guarded s b m seen
-    pub below : s .revision .0 ≡ lastRevision → ⊥
     pub permitted : Permitted (prefixOf b) (trueIn (recordIn (searchOf s m))) (l .0)
 
   pub step-guarded : (l : Literal) → stepRefusal s b m seen l ≡ 0 → StepGuarded l
@@ -121,7 +120,6 @@ module _ (s : Session) (b : List ℤ) (m : Memory) (seen : Revision) where
       let r = passed (stepRows s b m seen l) refl e in
       record {
         guard = guarded (first-part (sessionRows s b m seen) (ofStep s b m seen l) e);
-        below = eqb-false (s .revision .0) lastRevision (r 15);
         permitted = proposed-so l (isOpen (prefixOf b) (trueIn (recordIn (searchOf s m))) (l .0)) (r 17);
       }
 
