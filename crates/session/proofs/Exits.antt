@@ -87,19 +87,19 @@ module _ (s : Session) (b : List ℤ) (m : Memory) (seen : Revision) (budget : �
   unfolding runOf runRefusal sessionRefusal
   run-stops f = rw (← stops (sessionRows s b m seen) (ofRun s b m seen budget) e f) (unless-number Stopped r m _ f)
 
-  module _ (z : r ≡ 0) {w : ℕ} (is : w ≡ budget) where
-    pub run-over : lastRevision - s .revision .0 < w → outcome (Stopped 15) m ≡ runOf s b m seen budget preferred
+  module _ (z : r ≡ 0) where
+    pub run-over : lastRevision - s .revision .0 < budget → outcome (Stopped 15) m ≡ runOf s b m seen budget preferred
     unfolding runOf
     run-over h = rw (run-from-15 s b m seen budget (sym e ∙ z), lt-ltb lastRevision (s .revision .0 + budget) (omega arith))
 
-    pub run-moves : s .revision .0 ≤ lastRevision → w ≤ lastRevision - s .revision .0
+    pub run-moves : s .revision .0 ≤ lastRevision → budget ≤ lastRevision - s .revision .0
         → (t : Reached) (steps : ℕ) (t′ : Trail) → trip (reached t t′) steps ≡ runFrom (formulaOf b) preferred budget (search (m .trail) (s .length) Open) 0
-        → {v : ℕ} → v ≡ steps → {s′ : Session} → s′ ≡ session (t .count) (s .revision .0 + v) (t .state)
+        → {s′ : Session} → s′ ≡ session (t .count) (s .revision .0 + steps) (t .state)
         → outcome (Until s′ steps) (record { trail = t′ }) ≡ runOf s b m seen budget preferred
     unfolding runOf
-    run-moves low h t steps t′ a q d =
+    run-moves low h t steps t′ a d =
         let g = guarded s b m seen (sym e ∙ z) in
-        rw (run-from-15 s b m seen budget (sym e ∙ z), le-ltb lastRevision (s .revision .0 + budget) (omega arith), g .live, ← a, d, q)
+        rw (run-from-15 s b m seen budget (sym e ∙ z), le-ltb lastRevision (s .revision .0 + budget) (omega arith), g .live, ← a, d)
 
 -- a run's steps are at most its budget
 pub steps-within : {b : List ℤ} {t : Trail} {n : ℕ} → OnBlock b t n → (budget : ℕ) (preferred : List ℤ) {u : Search} {steps : ℕ}

@@ -107,7 +107,7 @@ impl Session {
         }
         let revision = self.revision.0;
         let most = LAST_REVISION - revision;
-        if most < wide(budget) {
+        if most < budget as u64 {
             return Ran::Stopped(15);
         }
         let count = self.length;
@@ -115,7 +115,7 @@ impl Session {
         let reached = found.reached;
         let steps = found.steps;
         Ran::Until {
-            session: moved(reached, revision + wide(steps)),
+            session: moved(reached, revision + (steps as u64)),
             steps: steps,
         }
     }
@@ -132,10 +132,4 @@ fn moved(reached: Reached, revision: u64) -> Session
         revision: Revision(revision),
         state: state,
     }
-}
-
-fn wide(n: u32) -> u64
-    ensures { λ r. ⌜ r ≡ n ⌝ }
-{
-    n as u64
 }
