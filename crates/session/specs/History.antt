@@ -121,14 +121,10 @@ module _ (b : List ℤ) (block : refusal limits b ≡ 0) (first : ℕ) where
         valid-true = λ e. sound-formula F ok true (rw e at (r .path));
         unsat-false = λ e. sound-formula F ok false (rw e at (r .path));
         accepted = λ o h.
-            let e = step-passes (d .latest) b (d .memory) (d .latest .revision) (guard d r o) h (literal (pos 0)) (inl refl) (inl refl) in
-            (_, ap (λ (o : Outcome Memory Answer). o .answer) (accepted-is (d .latest) b (d .memory) (d .latest .revision) (literal (pos 0)) e));
-        refused = λ o h l.
-            ap (λ (o : Outcome Memory Answer). o .answer)
-            (step-refused (d .latest) b (d .memory) (d .latest .revision) l 14 (step-last (d .latest) b (d .memory) (d .latest .revision) (guard d r o) h l));
-        run-stopped = λ o budget h preferred.
-            ap (λ (o : Outcome Memory Ran). o .answer)
-            (run-refused (d .latest) b (d .memory) (d .latest .revision) budget preferred 14 (run-last (d .latest) b (d .memory) (d .latest .revision) (guard d r o) budget h));
+            let e = step-passes _ _ _ _ (guard d r o) h (literal (pos 0)) (inl refl) (inl refl) in
+            (_, ap (λ (o : Outcome Memory Answer). o .answer) (accepted-is _ _ _ _ _ e));
+        refused = λ o h l. ap (λ (o : Outcome Memory Answer). o .answer) (step-refused _ _ _ _ l 14 (step-last _ _ _ _ (guard d r o) h l));
+        run-stopped = λ o budget h preferred. ap (λ (o : Outcome Memory Ran). o .answer) (run-refused _ _ _ _ budget preferred 14 (run-last _ _ _ _ (guard d r o) budget h));
       }
 
   -- a session that isn't open tells the truth

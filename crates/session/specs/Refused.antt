@@ -24,12 +24,6 @@ use Rattle.session.specs.Refusals.{lastRevision, over, openRefusal, step
 use Rattle.session.specs.Outcome.{openOutcome, stepOutcome}
 use Rattle.session.specs.Run.{runOf}
 
-refused-told : (m n : ℕ) → Refused m ≡ Refused n → m ≡ n
-refused-told m n e = cc
-
-stopped-told : (m n : ℕ) → Stopped m ≡ Stopped n → m ≡ n
-stopped-told m n e = cc
-
 accepted-none : (s : Session) (n : ℕ) → To s ≡ Refused n → ⊥
 accepted-none s n e = let z : _≡_ {A = ℕ} 0 1 = cc in omega arith
 
@@ -49,18 +43,18 @@ unless-until (suc n) m o s c e = absurd (ran-none s c (suc n) (sym e))
 pub open-refused-leaves : (b : List ℤ) (m : Memory) (rev : Revision) (n : ℕ) → let o = openOutcome b m rev in
     o .answer ≡ Refused n → Left (openRefusal b m) n m (o .memory)
 unfolding openOutcome
-open-refused-leaves b m rev n = unless-left Refused refused-told (openRefusal b m) m _ n (accepted-none _ n)
+open-refused-leaves b m rev n = unless-left Refused (λ j k e. cc) (openRefusal b m) m _ n (accepted-none _ n)
 
 module _ (s : Session) (b : List ℤ) (m : Memory) (seen : Revision) where
   pub step-refused-leaves : (l : Literal) (n : ℕ) → let o = stepOutcome s b m seen l in
       o .answer ≡ Refused n → Left (stepRefusal s b m seen l) n m (o .memory)
   unfolding stepOutcome
-  step-refused-leaves l n = unless-left Refused refused-told (stepRefusal s b m seen l) m _ n (accepted-none _ n)
+  step-refused-leaves l n = unless-left Refused (λ j k e. cc) (stepRefusal s b m seen l) m _ n (accepted-none _ n)
 
   pub run-refused-leaves : (budget : ℕ) (preferred : List ℤ) (n : ℕ) → let o = runOf s b m seen budget preferred in
       o .answer ≡ Stopped n → Left (runRefusal s b m seen budget) n m (o .memory)
   unfolding runOf
-  run-refused-leaves budget preferred n = unless-left Stopped stopped-told (runRefusal s b m seen budget) m _ n (ran-none _ _ n)
+  run-refused-leaves budget preferred n = unless-left Stopped (λ j k e. cc) (runRefusal s b m seen budget) m _ n (ran-none _ _ n)
 
   -- ---- a number other than 0 is answered
   pub step-refused : (l : Literal) (n : ℕ) → stepRefusal s b m seen l ≡ suc n → stepOutcome s b m seen l ≡ outcome (Refused (suc n)) m

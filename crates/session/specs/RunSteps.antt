@@ -59,8 +59,7 @@ module _ (b : List ℤ) (preferred : List ℤ) where
   hand-ended : (d : Desk) → over (d .latest .state) ≡ true → handed b preferred d ≡ d
   unfolding handed call
   hand-ended d h =
-      let (n, i, e) = ended-step-refused (d .latest) b (d .memory) (d .latest .revision) h (proposalAt b preferred d) in
-      rw e
+      let (n, i, e) = ended-step-refused (d .latest) b (d .memory) (d .latest .revision) h (proposalAt b preferred d) in rw e
 
   module _ (block : refusal limits b ≡ 0) where
     hand-step : (d : Desk) → KeptIn (prefixOf b) (searchAt d) → d .latest .state ≡ Open → d .latest .revision .0 < lastRevision
@@ -71,8 +70,8 @@ module _ (b : List ℤ) (preferred : List ℤ) where
         let (due-or-none, permitted) = proposal-passes (prefixOf b) (trueIn r) preferred (due (formulaOf b) r) in
         let g : Guarded (d .latest) b (d .memory) (d .latest .revision) = record { on = record { block = block; kept = k }; live = o; current = refl } in
         let below : d .latest .revision .0 ≡ lastRevision → ⊥ = λ e. omega arith in
-        let e = step-passes (d .latest) b (d .memory) (d .latest .revision) g below (proposalAt b preferred d) due-or-none permitted in
-        rw (accepted-is (d .latest) b (d .memory) (d .latest .revision) (proposalAt b preferred d) e)
+        let e = step-passes _ _ _ _ g below (proposalAt b preferred d) due-or-none permitted in
+        rw (accepted-is _ _ _ _ _ e)
 
     -- as many as a budget are the run with that budget
     hand-run : (n : ℕ) (d : Desk) → KeptIn (prefixOf b) (searchAt d) → d .latest .revision .0 + n ≤ lastRevision
