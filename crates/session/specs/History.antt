@@ -52,8 +52,9 @@ pub record Demand (b : List ℤ) (first : ℕ) (d : Desk) : Type 0 where
   pub open-fewer : d .latest .state ≡ Open → suc (d .steps) < 2 ^ suc (variablesOf b)
   -- [demand.2.revision]
   pub revision : d .latest .revision .0 ≡ first + d .steps
-  -- [demand.2.valid] [demand.2.unsat]
+  -- [demand.2.valid]
   pub valid-true : d .latest .state ≡ Valid → true? (formulaOf b) ≡ true
+  -- [demand.2.unsat]
   pub unsat-false : d .latest .state ≡ Unsat → true? (formulaOf b) ≡ false
   -- [demand.2.goes-on]
   pub accepted : d .latest .state ≡ Open → (d .latest .revision .0 ≡ lastRevision → ⊥)
