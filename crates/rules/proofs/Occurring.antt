@@ -1,7 +1,7 @@
 -- The table of occurring literals: a word marks its own place and no other, since a place has one word; so a clause marks its literals, and clause
 -- after clause those of all.
 use mathlib.Core.Path.{_≡_, refl, sym, _∙_, ap}
-use mathlib.Core.Bool.{Bool, true, false, cond, not, _||_}
+use mathlib.Core.Bool.{Bool, true, false, cond, _||_}
 use mathlib.Core.List.{List, [], _∷_, _++_}
 use Prim.Native.Nat.{ℕ, _+_, _-_, _≤_, _<_}
 use native.Mathlib.Nat.{le-refl}
@@ -14,12 +14,10 @@ use Rattle.words.specs.Words.{mem}
 use Rattle.words.specs.Laws.Words.{eqZ-ne, mem-here, mem-other}
 use Rattle.formula.specs.Limits.{limits}
 use Rattle.formula.specs.Laws.Limits.{variables-are}
-use Rattle.formula.specs.Laws.Named.{all-named}
 use Rattle.formula.specs.Inner.Places.{literalPlaces, placeOf, wordAt}
 use Rattle.formula.specs.Laws.Places.{place-word, word-place, place-within}
 use Rattle.theory.specs.Record.{Assignment}
 use Rattle.theory.specs.Tests.{occurs, untrueOf}
-use Rattle.rules.specs.Inner.Tables.{Known}
 use Rattle.rules.specs.Inner.ByLiteral.{Occurring, Marked, Counted, markedBy}
 use Rattle.rules.specs.Inner.Clauses.{Placed, Clauses}
 use Rattle.rules.proofs.Filled.{Filled, turn, end}
@@ -28,9 +26,6 @@ use Rattle.formula.specs.Block.{badEnds}
 use Rattle.formula.specs.Formula.{clausesFrom}
 use Rattle.formula.specs.Laws.Clauses.{clauses-ended}
 use Rattle.words.specs.Laws.Lists.{blank}
-
-pub word-small : (ws : List ℤ) → Known ws → (i : ℕ) → i < length ws → natAbs (getD ws i (pos 0)) ≤ limits .variables
-word-small ws named i h = all-named (limits .variables) ws named .at i h .most
 
 -- ---- one clause: what its words say of a place, over what the table t₀ said before
 abbrev pub marked : List ℕ → List ℤ → ℕ → ℕ

@@ -1,6 +1,6 @@
 -- Row 12 in the words of the code: the kinds, by the signs in the prefix, and the ways out.
 use mathlib.Core.Path.{_≡_, refl, sym, _∙_}
-use mathlib.Core.Bool.{Bool, true, false, cond, not, _&&_, _||_, or-false}
+use mathlib.Core.Bool.{Bool, true, false, not, _&&_, _||_, or-false}
 use mathlib.Core.List.{List}
 use Prim.Native.Nat.{ℕ, _+_, _≤_, _<_}
 use native.Mathlib.Omega.{arith}
@@ -9,7 +9,6 @@ use lib.IntN.{ℤ, pos, natAbs}
 use lib.ListN.{length, getD, take, drop}
 use lib.Seq.{getD-take, length-take-le}
 use borrow.Author.Tests.{ne-eqb, lt-ltb, le-ltb}
-use Rattle.words.specs.Laws.Bools.{clash}
 use Rattle.words.specs.Lists.{any}
 use Rattle.words.specs.Laws.Lists.{any-found, any-past, any-ended}
 use Rattle.formula.specs.Formula.{existential, universal}
@@ -22,30 +21,29 @@ use Rattle.theory.specs.Record.{entry}
 use Rattle.rules.specs.Trail.{Trail, recordOf}
 use Rattle.rules.specs.Check.{badKind, badEntries, badRecord}
 use Rattle.rules.specs.Inner.Ready.{Bound, Room}
-use Rattle.rules.specs.Inner.Tables.{places, Universals}
+use Rattle.rules.specs.Inner.Tables.{places, Quantifiers}
 use Rattle.rules.specs.Inner.Buffers.{KindsLent, wrongKind}
+use Rattle.rules.specs.Laws.VariablesMean.{quantifier-in}
 use Rattle.rules.specs.Laws.Records.{noEntry, room-less, record-length, record-get, record-literals}
 
 -- ---- kinds
 -- the table tells a variable's quantifier, since it has one only
-kind-test : (p : List ℤ) → Bound p → (l : ℤ) → Named (length p) l → (k u : ℕ) → u ≡ cond (universal p l) 1 0 → wrongKind k u ≡ badKind p (entry k l)
-kind-test p b l n k u e = rw e (go (universal p l) (existential p l) (quantifier (length p) p (b .named) (b .once) refl l n))
+kind-test : (p : List ℤ) → Bound p → (l : ℤ) → Named (length p) l → (k q : ℕ) → eqb q 2 ≡ universal p l → wrongKind k q ≡ badKind p (entry k l)
+kind-test p b l n k q e = rw (e, quantifier (length p) p (b .named) (b .once) refl l n) (go (existential p l))
   where
-    go : (u e : Bool) → u ≡ not e → wrongKind k (cond u 1 0) ≡ (ltb 2 k || (eqb k 1 && u) || (eqb k 2 && e))
-    go true true q = clash refl q
-    go true false q = refl
-    go false true q = refl
-    go false false q = clash refl (sym q)
+    go : (e : Bool) → (ltb 2 k || (eqb k 1 && not e) || (eqb k 2 && not (not e))) ≡ (ltb 2 k || (eqb k 1 && not e) || (eqb k 2 && e))
+    go true = refl
+    go false = refl
 
 -- the test in the order of the code
-module _ (k u : ℕ) where
-  pub kind-one : k ≡ 1 → not (eqb u 0) ≡ wrongKind k u
-  kind-one e = rw e (sym (or-false (not (eqb u 0))))
+module _ (k q : ℕ) where
+  pub kind-one : k ≡ 1 → eqb q 2 ≡ wrongKind k q
+  kind-one e = rw e (sym (or-false (eqb q 2)))
 
-  pub kind-two : k ≡ 2 → eqb u 0 ≡ wrongKind k u
+  pub kind-two : k ≡ 2 → not (eqb q 2) ≡ wrongKind k q
   kind-two e = rw e
 
-  pub kind-else : (k ≡ 1 → ⊥) → (k ≡ 2 → ⊥) → ltb 2 k ≡ wrongKind k u
+  pub kind-else : (k ≡ 1 → ⊥) → (k ≡ 2 → ⊥) → ltb 2 k ≡ wrongKind k q
   kind-else f g = rw (ne-eqb k 1 f, ne-eqb k 2 g) (sym (or-false (ltb 2 k || false) ∙ or-false (ltb 2 k)))
 
 -- the entries from i on have a bad kind among them exactly if all have
@@ -66,13 +64,12 @@ module _ (p : List ℤ) (t : Trail) (n : ℕ) (q : KindsLent p t n) where
     pub kinds-small : (v : ℕ) → v ≡ natAbs (getD (t .lits) i (pos 0)) → v < places
     kinds-small v e = omega (arith, name .most, q .prefix .room, variables-are)
 
-    module _ (table : List ℕ) (said : Universals p table) (v : ℕ) (e : v ≡ natAbs (getD (t .lits) i (pos 0))) (b : Bool) (is : b ≡ wrongKind (getD (t .kinds) i 0) (getD table v 0)) (k : Looked p t n i) where
+    module _ (table : List ℕ) (said : Quantifiers p table) (v : ℕ) (e : v ≡ natAbs (getD (t .lits) i (pos 0))) (b : Bool) (is : b ≡ wrongKind (getD (t .kinds) i 0) (getD table v 0)) (k : Looked p t n i) where
       within : i < length (recordOf t n)
       within = rw (record-length t n (q .room)) h
 
       tested : badKind p (getD (recordOf t n) i noEntry) ≡ b
-      unfolding universal
-      tested = rw (record-get t n (q .room) i h) (sym (is ∙ kind-test p (q .prefix) (getD (t .lits) i (pos 0)) name (getD (t .kinds) i 0) (getD table v 0) (rw (← e) (said v))))
+      tested = rw (record-get t n (q .room) i h) (sym (is ∙ kind-test p (q .prefix) (getD (t .lits) i (pos 0)) name (getD (t .kinds) i 0) (getD table v 0) (rw e (quantifier-in p (q .prefix) table said (getD (t .lits) i (pos 0))))))
 
       pub kinds-hit : b ≡ true → true ≡ any (badKind p) (recordOf t n)
       kinds-hit u = sym (any-found (badKind p) (recordOf t n) i noEntry within (tested ∙ u)) ∙ k .same

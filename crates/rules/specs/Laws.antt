@@ -17,5 +17,4 @@ pub mod VariablesMean
 pub mod ClausesMean
 pub mod ClausesReady
 -- checked input
-pub mod Kept
 pub mod Accepted

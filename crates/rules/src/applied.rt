@@ -33,12 +33,12 @@ fn kind_of(prefix: &[i32], literal: Literal) -> u8
     requires { ⌜ Bound (now prefix) ⌝ }
     ensures { λ r. ⌜ r ≡ kindOf (now (prefix .entry)) (literal .0) ⌝ }
 {
-    let universals = tables::universals_of(prefix);
+    let quantifiers = tables::values_of(prefix, prefix.len());
     let v = words::size(literal.0);
     if formula::MAX_VARIABLES < v {
         return 1;
     }
-    if universals[v] == 0 { 1 } else { 2 }
+    if quantifiers[v] == 2 { 2 } else { 1 }
 }
 
 // What a rule does to the record, with the proposal that Decide is to take.

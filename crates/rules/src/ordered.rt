@@ -32,8 +32,8 @@ pub fn due(block: &[i32], lits: &[i32], kinds: &[u8], count: usize) -> Rule
     let ends = formula::ends(block);
     let literals = formula::literals(block);
     let values = tables::values_of(lits, count);
-    let universals = tables::universals_of(prefix);
-    let statuses = by_literal::statuses_of(prefix.len(), &values, &universals);
+    let quantifiers = tables::values_of(prefix, prefix.len());
+    let statuses = by_literal::statuses_of(prefix.len(), &values, &quantifiers);
     match clauses::lowest_conflict(ends, literals, &statuses) {
         Found::At(clause) => due_conflict(kinds, count, clause),
         Found::Nothing => due_unit(prefix, ends, literals, kinds, count, &values, &statuses),

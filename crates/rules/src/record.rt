@@ -6,17 +6,17 @@ ghost use Rattle.rules.specs.Trail.{trail, recordOf};
 ghost use Rattle.rules.specs.Check.{badKind, badRecord};
 ghost use Rattle.rules.specs.Inner.Ready.{OnBuffers};
 ghost use Rattle.rules.specs.Inner.Buffers.{KindsLent, wrongKind};
-use crate::tables::universals_of;
+use crate::tables::values_of;
 
 // Whether a kind is above 2, or 1 on a universal or 2 on an existential variable.
-fn wrong_kind(kind: u8, universal: u8) -> bool
-    ensures { λ r. ⌜ r ≡ wrongKind kind universal ⌝ }
+fn wrong_kind(kind: u8, quantifier: u8) -> bool
+    ensures { λ r. ⌜ r ≡ wrongKind kind quantifier ⌝ }
 {
     if kind == 1 {
-        return universal != 0;
+        return quantifier == 2;
     }
     if kind == 2 {
-        return universal == 0;
+        return quantifier != 2;
     }
     2 < kind
 }
@@ -26,11 +26,11 @@ fn bad_kinds(prefix: &[i32], lits: &[i32], kinds: &[u8], count: usize) -> bool
     requires { ⌜ KindsLent (now prefix) (trail (now lits) (now kinds)) count ⌝ }
     ensures { λ r. ⌜ r ≡ any (badKind (now (prefix .entry))) (recordOf (trail (now (lits .entry)) (now (kinds .entry))) count) ⌝ }
 {
-    let universals = universals_of(prefix);
+    let quantifiers = values_of(prefix, prefix.len());
     let mut i = 0;
     while i < count {
         let v = words::size_at(lits, i);
-        if wrong_kind(kinds[i], universals[v]) {
+        if wrong_kind(kinds[i], quantifiers[v]) {
             return true;
         }
         i += 1;

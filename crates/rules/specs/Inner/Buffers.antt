@@ -19,12 +19,7 @@ pub record Cuttable (i n : ℕ) (t : Trail) : Type 0 where
   pub room : Room n t
   pub small : natAbs (getD (t .lits) i (pos 0)) ≤ 2147483647
 
--- buffers that row 12 can be asked of: rows 1 to 11 have passed
-pub record Lent (p : List ℤ) (t : Trail) : Type 0 where
-  pub prefix : Bound p
-  pub room : Room (length p) t
-
--- and then those whose kinds can be looked at: the record's words name variables of the prefix
+-- buffers whose kinds can be looked at: the record's words name variables of the prefix
 pub record KindsLent (p : List ℤ) (t : Trail) (n : ℕ) : Type 0 where
   pub prefix : Bound p
   pub room : Room n t
@@ -35,6 +30,6 @@ unfoldable pub lastKind : List ℕ → ℕ → ℕ → Found
 lastKind ks k zero = Nothing
 lastKind ks k (suc i) = cond (eqb (getD ks i 0) k) (At i) (lastKind ks k i)
 
--- a kind above 2, or of the other quantifier: u is 0 for an existential variable
+-- a kind above 2, or of the other quantifier than the variable's
 abbrev pub wrongKind : ℕ → ℕ → Bool
-wrongKind k u = ltb 2 k || (eqb k 1 && not (eqb u 0)) || (eqb k 2 && eqb u 0)
+wrongKind k quantifier = ltb 2 k || (eqb k 1 && eqb quantifier 2) || (eqb k 2 && not (eqb quantifier 2))

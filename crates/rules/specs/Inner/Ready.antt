@@ -64,14 +64,15 @@ pub record HeldOn (b ls : List ℤ) (n : ℕ) : Type 0 where
   pub block : refusal limits b ≡ 0
   pub written : Written ls n
 
--- a rule has a place to write to: a cut is inside the record, and an entry more is inside the buffers, whatever the proposal
-abbrev pub Moves : List ℤ → ℕ → Move → Type 0
-Moves p n (Append k x) = n < length p
-Moves p n (Flip i) = i < n
-Moves p n (End t) = n ≤ n
+-- a move has a place to write to: a cut is inside the record, and an entry more is inside the buffers
+abbrev pub MoveFits : List ℤ → ℕ → Move → Type 0
+MoveFits p n (Append k x) = n < length p
+MoveFits p n (Flip i) = i < n
+MoveFits p n (End t) = n ≤ n
 
+-- and so a rule, whatever the proposal
 abbrev pub Fitting : List ℤ → ℕ → Rule → Type 0
-Fitting p n rule = Moves p n (moveOf p rule (pos 0))
+Fitting p n rule = MoveFits p n (moveOf p rule (pos 0))
 
 -- a proposal that Decide may take: 0, or an open literal
 abbrev pub Permitted : List ℤ → Assignment → ℤ → Type 0

@@ -21,7 +21,7 @@ use Rattle.theory.specs.Tests.{unassignedE, unassignedU, inConflict, unitOn, un
 use Rattle.rules.specs.Due.{onFound, onPicked, literal, lowest, candidate, isUnit, lowestUnit}
 use Rattle.rules.specs.Inner.Tabled.{Sorted, as-false, as-true, as-existential, as-universal}
 use Rattle.rules.specs.Inner.ByLiteral.{trueBy}
-use Rattle.rules.specs.Inner.Clauses.{conflictBy, staysUnit, unitFrom, lowestUnitBy}
+use Rattle.rules.specs.Inner.Clauses.{keepsBy, conflictBy, staysUnit, unitFrom, lowestUnitBy}
 use Rattle.rules.specs.declared.found.Picked.{Picked}
 use Rattle.rules.specs.declared.found.Picked.the-variants.{Is, NoLiteral}
 use Rattle.rules.specs.declared.found.Found.the-variants.{At}
@@ -46,7 +46,7 @@ module _ {A : Type 0} (f g : A → Bool) where
 -- p is the prefix, ρ says which literals are true, st is a literal's status
 module _ (p : List ℤ) (ρ : Assignment) (st : ℤ → ℕ) where
   conflict-means : (C : List ℤ) → ((x : ℤ) → In x C → Sorted p ρ st x) → conflictBy st C ≡ inConflict p ρ C
-  unfolding conflictBy inConflict any
+  unfolding conflictBy keepsBy inConflict any
   conflict-means [] h = refl
   conflict-means (x ∷ C) h = go (h x (here refl)) (conflict-means C (λ y i. h y (there i)))
     where

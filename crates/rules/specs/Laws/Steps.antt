@@ -25,7 +25,7 @@ use Rattle.rules.specs.Trail.{put, recordOf}
 use Rattle.rules.specs.Search.{Search, recordIn, standingOf}
 use Rattle.rules.specs.Due.{literal, due}
 use Rattle.rules.specs.Apply.{flip, kindOf, chosen, moveOf, moved, apply}
-use Rattle.rules.specs.Inner.Ready.{KeptIn, Moves, Fitting, Permitted}
+use Rattle.rules.specs.Inner.Ready.{KeptIn, MoveFits, Fitting, Permitted}
 use Rattle.rules.specs.Laws.Wiped.{wiped-length}
 use Rattle.rules.specs.Laws.Records.{kept-good, kept-room, kept-more, record-length, record-get, record-at, record-put, record-cut}
 use Rattle.rules.specs.Laws.Last.{Last, last-none, last-at}
@@ -50,7 +50,7 @@ decide-step F r q x o = elim (look (universal (F .prefix) x)) [
 module _ (F : Formula) (t : Search) (k : KeptIn (F .prefix) t) where
   -- a move that is one of the theory's has a place to write to, and keeps what the guard has shown
   record Done (m : Move) : Type 0 where
-    pub fits : Moves (F .prefix) (t .count) m
+    pub fits : MoveFits (F .prefix) (t .count) m
     pub step : Step F (recordIn t) (standingOf (moved m t))
     pub keeps : KeptIn (F .prefix) (moved m t)
 

@@ -17,7 +17,7 @@ use Rattle.words.specs.Lists.{In, all, any}
 use Rattle.words.specs.Laws.Lists.{all-i, all-e, any-i, in-middle}
 use Rattle.words.specs.declared.Literal.{Literal}
 use Rattle.words.specs.Words.{mem}
-use Rattle.words.specs.Laws.Words.{mem-i, natAbs-neg, negneg}
+use Rattle.words.specs.Laws.Words.{mem-i, mem-e, natAbs-neg, negneg}
 use Rattle.formula.specs.Limits.{limits, maxVariables}
 use Rattle.formula.specs.Laws.Limits.{variables-are}
 use Rattle.formula.specs.Formula.{existential, universal, levelOf, level}
@@ -32,7 +32,7 @@ use Rattle.theory.specs.Tests.{unassignedE, unassignedU, oneSign, monotone, isO
 use Rattle.theory.specs.Laws.First.{first-open}
 use Rattle.rules.specs.Due.{literal, onPicked, firstOf, firstMonotone, firstUnassigned}
 use Rattle.rules.specs.Preferred.{firstOpen}
-use Rattle.rules.specs.Inner.Tables.{valueOf, Values, Levels, Lowest, places}
+use Rattle.rules.specs.Inner.Tables.{valueIn, Values, Quantifiers, Levels, Lowest, places}
 use Rattle.rules.specs.Inner.ByLiteral.{Occurring}
 use Rattle.rules.specs.Inner.Variables.{assignedIn, unassignedIn, signsIn, monotoneIn, lowestIn, openIn, preferredIn}
 use Rattle.rules.specs.Inner.Ready.{Bound}
@@ -52,7 +52,7 @@ module _ (ρ : Assignment) (values : List ℕ) (said : Values ρ values) where
       go false true = refl
       go false false = refl
 
-      by : (q : ℤ) → eqb (valueOf ρ (natAbs q)) 0 ≡ not (ρ q || ρ (negℤ q))
+      by : (q : ℤ) → eqb (valueIn ρ (natAbs q)) 0 ≡ not (ρ q || ρ (negℤ q))
       by (pos n) = go (ρ (pos n)) (ρ (negℤ (pos n)))
       by (negsuc n) = go (ρ (pos (suc n))) (ρ (negsuc n)) ∙ ap not (or-comm (ρ (pos (suc n))) (ρ (negsuc n)))
 
@@ -77,6 +77,16 @@ unassigned-in values p l e =
     go : (q : ℤ) (b : Bool) → cond b NoLiteral (Is (literal (pos (natAbs q)))) ≡ Is l → natAbs (l .0) ≡ natAbs q
     go q true e = let z : _≡_ {A = ℕ} 0 1 = cc in absurd (omega arith)
     go q false e = let z : literal (pos (natAbs q)) ≡ l = cc in ap (λ (x : Literal). natAbs (x .0)) (sym z)
+
+-- ---- quantifiers: a variable has one sign in the prefix
+pub quantifier-in : (p : List ℤ) → Bound p → (t : List ℕ) → Quantifiers p t → (l : ℤ) → eqb (getD t (natAbs l) 0) 2 ≡ universal p l
+unfolding universal
+quantifier-in p b t said l = rw (said (natAbs l)) (go (mem (pos (natAbs l)) p) (mem (negℤ (pos (natAbs l))) p) (λ e. let i = mem-e (pos (natAbs l)) p e in one-sign p (b .once) i (in-named (length p) p (b .named) i .some)))
+  where
+    go : (x y : Bool) → (x ≡ true → y ≡ false) → eqb (cond x 1 (cond y 2 0)) 2 ≡ y
+    go true y f = rw (f refl)
+    go false true f = refl
+    go false false f = refl
 
 -- ---- signs
 module _ (m : List (List ℤ)) (table : List ℕ) (said : Occurring m table) (v : ℕ) (h : v ≤ limits .variables) where

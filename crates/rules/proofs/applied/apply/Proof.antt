@@ -4,7 +4,7 @@ use borrow.Author.Needs.{needs}
 use Rattle.formula.specs.Formula.{prefixOf}
 use Rattle.rules.specs.Apply.{moveOf, apply}
 use Rattle.rules.specs.Laws.Records.{kept-more}
-use Rattle.rules.proofs.Exits.{cuttable, fitting}
+use Rattle.rules.proofs.Places.{cuttable, fitting}
 use Rattle.rules.proofs.applied.apply.Statement.{statement}
 use Rattle.rules.proofs.applied.apply.Tie as tie
 
@@ -44,5 +44,5 @@ returns-3 c = rw (made (c .before .before .before) ∙ c .before .state .given .
 pub apply-spec : {M : Type 1} → statement M
 apply-spec =
     tie.close
-    (tie.spec (λ c κs. search needs) move-of-requires (λ c. search needs) append-requires (λ c. search needs) flip-requires
-    (λ c. search needs) (λ c. search needs) (λ c. search needs) returns (λ c. search needs) (λ c. search needs) returns-2 returns-3)
+    (tie.spec (λ c κs. search needs) move-of-requires (λ c. search needs) append-requires (λ c. search needs) flip-requires (λ c. search needs)
+    (λ c. search needs) (λ c. search needs) returns (λ c. search needs) (λ c. search needs) returns-2 returns-3)

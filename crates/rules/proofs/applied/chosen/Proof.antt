@@ -4,7 +4,7 @@ use lib.IntN.{natAbs}
 use mir.Syntax.{w32}
 use mir.ValLaws.{toZ-ofZ}
 use borrow.Author.Needs.{needs, sfits-of}
-use Rattle.rules.proofs.Exits.{first-chosen, proposal-chosen}
+use Rattle.rules.proofs.Places.{first-chosen, proposal-chosen}
 use Rattle.rules.proofs.applied.chosen.Statement.{statement}
 use Rattle.rules.proofs.applied.chosen.Tie as tie
 

@@ -7,7 +7,7 @@ use mir.Syntax.{w32}
 use mir.ValLaws.{toZ-ofZ}
 use borrow.Author.Needs.{needs, sfits-of}
 use Rattle.words.specs.Words.{opposite}
-use Rattle.rules.proofs.Exits.{flipped}
+use Rattle.rules.proofs.Places.{flipped}
 use Rattle.rules.proofs.buffers.flip.Statement.{statement}
 use Rattle.rules.proofs.buffers.flip.Tie as tie
 

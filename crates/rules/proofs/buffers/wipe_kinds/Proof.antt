@@ -12,9 +12,6 @@ Inv-loop kinds₀ from to i₀ kinds i = Wiping 0 from to kinds₀ i kinds
 abbrev μ-loop : tie.MeasureT-loop
 μ-loop kinds₀ from to i₀ kinds i = to - i
 
-loop-holds : tie.Need-loop-holds Inv-loop μ-loop
-loop-holds c = wiping-begin
-
 returns : tie.Need-returns Inv-loop μ-loop
 returns c = wiping-past (c .before .before .loop .inv) (c .if1 .taken)
 
@@ -27,5 +24,5 @@ returns-2 c = wiping-end (c .before .loop .inv) (c .loop-test .left)
 pub wipe-kinds-spec : {M : Type 1} → statement M
 wipe-kinds-spec =
     tie.close
-    (tie.spec Inv-loop μ-loop loop-holds (λ c. search needs) returns (λ c. omega arith) (λ c. omega arith) (λ c. omega arith) loop-again
-    (λ c. search needs) returns-2)
+    (tie.spec Inv-loop μ-loop (λ c. wiping-begin) (λ c. search needs) returns (λ c. omega arith) (λ c. omega arith) (λ c. omega arith)
+    loop-again (λ c. search needs) returns-2)

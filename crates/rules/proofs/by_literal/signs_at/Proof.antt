@@ -17,5 +17,5 @@ returns-3 c = rw (ne-eqb _ _ (c .before .if1 .left), ne-eqb _ _ (c .if2 .left))
 pub signs-at-spec : {M : Type 1} → statement M
 signs-at-spec =
     tie.close
-    (tie.spec (λ c. omega (arith, variables-are, c .pre)) (λ c. omega (arith, variables-are, c .pre)) (λ c. omega (arith, variables-are, c .before .pre))
-    (λ c. omega arith) returns returns-2 returns-3)
+    (tie.spec (λ c. omega (arith, variables-are, c .pre)) (λ c. omega (arith, variables-are, c .pre))
+    (λ c. omega (arith, variables-are, c .before .pre)) (λ c. omega arith) returns returns-2 returns-3)

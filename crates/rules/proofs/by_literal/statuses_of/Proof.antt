@@ -5,18 +5,15 @@ use borrow.Author.Needs.{needs}
 use native.Mathlib.Omega.{arith}
 use Rattle.formula.specs.Limits.{maxVariables}
 use Rattle.formula.specs.Laws.Limits.{variables-are}
-use Rattle.rules.proofs.Statuses.{Stated, stated-begin, stated-turn, stated-end}
+use Rattle.rules.proofs.Filled.{Stated, stated-begin, stated-turn, stated-end}
 use Rattle.rules.proofs.by_literal.statuses_of.Statement.{statement}
 use Rattle.rules.proofs.by_literal.statuses_of.Tie as tie
 
 abbrev Inv-loop : tie.InvT-loop
-Inv-loop n values universals statuses₀ v₀ statuses v = Stated n values universals statuses v
+Inv-loop n values quantifiers statuses₀ v₀ statuses v = Stated n values quantifiers statuses v
 
 abbrev μ-loop : tie.MeasureT-loop
-μ-loop n values universals statuses₀ v₀ statuses v = n + 1 - v
-
-loop-holds : tie.Need-loop-holds Inv-loop μ-loop
-loop-holds c = stated-begin _ _ _
+μ-loop n values quantifiers statuses₀ v₀ statuses v = n + 1 - v
 
 loop-again : tie.Need-loop-again Inv-loop μ-loop
 loop-again c =
@@ -29,6 +26,7 @@ returns c = stated-end _ _ _ _ _ (c .before .loop .inv) (c .loop-test .left)
 pub statuses-of-spec : {M : Type 1} → statement M
 statuses-of-spec =
     tie.close
-    (tie.spec Inv-loop μ-loop loop-holds (λ c. omega (arith, variables-are)) (λ c. omega (arith, variables-are)) (λ c κs. search needs)
-    (λ c. omega (arith, variables-are)) (λ c. omega (arith, variables-are)) (λ c κs. search needs) (λ c. omega (arith, variables-are))
-    (λ c. omega (arith, variables-are)) (λ c. omega (arith, variables-are)) (λ c. omega arith) loop-again returns)
+    (tie.spec Inv-loop μ-loop (λ c. stated-begin _ _ _) (λ c. omega (arith, variables-are)) (λ c. omega (arith, variables-are))
+    (λ c κs. search needs) (λ c. omega (arith, variables-are)) (λ c. omega (arith, variables-are)) (λ c κs. search needs)
+    (λ c. omega (arith, variables-are)) (λ c. omega (arith, variables-are)) (λ c. omega (arith, variables-are)) (λ c. omega arith) loop-again
+    returns)

@@ -12,12 +12,6 @@ use Rattle.rules.proofs.open.first_open.Tie as tie
 bound : (c : tie.After-prefix) → Bound (now (c .prefix .result))
 bound c = rw (c .prefix .ensures) (accepted-bound _ (c .before .pre .block))
 
-levels-of-requires : tie.Need-levels-of-requires
-levels-of-requires c κs = bound (c .before)
-
-lowest-level-requires : tie.Need-lowest-level-requires
-lowest-level-requires c κs = bound (c .before .before .before .before)
-
 first-in-requires : tie.Need-first-in-requires
 first-in-requires c κs = bound (c .before .before .before .before .before .before .before) .room
 
@@ -34,4 +28,5 @@ returns c =
 pub first-open-spec : {M : Type 1} → statement M
 first-open-spec =
     tie.close
-    (tie.spec (λ c κs. search needs) (λ c κs. search needs) levels-of-requires lowest-level-requires first-in-requires returns)
+    (tie.spec (λ c κs. search needs) (λ c κs. search needs) (λ c κs. bound (c .before)) (λ c κs. bound (c .before .before .before .before))
+    first-in-requires returns)

@@ -14,12 +14,6 @@ use Rattle.rules.proofs.open.is_open.Tie as tie
 bound : (c : tie.After-prefix) → Bound (now (c .prefix .result))
 bound c = rw (c .prefix .ensures) (accepted-bound _ (c .before .pre .block))
 
-levels-of-requires : tie.Need-levels-of-requires
-levels-of-requires c κs = bound (c .before)
-
-lowest-level-requires : tie.Need-lowest-level-requires
-lowest-level-requires c κs = bound (c .before .before .before .before)
-
 open-variable-requires : tie.Need-open-variable-requires
 open-variable-requires c κs = bound (c .before .before .before .before .before .before .before .before .before) .room
 
@@ -39,5 +33,5 @@ returns c =
 pub is-open-spec : {M : Type 1} → statement M
 is-open-spec =
     tie.close
-    (tie.spec (λ c κs. search needs) (λ c κs. search needs) levels-of-requires lowest-level-requires (λ c κs. search needs) open-variable-requires
-    returns)
+    (tie.spec (λ c κs. search needs) (λ c κs. search needs) (λ c κs. bound (c .before)) (λ c κs. bound (c .before .before .before .before))
+    (λ c κs. search needs) open-variable-requires returns)

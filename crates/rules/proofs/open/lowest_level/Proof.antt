@@ -29,9 +29,6 @@ module _ (c : tie.After-size) where
       let n = in-named (length (found .before .args .prefix .now)) _ (found .before .pre .named) i in
       omega (arith, sized, n .most, found .before .pre .room, variables-are)
 
-mul-result : tie.Need-mul-result
-mul-result c = let r = room c in omega arith
-
 returns : tie.Need-returns
 unfolding lowestIn
 returns c = rw (← found (c .before) .first-unassigned .ensures, c .before .before .before .before .first .given .1, sized (c .before))
@@ -43,4 +40,5 @@ returns-2 c = rw (← c .before .before .first-unassigned .ensures, c .enum-told
 pub lowest-level-spec : {M : Type 1} → statement M
 lowest-level-spec =
     tie.close
-    (tie.spec (λ c κs. search needs) (λ c. search needs) (λ c κs. search needs) mul-result (λ c. room c) (λ c. search needs) returns returns-2)
+    (tie.spec (λ c κs. search needs) (λ c. search needs) (λ c κs. search needs) (λ c. let r = room c in omega arith) (λ c. room c)
+    (λ c. search needs) returns returns-2)

@@ -25,5 +25,5 @@ returns-4 c = rw (ne-eqb _ _ (c .before .before .before .before .if1 .left), le-
 pub open-variable-spec : {M : Type 1} → statement M
 open-variable-spec =
     tie.close
-    (tie.spec returns returns-2 (λ c. omega (arith, variables-are)) returns-3 (λ c. omega (arith, variables-are)) (λ c. omega (arith, variables-are))
-    returns-4)
+    (tie.spec returns returns-2 (λ c. omega (arith, variables-are)) returns-3 (λ c. omega (arith, variables-are))
+    (λ c. omega (arith, variables-are)) returns-4)

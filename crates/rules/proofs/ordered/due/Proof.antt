@@ -10,9 +10,9 @@ use Rattle.rules.specs.Inner.Ready.{formula, Ready}
 use Rattle.rules.specs.Inner.Tabled.{Tabled, Sorts}
 use Rattle.rules.specs.Laws.Records.{kept-room}
 use Rattle.rules.specs.Laws.ClausesReady.{ready-clauses, conflict-ready, sorts}
-use Rattle.rules.specs.Laws.Kept.{kept-written, kept-tabled}
-use Rattle.rules.specs.Laws.Accepted.{accepted-ready, formula-is}
+use Rattle.rules.specs.Laws.Accepted.{kept-written, kept-tabled, accepted-ready, formula-is}
 use borrow.Author.Needs.{needs}
+use Rattle.rules.proofs.Filled.{bound-written, quantifiers-of}
 use Rattle.rules.proofs.ordered.due.Statement.{statement}
 use Rattle.rules.proofs.ordered.due.Tie as tie
 
@@ -26,12 +26,6 @@ module _ (c : tie.After-literals) where
 
   whole : formulaOf (start .args .block .now) ≡ formula (now (c .before .before .prefix .result)) (now (c .before .ends .result)) (now (c .literals .result))
   whole = formula-is (start .args .block .now) (c .before .before .prefix .ensures) (c .before .ends .ensures) (c .literals .ensures)
-
-values-of-requires : tie.Need-values-of-requires
-values-of-requires c κs = kept-written _ _ _ (start c .pre .kept)
-
-universals-of-requires : tie.Need-universals-of-requires
-universals-of-requires c κs = parts (c .before) .prefix
 
 statuses-of-requires : tie.Need-statuses-of-requires
 statuses-of-requires c κs = parts (c .before .before .before .before) .prefix .room
@@ -51,7 +45,7 @@ module _ (c : tie.After-statuses) where
   told = kept-tabled _ _ _ (start cut .pre .kept) _ (c .before .before .before .before .before .values-of .ensures)
 
   sorting : Sorts (now (cut .before .before .prefix .result)) (trueIn record·of) (c .before .statuses-of .result)
-  sorting = sorts _ (parts cut .prefix) _ _ (c .before .before .before .before .universals-of .result) (c .before .statuses-of .result) (told .values) (c .before .before .before .before .universals-of .ensures) (told .consistent) (c .before .statuses-of .ensures)
+  sorting = sorts _ (parts cut .prefix) _ _ (c .before .before .before .before .values-of2 .result) (told .values) (quantifiers-of _ (c .before .before .before .before .values-of2 .result) (c .before .before .before .before .values-of2 .ensures)) (told .consistent) (c .before .statuses-of .result) (c .before .statuses-of .ensures)
 
 due-conflict-requires : tie.Need-due-conflict-requires
 due-conflict-requires c κs = kept-room (start (cut (c .before .before .before .before)) .pre .kept) .kinds
@@ -81,5 +75,6 @@ returns-2 c =
 pub due-spec : {M : Type 1} → statement M
 due-spec =
     tie.close
-    (tie.spec (λ c κs. search needs) (λ c κs. search needs) (λ c κs. search needs) values-of-requires universals-of-requires statuses-of-requires
-    lowest-conflict-requires (λ c. search needs) due-conflict-requires (λ c. search needs) due-unit-requires returns returns-2)
+    (tie.spec (λ c κs. search needs) (λ c κs. search needs) (λ c κs. search needs) (λ c κs. kept-written _ _ _ (start c .pre .kept))
+    (λ c κs. bound-written (parts (c .before) .prefix)) statuses-of-requires lowest-conflict-requires (λ c. search needs) due-conflict-requires
+    (λ c. search needs) due-unit-requires returns returns-2)

@@ -36,4 +36,5 @@ returns-2 c r told sorting = rw (← search-is (c .before .before .before) r (to
 pub due-monotone-spec : {M : Type 1} → statement M
 due-monotone-spec =
     tie.close
-    (tie.spec occurring-requires (λ c κs. search needs) (λ c. search needs) (λ c. search needs) (λ c κs. search needs) returns returns-2)
+    (tie.spec occurring-requires (λ c κs. search needs) (λ c. search needs) (λ c. search needs)
+    (λ c κs. search needs) returns returns-2)

@@ -17,9 +17,6 @@ Inv-loop prefix levels₀ level₀ i₀ levels level i = Levelled prefix levels 
 abbrev μ-loop : tie.MeasureT-loop
 μ-loop prefix levels₀ level₀ i₀ levels level i = length prefix - i
 
-loop-holds : tie.Need-loop-holds Inv-loop μ-loop
-loop-holds c = begin _
-
 mul-levels : tie.Need-mul-levels Inv-loop μ-loop
 mul-levels c =
     let turned = c .before in
@@ -52,5 +49,5 @@ returns c = end _ _ _ _ (c .before .loop .inv) (c .loop-test .left)
 pub levels-of-spec : {M : Type 1} → statement M
 levels-of-spec =
     tie.close
-    (tie.spec Inv-loop μ-loop loop-holds (λ c κs. search needs) mul-levels array-write-levels (λ c κs. omega arith) add-level (λ c. omega arith)
-    (λ c. omega arith) loop-again returns)
+    (tie.spec Inv-loop μ-loop (λ c. begin _) (λ c κs. search needs) mul-levels array-write-levels (λ c κs. omega arith) add-level
+    (λ c. omega arith) (λ c. omega arith) loop-again returns)

@@ -3,7 +3,7 @@ use mathlib.Core.Path.{sym, _∙_}
 use lib.IntN.{pos}
 use lib.ListN.{getD}
 use borrow.Author.Needs.{needs}
-use Rattle.rules.proofs.Values.{sign-minus, sign-plus}
+use Rattle.rules.proofs.Filled.{sign-minus, sign-plus}
 use Rattle.rules.proofs.tables.sign_at.Statement.{statement}
 use Rattle.rules.proofs.tables.sign_at.Tie as tie
 

@@ -4,7 +4,7 @@ use lib.IntN.{pos}
 use lib.ListN.{getD}
 use borrow.Author.Needs.{needs}
 use Rattle.rules.specs.Due.{literal}
-use Rattle.rules.proofs.Values.{minus-true, plus-true}
+use Rattle.rules.proofs.Filled.{minus-true, plus-true}
 use Rattle.rules.proofs.variables.true_at.Statement.{statement}
 use Rattle.rules.proofs.variables.true_at.Tie as tie
 

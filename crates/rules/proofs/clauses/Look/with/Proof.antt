@@ -13,9 +13,6 @@ use Rattle.rules.proofs.Looks.{with-false, with-true, with-first, with-
 use Rattle.rules.proofs.clauses.Look.with.Statement.{statement}
 use Rattle.rules.proofs.clauses.Look.with.Tie as tie
 
-status-at-requires : tie.Need-status-at-requires
-status-at-requires c κs = c .pre .0 (c .args .j)
-
 returns : tie.Need-returns
 returns c =
     let a = c .before .before .args in
@@ -67,5 +64,5 @@ returns-7 c = lowered (c .before) _ (omega (arith, c .if6 .left))
 pub with-spec : {M : Type 1} → statement M
 with-spec =
     tie.close
-    (tie.spec status-at-requires returns returns-2 (λ c κs. search needs) returns-3 returns-4 returns-5 (λ c κs. search needs) mul-level
-    element-copy-out-level returns-6 returns-7)
+    (tie.spec (λ c κs. c .pre .0 (c .args .j)) returns returns-2 (λ c κs. search needs) returns-3 returns-4 returns-5 (λ c κs. search needs)
+    mul-level element-copy-out-level returns-6 returns-7)

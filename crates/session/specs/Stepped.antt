@@ -1,6 +1,5 @@
--- "Every accepted step is the one due rule": the search that it leaves is the due rule's, a step of the theory; the revision is one more; the
--- places from the new to the old length are 0, and of the others only the last entry's is written; Fail and Succeed leave the record. And what the guard
--- has shown holds again after it. From the laws of the rules.
+-- What an accepted step leaves: the due rule's search, which is a step of the theory, with a revision one more; and it writes no place that the
+-- rule doesn't. What the guard has shown holds again after it. From the laws of the rules.
 use Prim.Native.Nat.{ℕ, _+_, _≤_, _<_}
 use mathlib.Core.Path.{_≡_, refl}
 use mathlib.Core.List.{List}
@@ -27,59 +26,57 @@ use Rattle.session.specs.Refused.{unless-to}
 use Rattle.session.specs.Outcome.{moved, searchOf, stepped, stepOutcome}
 use Rattle.rules.specs.Laws.Records.{entryAt, noEntry}
 
--- from a session s and its buffers to the next, by an accepted step with the proposal l
-pub record Follows (b : List ℤ) (l : ℤ) (s s′ : Session) (m m′ : Memory) : Type 0 where
-  -- it is the due rule, and a rule of the theory
+-- from a session s and its memory to the next, by an accepted step with the proposal l
+pub record Stepped (b : List ℤ) (l : ℤ) (s s′ : Session) (m m′ : Memory) : Type 0 where
+  pub live : s .state ≡ Open
+  -- [demand.2.rule] it is the due rule, and a rule of the theory
   pub rule : searchOf s′ m′ ≡ apply (prefixOf b) (due (formulaOf b) (recordOf (m .trail) (s .length))) l (searchOf s m)
   pub step : Step (formulaOf b) (recordOf (m .trail) (s .length)) (standingOf (searchOf s′ m′))
-  -- "An accepted step adds one to the revision."
+  -- [revision.adds]
   pub revision : s′ .revision .0 ≡ s .revision .0 + 1
-  -- "A cut sets the places from the new to the old length to 0 in both buffers."
+  -- [cut.wipes]
   pub zeros : (j : ℕ) → s′ .length ≤ j → j < s .length → entryAt (m′ .trail) j ≡ noEntry
-  -- "No other place is written": but for the last entry and those, all are as they were
+  -- [writes.nothing-else] but for the last entry and those, all are as they were
   pub untouched : (j : ℕ) → Elsewhere j (s .length) (s′ .length) → entryAt (m′ .trail) j ≡ entryAt (m .trail) j
   pub lengths : (length (m′ .trail .lits) ≡ length (m .trail .lits)) × (length (m′ .trail .kinds) ≡ length (m .trail .kinds))
-  -- "Fail and Succeed leave the record."
-  pub ended : (s′ .state ≡ Open → ⊥) → (m′ .trail ≡ m .trail) × (s′ .length ≡ s .length)
+  -- [ended.leaves]
+  pub ended-leaves : (s′ .state ≡ Open → ⊥) → (m′ .trail ≡ m .trail) × (s′ .length ≡ s .length)
   -- rows 11 and 12 would pass again
   pub kept : KeptIn (prefixOf b) (searchOf s′ m′)
 
 module _ (s : Session) (b : List ℤ) (m : Memory) (seen : Revision) (l : Literal) where
-  next : Search
-  next = apply (prefixOf b) (due (formulaOf b) (recordOf (m .trail) (s .length))) (l .0) (searchOf s m)
+  -- where the due rule leads
+  ruled : Search
+  ruled = apply (prefixOf b) (due (formulaOf b) (recordOf (m .trail) (s .length))) (l .0) (searchOf s m)
 
   -- a step that breaks no row
   pub accepted-is : stepRefusal s b m seen l ≡ 0 → stepOutcome s b m seen l ≡ stepped s b l (searchOf s m)
   unfolding stepOutcome
   accepted-is e = rw e
 
-  follows-next : stepRefusal s b m seen l ≡ 0 → Follows b (l .0) s (moved s 1 next) m (memoryOf next)
-  unfolding next formulaOf
-  follows-next e =
+  stepped-ruled : stepRefusal s b m seen l ≡ 0 → Stepped b (l .0) s (moved s 1 ruled) m (memoryOf ruled)
+  unfolding ruled formulaOf
+  stepped-ruled e =
       let g = step-guarded s b m seen l e in
       let t = searchOf s m in
       let rule = due (formulaOf b) (recordOf (m .trail) (s .length)) in
       record {
+        live = g .guard .live;
         rule = refl;
-        step = due-step (formulaOf b) t (g .guard .kept) (l .0) (g .permitted);
+        step = due-step (formulaOf b) t (g .guard .on .kept) (l .0) (g .permitted);
         revision = refl;
         zeros = apply-zeros (prefixOf b) (l .0) t rule;
         untouched = apply-untouched (prefixOf b) (l .0) t rule;
         lengths = apply-lengths (prefixOf b) rule (l .0) t;
-        ended = apply-ended (prefixOf b) (l .0) t rule;
-        kept = due-keeps (formulaOf b) t (g .guard .kept) (l .0) (g .permitted);
+        ended-leaves = apply-ended (prefixOf b) (l .0) t rule;
+        kept = due-keeps (formulaOf b) t (g .guard .on .kept) (l .0) (g .permitted);
       }
 
-  -- an answer with a session comes from such a step
-  pub answered-accepted : (s′ : Session) → stepOutcome s b m seen l .answer ≡ To s′ → stepRefusal s b m seen l ≡ 0
-  unfolding stepOutcome
-  answered-accepted = unless-to (stepRefusal s b m seen l) m (stepped s b l (searchOf s m))
-
-  pub accepted-step : (s′ : Session) → let o = stepOutcome s b m seen l in o .answer ≡ To s′ → Follows b (l .0) s s′ m (o .memory)
-  unfolding next
+  pub accepted-step : (s′ : Session) → let o = stepOutcome s b m seen l in o .answer ≡ To s′ → Stepped b (l .0) s s′ m (o .memory)
+  unfolding stepOutcome ruled
   accepted-step s′ a =
-      let e = answered-accepted s′ a in
+      let e = unless-to (stepRefusal s b m seen l) m _ s′ a in
       let q = accepted-is e in
       let a′ = rw q at a in
-      let z : moved s 1 next ≡ s′ = cc in
-      rw (q, ← z) (follows-next e)
+      let z : moved s 1 ruled ≡ s′ = cc in
+      rw (q, ← z) (stepped-ruled e)
