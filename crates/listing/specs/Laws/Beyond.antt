@@ -21,10 +21,9 @@ use Rattle.rules.specs.Apply.{apply}
 use Rattle.rules.specs.Inner.Ready.{Bound, KeptIn, Room}
 use Rattle.rules.specs.Laws.Wiped.{wiped-length, wiped-outside}
 use Rattle.rules.specs.Laws.Records.{good}
-use Rattle.rules.specs.Laws.Steps.{apply-lengths}
-use Rattle.rules.specs.Laws.Untouched.{apply-untouched}
+use Rattle.rules.specs.Laws.Untouched.{apply-lengths, apply-untouched}
 use Rattle.session.specs.Run.{trip, whileOpen, advance, runFrom}
-use Rattle.session.specs.Laws.Advance.{advance-keeps}
+use Rattle.session.specs.Laws.Runs.{advance-keeps}
 use Rattle.listing.specs.Opening.{groupOf, valuesOf, openingStart, openingSearch}
 use Rattle.listing.specs.Laws.Values.{values-length, group-few, group-length}
 use Rattle.listing.specs.Laws.Start.{wiped-whole, sets-whole, starts}

@@ -19,7 +19,7 @@ use Rattle.rules.specs.declared.rule.State.the-variants.{Open, Valid, Unsat}
 use Rattle.rules.specs.Search.{Search, standingOf, recordIn}
 use Rattle.rules.specs.Inner.Ready.{Bound, Room}
 use Rattle.session.specs.Run.{runFrom}
-use Rattle.session.specs.Laws.Trips.{Travelled, travelled}
+use Rattle.session.specs.Laws.Runs.{Travelled, travelled}
 use Rattle.listing.specs.Opening.{openingStart, openingSearch}
 use Rattle.listing.specs.Laws.Start.{opened, Starts, starts}
 use Rattle.listing.specs.Wins.{wins, wins-under}
