@@ -2,25 +2,13 @@
 ghost use lib.ListN.{length};
 ghost use Rattle.console.specs.Desk.{Within};
 use crate::command::Command;
-use crate::desk::Counts;
-use formula::Checked;
-use listing::Paged;
-use session::Answer;
-use session::Ran;
+use crate::desk::Desk;
+use crate::names::Name;
+use crate::reply;
+use crate::reply::Reply;
 use session::Session;
 
-// What the library answers.
-pub(crate) enum Called {
-    Checked(Checked),
-    Opened(Answer),
-    Stepped(Answer),
-    Ran(Ran),
-    Paged(Paged),
-    // The command asks for no call.
-    Nothing,
-}
-
-// The library's call that a command asks for.
+// The library's call that a command asks for, and its answer.
 fn call(
     command: Command,
     session: Session,
@@ -29,52 +17,59 @@ fn call(
     kinds: &mut [u8],
     output: &mut [u32],
     preferred: &[i32],
-) -> Called {
+) -> Reply {
     match command {
-        Command::Block(_) => Called::Checked(formula::check(block)),
-        Command::Open(first) => Called::Opened(session::open(block, literals, kinds, first)),
-        Command::Step { seen, proposal } => Called::Stepped(session.step(
-            block,
-            literals,
-            kinds,
-            seen,
-            proposal,
-        )),
+        Command::Block(_) => reply::checked(session, formula::check(block)),
+        Command::Open(first) => reply::answered(
+            session,
+            Name::Open,
+            session::open(block, literals, kinds, first),
+        ),
+        Command::Step { seen, proposal } => reply::answered(
+            session,
+            Name::Step,
+            session.step(block, literals, kinds, seen, proposal),
+        ),
         Command::Run {
             seen,
             budget,
             from: _,
-        } => Called::Ran(session.run(block, literals, kinds, seen, budget, preferred)),
+        } => reply::ran(
+            session,
+            session.run(block, literals, kinds, seen, budget, preferred),
+        ),
         Command::Page {
             start,
             budget,
             from: _,
-        } => Called::Paged(listing::page(block, literals, kinds, start, preferred, budget, output)),
-        _ => Called::Nothing,
+        } => reply::paged(
+            session,
+            listing::page(block, literals, kinds, start, preferred, budget, output),
+        ),
+        _ => reply::told(command, session, literals.len(), kinds.len(), output.len()),
     }
 }
 
 // The library is lent each buffer as far as its words are in use.
 pub(crate) fn act(
     command: Command,
-    session: Session,
-    counts: Counts,
+    desk: Desk,
     block: &[i32],
     literals: &mut [i32],
     kinds: &mut [u8],
     output: &mut [u32],
     preferred: &[i32],
-) -> Called
-    requires { ⌜ Within counts (length (now block)) (length (now literals)) (length (now kinds)) (length (now output)) (length (now preferred)) ⌝ }
+) -> Reply
+    requires { ⌜ Within desk (length (now block)) (length (now literals)) (length (now kinds)) (length (now output)) (length (now preferred)) ⌝ }
 {
-    let b = counts.block;
-    let l = counts.literals;
-    let k = counts.kinds;
-    let o = counts.output;
-    let p = counts.preferred;
+    let b = desk.block;
+    let l = desk.literals;
+    let k = desk.kinds;
+    let o = desk.output;
+    let p = desk.preferred;
     call(
         command,
-        session,
+        desk.session,
         &block[0..b],
         &mut literals[0..l],
         &mut kinds[0..k],

@@ -4,6 +4,8 @@ ghost use Rattle.console.specs.Line.{Ahead};
 use crate::line::Word;
 use crate::line::is;
 use crate::line::next_word;
+use crate::room::NAMES;
+use crate::room::NAMES_BYTES;
 
 pub(crate) enum Name {
     Block,
@@ -22,7 +24,7 @@ pub(crate) enum Name {
 }
 
 // The names in one line, each at its place.
-pub(crate) fn list() -> [u8; 54] {
+pub(crate) fn list() -> [u8; NAMES_BYTES] {
     *b"block lits kinds out session open step run page show ?"
 }
 
@@ -77,7 +79,7 @@ pub(crate) fn place_of(name: Name) -> usize {
 pub(crate) fn named(word: &[u8]) -> Name {
     let names = list();
     let mut place = 0;
-    while place < 10 {
+    while place < NAMES {
         let name = name_at(&names, place);
         let start = name.start;
         let end = name.end;
