@@ -2,7 +2,7 @@
 ghost use lib.ListN.{length};
 ghost use Rattle.console.specs.Desk.{Within};
 use crate::command::Command;
-use crate::desk::Desk;
+use crate::desk::Counts;
 use crate::names::Name;
 use crate::reply;
 use crate::reply::Reply;
@@ -12,6 +12,7 @@ use session::Session;
 fn call(
     command: Command,
     session: Session,
+    counts: Counts,
     block: &[i32],
     literals: &mut [i32],
     kinds: &mut [u8],
@@ -46,30 +47,32 @@ fn call(
             session,
             listing::page(block, literals, kinds, start, preferred, budget, output),
         ),
-        _ => reply::told(command, session, literals.len(), kinds.len(), output.len()),
+        _ => reply::told(command, session, counts),
     }
 }
 
 // The library is lent each buffer as far as its words are in use.
 pub(crate) fn act(
     command: Command,
-    desk: Desk,
+    session: Session,
+    counts: Counts,
     block: &[i32],
     literals: &mut [i32],
     kinds: &mut [u8],
     output: &mut [u32],
     preferred: &[i32],
 ) -> Reply
-    requires { ⌜ Within desk (length (now block)) (length (now literals)) (length (now kinds)) (length (now output)) (length (now preferred)) ⌝ }
+    requires { ⌜ Within counts (length (now block)) (length (now literals)) (length (now kinds)) (length (now output)) (length (now preferred)) ⌝ }
 {
-    let b = desk.block;
-    let l = desk.literals;
-    let k = desk.kinds;
-    let o = desk.output;
-    let p = desk.preferred;
+    let b = counts.block;
+    let l = counts.literals;
+    let k = counts.kinds;
+    let o = counts.output;
+    let p = counts.preferred;
     call(
         command,
-        desk.session,
+        session,
+        counts,
         &block[0..b],
         &mut literals[0..l],
         &mut kinds[0..k],

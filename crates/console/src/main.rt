@@ -30,39 +30,44 @@ use room::PREFERRED_WORDS;
 use room::RECORD_PLACES;
 use room::TEXT_BYTES;
 
-// What a line leaves: the desk, and whether it goes on: the answer could be written, and the input has not ended.
-struct Served {
-    desk: Desk,
-    on: bool,
-}
-
 // Answers a line.
 fn serve_line(
     bytes: &[u8],
     taken: Taken,
-    old: Desk,
+    desk: Desk,
     block: &mut [i32; BLOCK_WORDS],
     literals: &mut [i32; RECORD_PLACES],
     kinds: &mut [u8; RECORD_PLACES],
     output: &mut [u32; OUTPUT_WORDS],
     preferred: &mut [i32; PREFERRED_WORDS],
     text: &mut [u8; TEXT_BYTES],
-) -> Served
+) -> Desk
     requires { ⌜ taken .count ≤ length (now bytes) ⌝ }
-    requires { ⌜ InRoom old ⌝ }
-    ensures { λ r. ⌜ InRoom (r .desk) ⌝ }
+    requires { ⌜ InRoom (desk .counts) ⌝ }
+    ensures { λ r. ⌜ InRoom (r .counts) ⌝ }
 {
     let count = taken.count;
     let line = &bytes[0..count];
     let asks = asked(line, taken.long);
-    let mut desk = set::buffers(asks, line, old, block, literals, kinds, output, preferred);
-    let reply = act(asks, desk, block, literals, kinds, output, preferred);
+    let old = desk.counts;
+    let before = desk.session;
+    let counts = set::buffers(asks, line, old, block, literals, kinds, output, preferred);
+    let reply = act(
+        asks,
+        before,
+        counts,
+        block,
+        literals,
+        kinds,
+        output,
+        preferred,
+    );
+    let written = text::write(text, reply, counts, literals, kinds, output);
     let session = reply.session;
-    desk.session = session;
-    let written = text::write(text, reply, desk, literals, kinds, output);
-    Served {
-        desk,
-        on: written && taken.ended,
+    Desk {
+        counts,
+        session,
+        on: written & taken.ended,
     }
 }
 
@@ -83,7 +88,7 @@ fn serve(
     while 0 < turns {
         turns -= 1;
         let taken = next_line(part, line, left);
-        let served = serve_line(
+        desk = serve_line(
             line,
             taken,
             desk,
@@ -94,11 +99,10 @@ fn serve(
             preferred,
             text,
         );
-        if !served.on {
+        if !desk.on {
             return;
         }
         left = taken.left;
-        desk = served.desk;
     }
 }
 

@@ -1,5 +1,6 @@
 // What a line leaves: the session, and the answer, before it is text.
 use crate::command::Command;
+use crate::desk::Counts;
 use crate::desk::number_of;
 use crate::names::Name;
 use crate::room::ANSWER_NUMBERS;
@@ -125,18 +126,12 @@ pub(crate) fn checked(session: Session, answer: Checked) -> Reply {
 }
 
 // The answer to a command that calls nothing.
-pub(crate) fn told(
-    command: Command,
-    session: Session,
-    literals: usize,
-    kinds: usize,
-    output: usize,
-) -> Reply {
+pub(crate) fn told(command: Command, session: Session, counts: Counts) -> Reply {
     match command {
-        Command::Literals(_) => counted(session, Name::Literals, literals as u64),
-        Command::Kinds(_) => counted(session, Name::Kinds, kinds as u64),
-        Command::Output(_) => counted(session, Name::Output, output as u64),
-        Command::Session(_) => bare(session, Name::Session),
+        Command::Literals(_) => counted(session, Name::Literals, counts.literals as u64),
+        Command::Kinds(_) => counted(session, Name::Kinds, counts.kinds as u64),
+        Command::Output(_) => counted(session, Name::Output, counts.output as u64),
+        Command::Session(next) => bare(next, Name::Session),
         Command::Show => shown(session),
         Command::Nothing => bare(session, Name::Nothing),
         _ => bare(session, Name::Unknown),

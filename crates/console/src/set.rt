@@ -1,7 +1,7 @@
 // The words of a line, put into the buffer that its command names.
 ghost use Rattle.console.specs.Desk.{InRoom};
 use crate::command::Command;
-use crate::desk::Desk;
+use crate::desk::Counts;
 use crate::fill::store_counts;
 use crate::fill::store_kinds;
 use crate::fill::store_words;
@@ -14,49 +14,46 @@ use crate::room::RECORD_PLACES;
 pub(crate) fn buffers(
     command: Command,
     line: &[u8],
-    old: Desk,
+    old: Counts,
     block: &mut [i32; BLOCK_WORDS],
     literals: &mut [i32; RECORD_PLACES],
     kinds: &mut [u8; RECORD_PLACES],
     output: &mut [u32; OUTPUT_WORDS],
     preferred: &mut [i32; PREFERRED_WORDS],
-) -> Desk
+) -> Counts
     requires { ⌜ InRoom old ⌝ }
     ensures { λ r. ⌜ InRoom r ⌝ }
 {
-    let mut desk = old;
-    desk.preferred = 0;
+    let mut counts = old;
+    counts.preferred = 0;
     match command {
         Command::Block(from) => {
-            desk.block = store_words(line, from, block);
+            counts.block = store_words(line, from, block);
         }
         Command::Literals(from) => {
-            desk.literals = store_words(line, from, literals);
+            counts.literals = store_words(line, from, literals);
         }
         Command::Kinds(from) => {
-            desk.kinds = store_kinds(line, from, kinds);
+            counts.kinds = store_kinds(line, from, kinds);
         }
         Command::Output(from) => {
-            desk.output = store_counts(line, from, output);
-        }
-        Command::Session(next) => {
-            desk.session = next;
+            counts.output = store_counts(line, from, output);
         }
         Command::Run {
             seen: _,
             budget: _,
             from,
         } => {
-            desk.preferred = store_words(line, from, preferred);
+            counts.preferred = store_words(line, from, preferred);
         }
         Command::Page {
             start: _,
             budget: _,
             from,
         } => {
-            desk.preferred = store_words(line, from, preferred);
+            counts.preferred = store_words(line, from, preferred);
         }
         _ => {}
     }
-    desk
+    counts
 }

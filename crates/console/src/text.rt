@@ -3,7 +3,7 @@ ghost use mathlib.Core.Path.{_≡_};
 ghost use Prim.Native.Nat.{_+_, _*_, _≤_, _<_};
 ghost use lib.ListN.{length};
 ghost use Rattle.console.specs.Room.{textBytes, recordPlaces, outputWords, answerNumbers, numberBytes, namesBytes};
-use crate::desk::Desk;
+use crate::desk::Counts;
 use crate::names::Name;
 use crate::names::list;
 use crate::names::name_at;
@@ -132,7 +132,7 @@ fn name(text: &mut [u8; TEXT_BYTES], at: usize, name: Name) -> usize
 fn buffers(
     text: &mut [u8; TEXT_BYTES],
     from: usize,
-    desk: Desk,
+    used: Counts,
     literals: &[i32; RECORD_PLACES],
     bytes: &[u8; RECORD_PLACES],
     output: &[u32; OUTPUT_WORDS],
@@ -141,11 +141,11 @@ fn buffers(
     ensures { λ r. ⌜ r < textBytes ⌝ }
 {
     let first = put(text, from, b" lits");
-    let second = words(text, first, literals, desk.literals);
+    let second = words(text, first, literals, used.literals);
     let third = put(text, second, b" kinds");
-    let fourth = kinds(text, third, bytes, desk.kinds);
+    let fourth = kinds(text, third, bytes, used.kinds);
     let last = put(text, fourth, b" out");
-    counts(text, last, output, desk.output)
+    counts(text, last, output, used.output)
 }
 
 // Puts the words that follow an answer's numbers.
@@ -153,7 +153,7 @@ fn words_after(
     text: &mut [u8; TEXT_BYTES],
     from: usize,
     after: After,
-    desk: Desk,
+    used: Counts,
     literals: &[i32; RECORD_PLACES],
     bytes: &[u8; RECORD_PLACES],
     output: &[u32; OUTPUT_WORDS],
@@ -164,7 +164,7 @@ fn words_after(
     match after {
         After::Nothing => from,
         After::Output(count) => counts(text, from, output, count),
-        After::Desk => buffers(text, from, desk, literals, bytes, output),
+        After::Desk => buffers(text, from, used, literals, bytes, output),
     }
 }
 
@@ -179,7 +179,7 @@ fn written(text: &[u8], size: usize) -> bool
 pub(crate) fn write(
     text: &mut [u8; TEXT_BYTES],
     reply: Reply,
-    desk: Desk,
+    used: Counts,
     literals: &[i32; RECORD_PLACES],
     bytes: &[u8; RECORD_PLACES],
     output: &[u32; OUTPUT_WORDS],
@@ -192,7 +192,7 @@ pub(crate) fn write(
     let ns = reply.numbers;
     let from = numbers(text, named, ns, reply.count);
     let after = reply.after;
-    let end = words_after(text, from, after, desk, literals, bytes, output);
+    let end = words_after(text, from, after, used, literals, bytes, output);
     let size = put(text, end, b"\n");
     written(text, size)
 }

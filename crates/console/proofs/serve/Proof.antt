@@ -9,7 +9,7 @@ use Rattle.console.proofs.serve.Tie as tie
 
 abbrev Inv-loop : tie.InvT-loop
 Inv-loop part₀ line₀ block₀ literals₀ kinds₀ output₀ preferred₀ text₀ desk₀ left₀ turns₀ part line block literals kinds output preferred text desk left turns =
-    InRoom desk × (left .size ≤ partBytes)
+    InRoom (desk .counts) × (left .size ≤ partBytes)
 
 abbrev μ-loop : tie.MeasureT-loop
 μ-loop part₀ line₀ block₀ literals₀ kinds₀ output₀ preferred₀ text₀ desk₀ left₀ turns₀ part line block literals kinds output preferred text desk left turns =
@@ -17,7 +17,7 @@ abbrev μ-loop : tie.MeasureT-loop
 
 loop-less : tie.Need-loop-less Inv-loop μ-loop
 loop-less c =
-    let served = c .before .before .before .before in
+    let served = c .before .before .before in
     let taken = served .before .before .before .before .before .before .before .before .before in
     omega (arith, taken .before .before .before .loop-test .taken)
 
