@@ -28,23 +28,12 @@ pub(crate) struct Reply {
     pub(crate) after: After,
 }
 
-// `NAME`
-fn bare(session: Session, name: Name) -> Reply {
+// `NAME`, or `NAME N`
+fn short(session: Session, name: Name, count: usize, n: u64) -> Reply {
     Reply {
         session,
         name,
-        count: 0,
-        numbers: [0; ANSWER_NUMBERS],
-        after: After::Nothing,
-    }
-}
-
-// `NAME N`
-fn counted(session: Session, name: Name, n: u64) -> Reply {
-    Reply {
-        session,
-        name,
-        count: 1,
+        count,
         numbers: [n, 0, 0, 0, 0],
         after: After::Nothing,
     }
@@ -85,7 +74,7 @@ fn reached(session: Session, name: Name, count: usize, steps: u32) -> Reply {
 pub(crate) fn answered(session: Session, name: Name, answer: Answer) -> Reply {
     match answer {
         Answer::To(next) => reached(next, name, 4, 0),
-        Answer::Refused(n) => counted(session, name, n as u64),
+        Answer::Refused(n) => short(session, name, 1, n as u64),
     }
 }
 
@@ -95,7 +84,7 @@ pub(crate) fn ran(session: Session, answer: Ran) -> Reply {
             session: next,
             steps,
         } => reached(next, Name::Run, 5, steps),
-        Ran::Stopped(n) => counted(session, Name::Run, n as u64),
+        Ran::Stopped(n) => short(session, Name::Run, 1, n as u64),
     }
 }
 
@@ -113,27 +102,27 @@ pub(crate) fn paged(session: Session, answer: Paged) -> Reply {
             numbers: [0, next as u64, entries as u64, paused as u64, 0],
             after: After::Output(2 * (entries as usize)),
         },
-        Paged::Refused(n) => counted(session, Name::Page, n as u64),
+        Paged::Refused(n) => short(session, Name::Page, 1, n as u64),
     }
 }
 
 // `block N`
 pub(crate) fn checked(session: Session, answer: Checked) -> Reply {
     match answer {
-        Checked::Accepted => counted(session, Name::Block, 0),
-        Checked::Refused(n) => counted(session, Name::Block, n as u64),
+        Checked::Accepted => short(session, Name::Block, 1, 0),
+        Checked::Refused(n) => short(session, Name::Block, 1, n as u64),
     }
 }
 
 // The answer to a command that calls nothing.
 pub(crate) fn told(command: Command, session: Session, counts: Counts) -> Reply {
     match command {
-        Command::Literals(_) => counted(session, Name::Literals, counts.literals as u64),
-        Command::Kinds(_) => counted(session, Name::Kinds, counts.kinds as u64),
-        Command::Output(_) => counted(session, Name::Output, counts.output as u64),
-        Command::Session(next) => bare(next, Name::Session),
+        Command::Literals(_) => short(session, Name::Literals, 1, counts.literals as u64),
+        Command::Kinds(_) => short(session, Name::Kinds, 1, counts.kinds as u64),
+        Command::Output(_) => short(session, Name::Output, 1, counts.output as u64),
+        Command::Session(next) => short(next, Name::Session, 0, 0),
         Command::Show => shown(session),
-        Command::Nothing => bare(session, Name::Nothing),
-        _ => bare(session, Name::Unknown),
+        Command::Nothing => short(session, Name::Nothing, 0, 0),
+        _ => short(session, Name::Unknown, 0, 0),
     }
 }

@@ -15,7 +15,7 @@ pub(crate) const PREFERRED_WORDS: usize = LINE_BYTES / 2;
 // The input is read in parts of so many bytes.
 pub(crate) const PART_BYTES: usize = 65536;
 
-// No answer is cut short: a number takes at most 22 bytes, with its sign and the space before it.
+// No answer is cut short: a number takes at most 22 bytes, with its sign and the space before it, and the buffers have 12,288 words.
 pub(crate) const TEXT_BYTES: usize = 524288;
 
 // A number of 64 bits has at most so many digits.

@@ -10,7 +10,7 @@ use crate::room::OUTPUT_WORDS;
 use crate::room::PREFERRED_WORDS;
 use crate::room::RECORD_PLACES;
 
-// How many preferred words the line of a run or a page has. They are in use for this line alone.
+// Preferred words are in use for the line of their run or page alone.
 pub(crate) fn buffers(
     command: Command,
     line: &[u8],

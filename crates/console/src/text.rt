@@ -1,4 +1,4 @@
-// The text of an answer, put together in a buffer. Each function answers where the text goes on.
+// The text of an answer, put together in a buffer that has room for every answer. Each function answers where the text goes on.
 ghost use mathlib.Core.Path.{_≡_};
 ghost use Prim.Native.Nat.{_+_, _*_, _≤_, _<_};
 ghost use lib.ListN.{length};
