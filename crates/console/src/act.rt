@@ -3,7 +3,7 @@ ghost use lib.ListN.{length};
 ghost use Rattle.console.specs.Desk.{Within};
 use crate::command::Command;
 use crate::desk::Counts;
-use crate::names::Name;
+use crate::names;
 use crate::reply;
 use crate::reply::Reply;
 use session::Session;
@@ -23,12 +23,12 @@ fn call(
         Command::Block(_) => reply::checked(session, formula::check(block)),
         Command::Open(first) => reply::answered(
             session,
-            Name::Open,
+            names::OPEN,
             session::open(block, literals, kinds, first),
         ),
         Command::Step { seen, proposal } => reply::answered(
             session,
-            Name::Step,
+            names::STEP,
             session.step(block, literals, kinds, seen, proposal),
         ),
         Command::Run {

@@ -2,8 +2,8 @@
 use crate::desk::state_of;
 use crate::fill::all_fit;
 use crate::line::next_word;
+use crate::names;
 use crate::names::Name;
-use crate::names::named;
 use crate::numbers::ends;
 use crate::numbers::next_number;
 use crate::numbers::word_of;
@@ -50,106 +50,97 @@ pub(crate) enum Command {
     Show,
 }
 
+// A command, if its words fit.
+fn only(fits: bool, command: Command) -> Command {
+    if fits { command } else { Command::Unknown }
+}
+
 // `session LENGTH REVISION STATE`
 fn session(line: &[u8], from: usize) -> Command {
     let length = next_number(line, from, NONE_BELOW, LONG_MOST);
     let revision = next_number(line, length.next, NONE_BELOW, LONG_MOST);
     let state = next_number(line, revision.next, NONE_BELOW, STATE_MOST);
-    if !ends(line, state.next) {
-        return Command::Unknown;
-    }
-    Command::Session(Session {
+    let next = Session {
         length: length.size as usize,
         revision: Revision(revision.size),
         state: state_of(state.size),
-    })
+    };
+    only(ends(line, state.next), Command::Session(next))
 }
 
 // `open REVISION`
 fn open(line: &[u8], from: usize) -> Command {
     let first = next_number(line, from, NONE_BELOW, LONG_MOST);
-    if !ends(line, first.next) {
-        return Command::Unknown;
-    }
-    Command::Open(Revision(first.size))
+    only(ends(line, first.next), Command::Open(Revision(first.size)))
 }
 
 // `step SEEN PROPOSAL`
 fn step(line: &[u8], from: usize) -> Command {
     let seen = next_number(line, from, NONE_BELOW, LONG_MOST);
     let proposal = next_number(line, seen.next, WORD_BELOW, WORD_MOST);
-    if !ends(line, proposal.next) {
-        return Command::Unknown;
-    }
-    Command::Step {
+    let command = Command::Step {
         seen: Revision(seen.size),
         proposal: Literal(word_of(proposal.negative, proposal.size)),
-    }
+    };
+    only(ends(line, proposal.next), command)
 }
 
 // `run SEEN BUDGET P..`
 fn run(line: &[u8], from: usize) -> Command {
     let seen = next_number(line, from, NONE_BELOW, LONG_MOST);
     let budget = next_number(line, seen.next, NONE_BELOW, COUNT_MOST);
-    if !all_fit(line, budget.next, WORD_BELOW, WORD_MOST, PREFERRED_WORDS) {
-        return Command::Unknown;
-    }
-    Command::Run {
+    let command = Command::Run {
         seen: Revision(seen.size),
         budget: budget.size as u32,
         from: budget.next,
-    }
+    };
+    only(
+        all_fit(line, budget.next, WORD_BELOW, WORD_MOST, PREFERRED_WORDS),
+        command,
+    )
 }
 
 // `page START BUDGET P..`
 fn page(line: &[u8], from: usize) -> Command {
     let start = next_number(line, from, NONE_BELOW, COUNT_MOST);
     let budget = next_number(line, start.next, NONE_BELOW, COUNT_MOST);
-    if !all_fit(line, budget.next, WORD_BELOW, WORD_MOST, PREFERRED_WORDS) {
-        return Command::Unknown;
-    }
-    Command::Page {
+    let command = Command::Page {
         start: start.size as u32,
         budget: budget.size as u32,
         from: budget.next,
-    }
+    };
+    only(
+        all_fit(line, budget.next, WORD_BELOW, WORD_MOST, PREFERRED_WORDS),
+        command,
+    )
 }
 
 // The command whose name is read, from the words behind it.
 fn behind(name: Name, line: &[u8], from: usize) -> Command {
     match name {
-        Name::Block => if all_fit(line, from, WORD_BELOW, WORD_MOST, BLOCK_WORDS) {
-            Command::Block(from)
-        } else {
-            Command::Unknown
-        },
-        Name::Literals => if all_fit(line, from, WORD_BELOW, WORD_MOST, RECORD_PLACES) {
-            Command::Literals(from)
-        } else {
-            Command::Unknown
-        },
-        Name::Kinds => if all_fit(line, from, NONE_BELOW, KIND_MOST, RECORD_PLACES) {
-            Command::Kinds(from)
-        } else {
-            Command::Unknown
-        },
-        Name::Output => if all_fit(line, from, NONE_BELOW, COUNT_MOST, OUTPUT_WORDS) {
-            Command::Output(from)
-        } else {
-            Command::Unknown
-        },
-        Name::Session => session(line, from),
-        Name::Open => open(line, from),
-        Name::Step => step(line, from),
-        Name::Run => run(line, from),
-        Name::Page => page(line, from),
-        Name::Show => if ends(line, from) {
-            Command::Show
-        } else {
-            Command::Unknown
-        },
-        Name::Unknown => Command::Unknown,
-        Name::Nothing => Command::Nothing,
+        names::BLOCK => only(
+            all_fit(line, from, WORD_BELOW, WORD_MOST, BLOCK_WORDS),
+            Command::Block(from),
+        ),
+        names::LITERALS => only(
+            all_fit(line, from, WORD_BELOW, WORD_MOST, RECORD_PLACES),
+            Command::Literals(from),
+        ),
+        names::KINDS => only(
+            all_fit(line, from, NONE_BELOW, KIND_MOST, RECORD_PLACES),
+            Command::Kinds(from),
+        ),
+        names::OUTPUT => only(
+            all_fit(line, from, NONE_BELOW, COUNT_MOST, OUTPUT_WORDS),
+            Command::Output(from),
+        ),
+        names::SESSION => session(line, from),
+        names::OPEN => open(line, from),
+        names::STEP => step(line, from),
+        names::RUN => run(line, from),
+        names::PAGE => page(line, from),
+        names::SHOW => only(ends(line, from), Command::Show),
+        _ => Command::Unknown,
     }
 }
 
@@ -167,5 +158,5 @@ pub(crate) fn asked(line: &[u8], long: bool) -> Command {
     if line[0] == b'#' {
         return Command::Nothing;
     }
-    behind(named(&line[start..end]), line, end)
+    behind(names::named(&line[start..end]), line, end)
 }

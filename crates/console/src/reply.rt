@@ -2,6 +2,7 @@
 use crate::command::Command;
 use crate::desk::Counts;
 use crate::desk::number_of;
+use crate::names;
 use crate::names::Name;
 use crate::room::ANSWER_NUMBERS;
 use formula::Checked;
@@ -45,7 +46,7 @@ fn shown(session: Session) -> Reply {
     let revision = session.revision;
     Reply {
         session,
-        name: Name::Show,
+        name: names::SHOW,
         count: 3,
         numbers: [session.length as u64, revision.0, number_of(state), 0, 0],
         after: After::Desk,
@@ -83,8 +84,8 @@ pub(crate) fn ran(session: Session, answer: Ran) -> Reply {
         Ran::Until {
             session: next,
             steps,
-        } => reached(next, Name::Run, 5, steps),
-        Ran::Stopped(n) => short(session, Name::Run, 1, n as u64),
+        } => reached(next, names::RUN, 5, steps),
+        Ran::Stopped(n) => short(session, names::RUN, 1, n as u64),
     }
 }
 
@@ -97,32 +98,32 @@ pub(crate) fn paged(session: Session, answer: Paged) -> Reply {
             paused,
         } => Reply {
             session,
-            name: Name::Page,
+            name: names::PAGE,
             count: 4,
             numbers: [0, next as u64, entries as u64, paused as u64, 0],
             after: After::Output(2 * (entries as usize)),
         },
-        Paged::Refused(n) => short(session, Name::Page, 1, n as u64),
+        Paged::Refused(n) => short(session, names::PAGE, 1, n as u64),
     }
 }
 
 // `block N`
 pub(crate) fn checked(session: Session, answer: Checked) -> Reply {
     match answer {
-        Checked::Accepted => short(session, Name::Block, 1, 0),
-        Checked::Refused(n) => short(session, Name::Block, 1, n as u64),
+        Checked::Accepted => short(session, names::BLOCK, 1, 0),
+        Checked::Refused(n) => short(session, names::BLOCK, 1, n as u64),
     }
 }
 
 // The answer to a command that calls nothing.
 pub(crate) fn told(command: Command, session: Session, counts: Counts) -> Reply {
     match command {
-        Command::Literals(_) => short(session, Name::Literals, 1, counts.literals as u64),
-        Command::Kinds(_) => short(session, Name::Kinds, 1, counts.kinds as u64),
-        Command::Output(_) => short(session, Name::Output, 1, counts.output as u64),
-        Command::Session(next) => short(next, Name::Session, 0, 0),
+        Command::Literals(_) => short(session, names::LITERALS, 1, counts.literals as u64),
+        Command::Kinds(_) => short(session, names::KINDS, 1, counts.kinds as u64),
+        Command::Output(_) => short(session, names::OUTPUT, 1, counts.output as u64),
+        Command::Session(next) => short(next, names::SESSION, 0, 0),
         Command::Show => shown(session),
-        Command::Nothing => short(session, Name::Nothing, 0, 0),
-        _ => short(session, Name::Unknown, 0, 0),
+        Command::Nothing => short(session, names::NOTHING, 0, 0),
+        _ => short(session, names::UNKNOWN, 0, 0),
     }
 }

@@ -24,10 +24,8 @@ pub(crate) const DIGITS: usize = 20;
 // The numbers that stand in an answer before the words of a buffer: at most so many.
 pub(crate) const ANSWER_NUMBERS: usize = 5;
 
-// The bytes of the list of names, and how many of its names a line can begin with.
+// The bytes of the list of names.
 pub(crate) const NAMES_BYTES: usize = 54;
-
-pub(crate) const NAMES: usize = 10;
 
 // The largest number of each place: "i32 words, u8 kinds, u64 revisions and lengths, u32 budgets, starts and outputs", and a session's state.
 pub(crate) const WORD_MOST: u64 = 2147483647;

@@ -4,10 +4,10 @@ ghost use Prim.Native.Nat.{_+_, _*_, _≤_, _<_};
 ghost use lib.ListN.{length};
 ghost use Rattle.console.specs.Room.{textBytes, recordPlaces, outputWords, answerNumbers, numberBytes, namesBytes};
 use crate::desk::Counts;
+use crate::names::NOTHING;
 use crate::names::Name;
 use crate::names::list;
 use crate::names::name_at;
-use crate::names::place_of;
 use crate::reply::After;
 use crate::reply::Reply;
 use crate::room::ANSWER_NUMBERS;
@@ -122,7 +122,7 @@ fn name(text: &mut [u8; TEXT_BYTES], at: usize, name: Name) -> usize
     ensures { λ r. ⌜ r ≤ at + namesBytes ⌝ }
 {
     let names = list();
-    let word = name_at(&names, place_of(name));
+    let word = name_at(&names, name);
     let start = word.start;
     let end = word.end;
     put(text, at, &names[start..end])
@@ -185,7 +185,7 @@ pub(crate) fn write(
     output: &[u32; OUTPUT_WORDS],
 ) -> bool {
     let first = reply.name;
-    if let Name::Nothing = first {
+    if first == NOTHING {
         return true;
     }
     let named = name(text, 0, first);

@@ -7,10 +7,10 @@ use Rattle.console.proofs.names.name_at.Statement.{statement}
 use Rattle.console.proofs.names.name_at.Tie as tie
 
 abbrev Inv-loop : tie.InvT-loop
-Inv-loop names place word₀ i₀ word i = Ahead 0 (length names) word
+Inv-loop names name word₀ i₀ word i = Ahead 0 (length names) word
 
 abbrev μ-loop : tie.MeasureT-loop
-μ-loop names place word₀ i₀ word i = place - i
+μ-loop names name word₀ i₀ word i = name - i
 
 pub name-at-spec : {M : Type 1} → statement M
 name-at-spec =
