@@ -1,4 +1,4 @@
--- The console's room, and the limits of its numbers: src/room.rt has the same numbers under the same names.
+-- The console's room, and the limits of its numbers, as src/room.rt has them.
 use Prim.Native.Nat.{ℕ}
 
 -- "16,384 block words, 2,048 places of record, 8,192 of output, lines of 262,144 bytes"

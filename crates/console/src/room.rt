@@ -1,4 +1,4 @@
-// The console's room, and the limits of its numbers. specs/Room has the same numbers under the same names.
+// The console's room, and the limits of its numbers. specs/Room has those that a contract names.
 
 // "Room: 16,384 block words, 2,048 places of record, 8,192 of output, lines of 262,144 bytes."
 pub(crate) const BLOCK_WORDS: usize = 16384;
