@@ -31,19 +31,11 @@ fn call(
             names::STEP,
             session.step(block, literals, kinds, seen, proposal),
         ),
-        Command::Run {
-            seen,
-            budget,
-            from: _,
-        } => reply::ran(
+        Command::Run { seen, budget, .. } => reply::ran(
             session,
             session.run(block, literals, kinds, seen, budget, preferred),
         ),
-        Command::Page {
-            start,
-            budget,
-            from: _,
-        } => reply::paged(
+        Command::Page { start, budget, .. } => reply::paged(
             session,
             listing::page(block, literals, kinds, start, preferred, budget, output),
         ),

@@ -46,38 +46,32 @@ pub(crate) fn next_line(
     requires { ⌜ first .size ≤ partBytes ⌝ }
     ensures { λ r. ⌜ Takes r ⌝ }
 {
-    let mut left = first;
-    let mut count = 0;
-    let mut long = false;
+    let mut taken = Taken {
+        count: 0,
+        long: false,
+        ended: false,
+        left: first,
+    };
     let mut turns = u64::MAX;
     while 0 < turns {
         turns -= 1;
-        left = refill(part, left);
+        let left = refill(part, taken.left);
         if left.size == 0 {
-            return Taken {
-                count,
-                long,
-                ended: false,
-                left,
-            };
+            return taken;
         }
-        let gathered = gather(part, left.at, left.size, line, count, long);
-        count = gathered.count;
-        long = gathered.long;
-        left.at = gathered.next;
+        let gathered = gather(part, left.at, left.size, line, taken.count, taken.long);
+        taken = Taken {
+            count: gathered.count,
+            long: gathered.long,
+            ended: gathered.ended,
+            left: Left {
+                at: gathered.next,
+                size: left.size,
+            },
+        };
         if gathered.ended {
-            return Taken {
-                count,
-                long,
-                ended: true,
-                left,
-            };
+            return taken;
         }
     }
-    Taken {
-        count,
-        long,
-        ended: false,
-        left,
-    }
+    taken
 }

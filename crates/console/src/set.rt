@@ -27,32 +27,12 @@ pub(crate) fn buffers(
     let mut counts = old;
     counts.preferred = 0;
     match command {
-        Command::Block(from) => {
-            counts.block = store_words(line, from, block);
-        }
-        Command::Literals(from) => {
-            counts.literals = store_words(line, from, literals);
-        }
-        Command::Kinds(from) => {
-            counts.kinds = store_kinds(line, from, kinds);
-        }
-        Command::Output(from) => {
-            counts.output = store_counts(line, from, output);
-        }
-        Command::Run {
-            seen: _,
-            budget: _,
-            from,
-        } => {
-            counts.preferred = store_words(line, from, preferred);
-        }
-        Command::Page {
-            start: _,
-            budget: _,
-            from,
-        } => {
-            counts.preferred = store_words(line, from, preferred);
-        }
+        Command::Block(from) => counts.block = store_words(line, from, block),
+        Command::Literals(from) => counts.literals = store_words(line, from, literals),
+        Command::Kinds(from) => counts.kinds = store_kinds(line, from, kinds),
+        Command::Output(from) => counts.output = store_counts(line, from, output),
+        Command::Run { from, .. } => counts.preferred = store_words(line, from, preferred),
+        Command::Page { from, .. } => counts.preferred = store_words(line, from, preferred),
         _ => {}
     }
     counts
