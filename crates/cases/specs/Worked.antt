@@ -17,7 +17,7 @@ use Rattle.rules.specs.declared.rule.State.{State}
 use Rattle.rules.specs.declared.rule.State.the-variants.{Open}
 use Rattle.rules.specs.declared.rule.Rule.{Rule}
 use Rattle.rules.specs.declared.rule.Rule.the-variants.{BacktrackExists, Fail, Unit, Monotone, Decide, BacktrackForall, Succeed}
-use Rattle.rules.specs.Due.{literal, due, lowest, last, candidate, lowestUnit, firstMonotone, firstUnassigned}
+use Rattle.rules.specs.Due.{literal, due, lowest, last, candidate, lowestUnit, firstOf, firstMonotone, firstUnassigned}
 use Rattle.rules.specs.Preferred.{firstOpen}
 use Rattle.rules.specs.Trail.{recordOf, wiped, Trail, entries}
 use Rattle.rules.specs.Apply.{apply}
@@ -85,5 +85,5 @@ worked c =
     opened (c .block) (c .calls) o (o .answer)
 
 pub worked-by-hand : map worked table ≡ map (λ (c : Case). seen (c .said) (c .state)) table
-unfolding table caseA caseB caseC caseD caseE caseF caseG caseH caseI caseJ caseK blockA blockG all-0 worked calling stepOutcome openOutcome stepRefusal openRefusal pageOf pageRefusal pageFrom valuesOf openingStart advance runFrom refusal limits twice badEnds bothSigns all any eqZ mem formulaOf clausesFrom existential universal change levelOf level run firstGroup literals assigned unassignedE unassignedU inConflict unitOn occurs oneSign isMonotone isOpen due lowest last candidate lowestUnit firstMonotone firstUnassigned firstOpen entries zipWith recordOf wiped apply badEntries badRecord ones
+unfolding table caseA caseB caseC caseD caseE caseF caseG caseH caseI caseJ caseK blockA blockG all-0 worked calling stepOutcome openOutcome stepRefusal openRefusal pageOf pageRefusal pageFrom valuesOf openingStart advance runFrom refusal limits twice badEnds bothSigns all any eqZ mem formulaOf clausesFrom existential universal change levelOf level run firstGroup literals assigned unassignedE unassignedU inConflict unitOn occurs oneSign isMonotone isOpen due lowest last candidate lowestUnit firstOf firstMonotone firstUnassigned firstOpen entries zipWith recordOf wiped apply badEntries badRecord ones
 worked-by-hand = refl

@@ -19,7 +19,7 @@ use Rattle.rules.specs.Due.{due}
 use Rattle.rules.specs.Search.{Search, search, reached}
 use Rattle.rules.specs.Trail.{recordOf, Trail, wipedTrail}
 use Rattle.rules.specs.Apply.{apply}
-use Rattle.rules.specs.Laws.Kept.{kept-true}
+use Rattle.rules.specs.Laws.Accepted.{kept-true}
 use Rattle.rules.specs.Inner.Ready.{OnBlock}
 use Rattle.session.specs.declared.Revision.{Revision}
 use Rattle.session.specs.declared.Session.{Session}

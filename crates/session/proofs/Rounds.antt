@@ -20,8 +20,8 @@ use Rattle.rules.specs.Due.{literal, due}
 use Rattle.rules.specs.Preferred.{proposalOf}
 use Rattle.rules.specs.Apply.{apply}
 use Rattle.rules.specs.Inner.Ready.{OnBlock}
-use Rattle.rules.specs.Laws.Steps.{apply-lengths}
-use Rattle.rules.specs.Laws.Kept.{kept-true}
+use Rattle.rules.specs.Laws.Untouched.{apply-lengths}
+use Rattle.rules.specs.Laws.Accepted.{kept-true}
 use Rattle.session.specs.Refusals.{over}
 use Rattle.session.specs.Run.{trip, advance, runFrom}
 use Rattle.session.specs.Laws.Accepted.{over-open}

@@ -14,8 +14,8 @@ use Rattle.rules.specs.Search.{Search, standingOf}
 use Rattle.rules.specs.Trail.{recordOf}
 use Rattle.rules.specs.Apply.{apply}
 use Rattle.rules.specs.Inner.Ready.{KeptIn}
-use Rattle.rules.specs.Laws.Steps.{apply-lengths, due-step, due-keeps}
-use Rattle.rules.specs.Laws.Untouched.{Elsewhere, apply-untouched, apply-zeros, apply-ended}
+use Rattle.rules.specs.Laws.Untouched.{apply-lengths, Elsewhere, apply-untouched, apply-zeros, apply-ended}
+use Rattle.rules.specs.Laws.Steps.{due-step, due-keeps}
 use Rattle.session.specs.declared.Revision.{Revision}
 use Rattle.session.specs.declared.Session.{Session}
 use Rattle.session.specs.declared.Answer.the-variants.{To}
@@ -65,10 +65,10 @@ module _ (s : Session) (b : List ℤ) (m : Memory) (seen : Revision) (l : Litera
         rule = refl;
         step = due-step (formulaOf b) t (g .guard .on .kept) (l .0) (g .permitted);
         revision = refl;
-        zeros = apply-zeros (prefixOf b) (l .0) t rule;
-        untouched = apply-untouched (prefixOf b) (l .0) t rule;
+        zeros = apply-zeros (prefixOf b) rule (l .0) t;
+        untouched = apply-untouched (prefixOf b) rule (l .0) t;
         lengths = apply-lengths (prefixOf b) rule (l .0) t;
-        ended-leaves = apply-ended (prefixOf b) (l .0) t rule;
+        ended-leaves = apply-ended (prefixOf b) rule (l .0) t;
         kept = due-keeps (formulaOf b) t (g .guard .on .kept) (l .0) (g .permitted);
       }
 
