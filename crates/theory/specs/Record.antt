@@ -7,7 +7,7 @@ use lib.IntN.{ℤ, negℤ}
 use Rattle.words.specs.Lists.{all}
 use Rattle.words.specs.Words.{mem}
 
--- "signed words for literals and bytes for kinds: 0 forced, 1 existential decision, 2 universal decision"
+-- [kinds] a literal and its kind: 0 forced, 1 an existential decision, 2 a universal one
 pub record Entry : Type 0 where
   pub literal : ℤ
   pub kind : ℕ

@@ -9,7 +9,7 @@ use Rattle.formula.specs.Formula.{Formula, existential, universal}
 use Rattle.theory.specs.Record.{entry, Record, trueIn, without}
 use Rattle.theory.specs.Tests.{conflict, unitOn, monotoneWide, isOpen, allAssigned}
 
--- "open, Valid or Unsat": an open state goes on from its record
+-- open, Valid or Unsat: an open state goes on from its record
 pub data State : Type 0 where
   going : Record → State
   valid unsat : State
@@ -31,20 +31,20 @@ module _ (F : Formula) where
   Full r = allAssigned (F .prefix) (trueIn r) ≡ true
 
   pub data Step : Record → State → Type 0 where
-    -- "Cut the record at its last kind 1 entry and put the opposite there, kind 0."
+    -- [backtrack-exists]
     backtrack-exists : {r : Record} → Conflict r → (a b : Record) (l : ℤ) → r ≡ a ++ entry 1 l ∷ b → without 1 b ≡ true → Step r (going (a ++ entry 0 (negℤ l) ∷ []))
-    -- "With no such entry: Fail, session Unsat."
+    -- [fail]
     fail : {r : Record} → Conflict r → without 1 r ≡ true → Step r unsat
-    -- "Append l, kind 0." Without the levels, as document 001's slides print it, or on a universal literal, Unit gives wrong answers: cases I and
-    -- J, in Examples.
+    -- [unit] Without the levels, or on a universal literal, it would give wrong answers: cases I and J, in Examples.
     unit : {r : Record} → Quiet r → (C : List ℤ) → In C (F .clauses) → (l : ℤ) → unitOn (F .prefix) (trueIn r) C l ≡ true → Step r (going (r ++ entry 0 l ∷ []))
+    -- [monotone], as wide as it is sound
     monotone : {r : Record} → Quiet r → (l : ℤ) → monotoneWide (F .prefix) (F .clauses) (trueIn r) l ≡ true → Step r (going (r ++ entry 0 l ∷ []))
-    -- "Append the proposed literal .. Kind 1 or 2 by quantifier."
+    -- [decide] kind 1 or 2, by the quantifier
     decide-exists : {r : Record} → Quiet r → (l : ℤ) → isOpen (F .prefix) (trueIn r) l ≡ true → existential (F .prefix) l ≡ true → Step r (going (r ++ entry 1 l ∷ []))
     decide-forall : {r : Record} → Quiet r → (l : ℤ) → isOpen (F .prefix) (trueIn r) l ≡ true → universal (F .prefix) l ≡ true → Step r (going (r ++ entry 2 l ∷ []))
-    -- "cutting at the last kind 2 entry and putting the opposite, kind 0"
+    -- [backtrack-forall]
     backtrack-forall : {r : Record} → Quiet r → Full r → (a b : Record) (l : ℤ) → r ≡ a ++ entry 2 l ∷ b → without 2 b ≡ true → Step r (going (a ++ entry 0 (negℤ l) ∷ []))
-    -- "With none: Succeed, session Valid."
+    -- [succeed]
     succeed : {r : Record} → Quiet r → Full r → without 2 r ≡ true → Step r valid
 
   -- a path of n rules

@@ -44,7 +44,7 @@ untrue-i ρ {C} (there {y = D} {xs = m} i) h = go (any ρ D) (untrue-i ρ i h)
     go false j = there j
 
 module _ (p : List ℤ) (m : List (List ℤ)) (ρ : Assignment) (l : ℤ) where
-  -- "over the whole matrix"
+  -- over all clauses
   pub monotone-wide : monotone p m ρ l ≡ true → monotoneWide p m ρ l ≡ true
   monotone-wide = counted-wide m m ρ (λ C i e. i) p l
 
