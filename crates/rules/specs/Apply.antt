@@ -41,7 +41,7 @@ kindOf p l = cond (universal p l) 2 1
 abbrev pub chosen : ℤ → ℤ → ℤ
 chosen proposal first = cond (eqb (natAbs proposal) 0) first proposal
 
--- what a rule does, with the proposal that Decide is to take: a forced entry has kind 0 [kinds]; Fail ends Unsat [fail], Succeed Valid [succeed]
+-- what a rule does, with the proposal that Decide is to take: forced entries have kind 0 [kinds], and two rules end the search [fail] [succeed]
 abbrev pub moveOf : List ℤ → Rule → ℤ → Move
 moveOf p (BacktrackExists i c) l = Flip i
 moveOf p (Fail c) l = End Unsat
