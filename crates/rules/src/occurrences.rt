@@ -41,11 +41,7 @@ fn mark(clause: &[i32], occurs: &mut [u8; LITERAL_PLACES])
 }
 
 // Marks the literals of a clause unless it has a true one.
-fn count(
-    clause: &[i32],
-    statuses: &[u8; LITERAL_PLACES],
-    occurs: &mut [u8; LITERAL_PLACES],
-)
+fn count(clause: &[i32], statuses: &[u8; LITERAL_PLACES], occurs: &mut [u8; LITERAL_PLACES])
     requires { ⌜ Placed (now clause) ⌝ }
     requires { ⌜ length (now occurs) ≡ literalPlaces ⌝ }
     ensures { λ r. ⌜ Counted (trueBy (statusIn (now (statuses .entry)))) (now (clause .entry)) (now (occurs .entry)) (now (occurs .exit)) ⌝ }
