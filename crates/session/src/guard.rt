@@ -66,7 +66,7 @@ pub(crate) fn is_decide(rule: Rule) -> bool
     }
 }
 
-// And rows 12 to 14, which a step and a run share.
+// The same and rows 12 to 14, which a step and a run share.
 pub(crate) fn session_refusal(
     session: Session,
     block: &[i32],
