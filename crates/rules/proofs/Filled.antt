@@ -1,6 +1,6 @@
 -- A table filled by one pass says at every place what the words passed say: a store changes what is said at its own place only. The tables
--- of values, of occurring literals, and of statuses.
-use mathlib.Core.Path.{_≡_, sym, _∙_, refl, ap}
+-- of values and of statuses.
+use mathlib.Core.Path.{_≡_, sym, _∙_, refl}
 use mathlib.Core.List.{List, [], _∷_, _++_}
 use Prim.Native.Nat.{ℕ, _+_, _≤_, _<_, zero, suc, _-_}
 use native.Mathlib.Decide.{ℕ-discrete}
@@ -17,15 +17,13 @@ use Rattle.formula.specs.Inner.Named.{Named}
 use Rattle.theory.specs.Record.{among}
 use Rattle.rules.specs.Inner.Ready.{Bound}
 use Rattle.rules.specs.Inner.Tables.{places, Known, Written, Values, Quantifiers, signOf, valueIn}
-use mathlib.Core.Bool.{true, false, cond}
+use mathlib.Core.Bool.{true, false}
 use Rattle.words.specs.Laws.Bools.{clash}
 use Rattle.words.specs.Words.{negative, eqZ, mem}
-use Rattle.words.specs.Laws.Words.{mem-here, mem-other, plus-other, minus-other, eqZ-ne}
+use Rattle.words.specs.Laws.Words.{mem-here, mem-other, plus-other, minus-other}
 use Rattle.formula.specs.Block.{names}
 use Rattle.formula.specs.Laws.Prefix.{fresh-word, fresh-at}
-use native.Mathlib.Nat.{le-refl}
-use Rattle.formula.specs.Inner.Places.{literalPlaces, placeOf, wordAt}
-use Rattle.formula.specs.Laws.Places.{place-word, word-place, place-within}
+use Rattle.formula.specs.Inner.Places.{literalPlaces, placeOf}
 use Rattle.rules.specs.Inner.ByLiteral.{statusOf, statusBy, statusIn, Statuses}
 
 -- a variable's number is a place of a table
@@ -143,34 +141,9 @@ pub plus-true : (w : ℤ) → negative w ≡ false → w ≡ pos (natAbs w)
 plus-true (pos n) h = refl
 plus-true (negsuc n) h = clash refl h
 
--- what the words say of a place
-abbrev pub occurs : List ℤ → ℕ → ℕ
-occurs xs at = cond (mem (wordAt at) xs) 1 0
-
-occurs-new : (xs : List ℤ) (w : ℤ) → natAbs w ≤ limits .variables → 1 ≡ occurs (xs ++ w ∷ []) (placeOf w)
-occurs-new xs w h = rw (word-place w h, mem-here xs w)
-
-occurs-other : (xs : List ℤ) (w : ℤ) (at : ℕ) → (at ≡ placeOf w → ⊥) → occurs (xs ++ w ∷ []) at ≡ occurs xs at
-occurs-other xs w at k = rw (mem-other (wordAt at) xs w (eqZ-ne (λ e. k (sym (place-word at) ∙ ap placeOf e))))
-
--- ---- the loop
-pub occurring-begin : (ws : List ℤ) → Filled occurs literalPlaces ws (length ws) (replicate literalPlaces 0) 0
-unfolding mem
-occurring-begin ws = begin occurs literalPlaces ws (length ws) (λ at. refl)
-
-module _ (ws : List ℤ) (named : Known ws) (i : ℕ) (h : i < length ws) where
-  pub word-small : natAbs (getD ws i (pos 0)) ≤ limits .variables
-  word-small = all-named (limits .variables) ws named .at i h .most
-
-  module _ (s : ℕ) (is : s ≡ placeOf (getD ws i (pos 0))) where
-    pub occurring-placed : s < literalPlaces
-    occurring-placed = omega (arith, variables-are, place-within (getD ws i (pos 0)) word-small)
-
-    pub occurring-turn : (t : List ℕ) → Filled occurs literalPlaces ws (length ws) t i → Filled occurs literalPlaces ws (length ws) (set t s 1) (i + 1)
-    occurring-turn t f =
-        turn occurs literalPlaces ws (length ws) t i f h (le-refl (length ws)) s 1 occurring-placed
-        (rw is (occurs-new (take i ws) (getD ws i (pos 0)) word-small))
-        (λ at k. occurs-other (take i ws) (getD ws i (pos 0)) at (λ e. k (e ∙ sym is)))
+-- a word names a variable for which a table has a place
+pub word-small : (ws : List ℤ) → Known ws → (i : ℕ) → i < length ws → natAbs (getD ws i (pos 0)) ≤ limits .variables
+word-small ws named i h = all-named (limits .variables) ws named .at i h .most
 
 -- the variables below v are written
 pub record Stated (n : ℕ) (values quantifiers : List ℕ) (t : List ℕ) (v : ℕ) : Type 0 where

@@ -2,6 +2,7 @@
 
 -- the tables; a loop that looks for the first; the walk over the clauses, and the look at one
 pub mod Filled
+pub mod Occurring
 pub mod Levels
 pub mod First
 pub mod Walk

@@ -8,7 +8,7 @@ use lib.ListN.{getD}
 use Rattle.words.specs.declared.Literal.{Literal}
 use Rattle.formula.specs.Formula.{Formula}
 use Rattle.theory.specs.Record.{Record, Assignment, trueIn, assigned}
-use Rattle.theory.specs.Tests.{unassignedE, inConflict, unitOn, monotone}
+use Rattle.theory.specs.Tests.{unassignedE, inConflict, unitOn, monotone, untrueOf}
 use Rattle.rules.specs.declared.rule.Rule.{Rule}
 use Rattle.rules.specs.declared.rule.Rule.the-variants.{BacktrackExists, Fail, Unit, Monotone, Decide, BacktrackForall, Succeed}
 use Rattle.rules.specs.declared.found.Found.{Found}
@@ -64,7 +64,7 @@ unfoldable pub firstOf : (ℤ → Picked) → List ℤ → Picked
 firstOf f [] = NoLiteral
 firstOf f (x ∷ xs) = onPicked (f x) Is (firstOf f xs)
 
--- the first monotone variable in prefix order: the literal that it takes [monotone]
+-- the first variable in prefix order that is monotone in the clauses m: the literal that it takes [monotone]
 unfoldable pub firstMonotone : List ℤ → List (List ℤ) → Assignment → Picked
 firstMonotone p m ρ = firstOf (λ q. cond (monotone p m ρ q) (Is (literal q)) (cond (monotone p m ρ (negℤ q)) (Is (literal (negℤ q))) NoLiteral)) p
 
@@ -80,9 +80,9 @@ dueAssigned r = onFound (last 2 0 r) (λ i. BacktrackForall i) Succeed
 abbrev pub dueDecide : List ℤ → Record → Rule
 dueDecide p r = onPicked (firstUnassigned (trueIn r) p) (λ l. Decide l) (dueAssigned r)
 
--- 3: Monotone [monotone]
+-- 3: Monotone, in which only the clauses with no true literal count [monotone]
 abbrev pub dueMonotone : Formula → Record → Rule
-dueMonotone F r = onPicked (firstMonotone (F .prefix) (F .clauses) (trueIn r)) (λ l. Monotone l) (dueDecide (F .prefix) r)
+dueMonotone F r = onPicked (firstMonotone (F .prefix) (untrueOf (trueIn r) (F .clauses)) (trueIn r)) (λ l. Monotone l) (dueDecide (F .prefix) r)
 
 -- 2: Unit [unit]
 abbrev pub dueUnit : Formula → Record → Rule

@@ -2,28 +2,11 @@
 ghost use mathlib.Core.Path.{_≡_};
 ghost use Prim.Native.Nat.{_≤_};
 ghost use Rattle.formula.specs.Limits.{limits};
-ghost use Rattle.rules.specs.Inner.Tables.{Known};
 ghost use Rattle.rules.specs.Inner.Variables.{signsIn};
-ghost use Rattle.rules.specs.Inner.ByLiteral.{Occurring, statusOf, Statuses};
+ghost use Rattle.rules.specs.Inner.ByLiteral.{statusOf, Statuses};
 use crate::tables::PLACES;
 pub(crate) use formula::LITERAL_PLACES;
 use formula::MIDDLE;
-use formula::place_at;
-
-// 1 for each literal that is one of the words, else 0.
-pub(crate) fn occurring(ws: &[i32]) -> [u8; LITERAL_PLACES]
-    requires { ⌜ Known (now ws) ⌝ }
-    ensures { λ r. ⌜ Occurring (now (ws .entry)) r ⌝ }
-{
-    let mut occurs = [0u8; LITERAL_PLACES];
-    let mut i = 0;
-    while i < ws.len() {
-        let at = place_at(ws, i);
-        occurs[at] = 1;
-        i += 1;
-    }
-    occurs
-}
 
 // The signs with which a variable occurs: 0 none, 1 positive, 2 negative, 3 both.
 pub(crate) fn signs_at(occurs: &[u8; LITERAL_PLACES], v: usize) -> u8

@@ -6,6 +6,7 @@ mod by_literal; // tables by literal
 mod variables; // the variables of the prefix
 mod open; // the open literals
 mod clauses; // the clauses in conflict and the unit clauses
+mod occurrences; // the literals of the clauses with no true literal
 mod buffers; // the record's two buffers
 mod record; // row 12
 mod ordered; // the due rule

@@ -6,6 +6,7 @@ use crate::clauses;
 use crate::found::Found;
 use crate::found::Picked;
 use crate::found::UnitFound;
+use crate::occurrences;
 use crate::rule::Rule;
 use crate::tables;
 use crate::tables::PLACES;
@@ -72,7 +73,7 @@ fn due_unit(
             literal: literal,
             clause: clause,
         },
-        UnitFound::NoUnit => due_monotone(prefix, ends, literals, kinds, count, values),
+        UnitFound::NoUnit => due_monotone(prefix, ends, literals, kinds, count, values, statuses),
     }
 }
 
@@ -84,12 +85,13 @@ fn due_monotone(
     kinds: &[u8],
     count: usize,
     values: &[u8; PLACES],
+    statuses: &[u8; LITERAL_PLACES],
 ) -> Rule
     requires { ⌜ Ready (now prefix) (now ends) (now literals) ⌝ }
     requires { ⌜ count ≤ length (now kinds) ⌝ }
-    ensures { λ r. ⌜ ((R : Record) → Tabled R (now (values .entry)) (now (kinds .entry)) count → r ≡ dueMonotone (formula (now (prefix .entry)) (now (ends .entry)) (now (literals .entry))) R) ⌝ }
+    ensures { λ r. ⌜ ((R : Record) → Tabled R (now (values .entry)) (now (kinds .entry)) count → Sorts (now (prefix .entry)) (trueIn R) (now (statuses .entry)) → r ≡ dueMonotone (formula (now (prefix .entry)) (now (ends .entry)) (now (literals .entry))) R) ⌝ }
 {
-    let occurs = by_literal::occurring(literals);
+    let occurs = occurrences::occurring(ends, literals, statuses);
     match variables::first_monotone(prefix, values, &occurs) {
         Picked::Is(literal) => Rule::Monotone { literal: literal },
         Picked::NoLiteral => due_decide(prefix, kinds, count, values),

@@ -1,18 +1,34 @@
 -- Tables by literal: what each place of a table says. A literal's place is formula's.
 use Prim.Native.Nat.{ℕ, _≤_, _<_}
-use mathlib.Core.Bool.{cond}
+use mathlib.Core.Bool.{Bool, cond}
 use mathlib.Core.Path.{_≡_}
-use mathlib.Core.List.{List}
+use mathlib.Core.List.{List, _∷_}
 use lib.Dec.{eqb}
 use lib.IntN.{ℤ, natAbs}
-use lib.ListN.{getD}
+use lib.ListN.{length, getD}
 use Rattle.words.specs.Words.{mem}
-use Rattle.formula.specs.Inner.Places.{placeOf, wordAt}
+use Rattle.formula.specs.Inner.Places.{literalPlaces, placeOf, wordAt}
+use Rattle.theory.specs.Record.{Assignment}
+use Rattle.theory.specs.Tests.{occurs, untrueOf}
 use Rattle.rules.specs.Inner.Tables.{signOf}
 
--- 1 at the place of each literal that is one of the words, else 0
-abbrev pub Occurring : List ℤ → List ℕ → Type 0
-Occurring ws t = (at : ℕ) → getD t at 0 ≡ cond (mem (wordAt at) ws) 1 0
+-- 1 at the place of each literal that occurs in the clauses, else 0
+abbrev pub Occurring : List (List ℤ) → List ℕ → Type 0
+Occurring m t = (at : ℕ) → getD t at 0 ≡ cond (occurs m (wordAt at)) 1 0
+
+-- after the literals of a clause are marked, those of it have a 1, and the others what they had
+pub record Marked (C : List ℤ) (t t′ : List ℕ) : Type 0 where
+  pub long : length t′ ≡ literalPlaces
+  pub said : (at : ℕ) → getD t′ at 0 ≡ cond (mem (wordAt at) C) 1 (getD t at 0)
+
+-- what a place has when those of the clauses m with no true literal are marked on the table t
+abbrev pub markedBy : Assignment → List ℕ → List (List ℤ) → ℕ → ℕ
+markedBy ρ t m at = cond (occurs (untrueOf ρ m) (wordAt at)) 1 (getD t at 0)
+
+-- a clause is counted: to mark those of the clauses m after it is to mark those of it and m
+pub record Counted (ρ : Assignment) (C : List ℤ) (t t′ : List ℕ) : Type 0 where
+  pub long : length t′ ≡ literalPlaces
+  pub said : (m : List (List ℤ)) (at : ℕ) → markedBy ρ t′ m at ≡ markedBy ρ t (C ∷ m) at
 
 -- what a literal is to its clause: 0 false, 1 true, 2 unassigned existential, 3 unassigned universal
 abbrev pub statusOf : ℕ → ℕ → ℕ → ℕ
@@ -25,6 +41,10 @@ statusBy values quantifiers x = statusOf (getD values (natAbs x) 0) (getD quanti
 -- by a table of its own
 abbrev pub statusIn : List ℕ → ℤ → ℕ
 statusIn statuses x = getD statuses (placeOf x) 0
+
+-- a status says that the literal is true
+abbrev pub trueBy : (ℤ → ℕ) → ℤ → Bool
+trueBy st x = eqb (st x) 1
 
 -- the two say the same of the literals of the variables 1 to n
 abbrev pub Statuses : ℕ → List ℕ → List ℕ → List ℕ → Type 0

@@ -7,12 +7,10 @@ use lib.Dec.{leb}
 use lib.IntN.{ℤ, pos, negsuc, negℤ}
 use lib.ListN.{length, getD, take}
 use Rattle.words.specs.Lists.{any, all}
-use Rattle.words.specs.Words.{mem}
 use Rattle.formula.specs.Formula.{levelOf, level}
 use Rattle.formula.specs.Limits.{limits, maxVariables}
 use Rattle.formula.specs.Block.{noVariable, names, twice}
 use Rattle.theory.specs.Record.{Assignment, among, assigned}
-use Rattle.theory.specs.Tests.{occurs}
 
 -- a table has a place for each variable, and place 0
 abbrev pub places : ℕ
@@ -47,10 +45,6 @@ pub record Written (ls : List ℤ) (n : ℕ) : Type 0 where
   pub room : n ≤ length ls
   pub named : Known (take n ls)
   pub once : twice (take n ls) ≡ false
-
--- a literal occurs in the clauses m exactly if it is one of their literal words ls
-abbrev pub Spread : List ℤ → List (List ℤ) → Type 0
-Spread ls m = (l : ℤ) → occurs m l ≡ mem l ls
 
 -- n is the lowest level of an unassigned variable: it is at least k exactly if each variable of a level below k is assigned
 abbrev pub Lowest : List ℤ → Assignment → ℕ → Type 0

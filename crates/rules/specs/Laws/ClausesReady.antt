@@ -1,29 +1,26 @@
 -- Over checked input and its tables the tests of a clause are the rules' own: a literal's variable is bound once, so its value and its
 -- quantifier, which the tables hold, decide what the literal is to its clause.
--- The clauses divide the literal words: a literal occurs in a clause exactly if it is one of the words.
-use mathlib.Core.Path.{_≡_, sym, _∙_, ap, refl}
-use mathlib.Core.Bool.{false, _||_, Bool, true, cond, not, and-false}
-use mathlib.Core.List.{List, [], _∷_}
-use Prim.Native.Nat.{ℕ, _+_, _-_, _≤_, zero, suc, _<_, zero-le}
+use mathlib.Core.Path.{_≡_, _∙_, ap, refl}
+use mathlib.Core.Bool.{false, Bool, true, cond, not, and-false}
+use mathlib.Core.List.{List}
+use Prim.Native.Nat.{ℕ, _-_, _≤_, zero, suc, _<_, zero-le}
 use native.Mathlib.Omega.{arith}
 use lib.Dec.{eqb, ltb}
 use lib.IntN.{ℤ, natAbs, pos, negsuc, negℤ}
-use lib.ListN.{length, take, drop, take-append-drop, getD, List·getD-eq-default}
-use lib.Seq.{drop-drop, drop-length}
-use borrow.Author.Tests.{ltb-false, eqb-true, not-false, ltb-true}
-use Rattle.words.specs.Laws.Bools.{or-fl, or-fr, clash, look, to-false}
-use Rattle.words.specs.Lists.{any, In}
+use lib.ListN.{length, getD, List·getD-eq-default}
+use borrow.Author.Tests.{ltb-false, ltb-true}
+use Rattle.words.specs.Laws.Bools.{clash, look, to-false}
+use Rattle.words.specs.Lists.{In}
 use Rattle.words.specs.Laws.Lists.{in-at}
-use Rattle.words.specs.Words.{negative, mem}
-use Rattle.words.specs.Laws.Words.{mem-append, mem-e}
+use Rattle.words.specs.Laws.Words.{mem-e}
 use Rattle.formula.specs.Formula.{clausesFrom, existential, universal, level}
-use Rattle.formula.specs.Block.{badEnds, twice}
-use Rattle.theory.specs.Tests.{occurs, unassignedE, unassignedU, inConflict}
-use Rattle.rules.specs.Inner.Tables.{Spread, Known, signOf, valueIn, Values, Quantifiers, Levels}
+use Rattle.formula.specs.Block.{twice}
+use Rattle.theory.specs.Tests.{untrueOf, unassignedE, unassignedU, inConflict}
+use Rattle.rules.specs.Inner.Tables.{signOf, valueIn, Values, Quantifiers, Levels}
 use Rattle.rules.specs.Inner.Ready.{Ready, Bound}
 use Rattle.formula.specs.Limits.{limits}
 use Rattle.formula.specs.Laws.Limits.{variables-are}
-use Rattle.formula.specs.Laws.Named.{known-up, in-named}
+use Rattle.formula.specs.Laws.Named.{in-named}
 use Rattle.formula.specs.Inner.Named.{Named}
 use mathlib.Core.Logic.{_⊎_, inl, inr}
 use Rattle.formula.specs.Laws.Prefix.{once-in, level-few}
@@ -32,40 +29,10 @@ use Rattle.formula.specs.Laws.Clauses.{clauses-in}
 use Rattle.theory.specs.Record.{Assignment, among, assigned}
 use Rattle.rules.specs.Due.{lowest, lowestUnit}
 use Rattle.rules.specs.Inner.Clauses.{Placed, Clauses, levelBy, conflictBy, lowestUnitBy}
-use Rattle.rules.specs.Inner.ByLiteral.{statusBy, statusIn, Statuses}
+use Rattle.rules.specs.Inner.ByLiteral.{statusBy, statusIn, trueBy, Statuses}
 use Rattle.rules.specs.Inner.Tabled.{Consistent, Sorted, as-false, as-true, as-existential, as-universal, Sorts}
 use Rattle.rules.specs.Laws.VariablesMean.{quantifier-in}
-use Rattle.rules.specs.Laws.ClausesMean.{Meant, lowest-conflict-means, lowest-unit-means}
-
--- the words from one end to the next, and those after
-divided : (l : ℤ) (ls : List ℤ) (from to : ℕ) → from ≤ to → mem l (drop from ls) ≡ (mem l (take (to - from) (drop from ls)) || mem l (drop to ls))
-divided l ls from to h =
-    let e : from + (to - from) ≡ to = omega arith in
-    sym (ap (mem l) (take-append-drop (to - from) (drop from ls)))
-    ∙ mem-append l (take (to - from) (drop from ls)) (drop (to - from) (drop from ls))
-    ∙ rw (drop-drop (to - from) from ls, e)
-
-spread-from : (l : ℤ) (ls : List ℤ) (from : ℕ) (es : List ℤ) → badEnds (length ls) from es ≡ false → occurs (clausesFrom ls from es) l ≡ mem l (drop from ls)
-unfolding badEnds occurs clausesFrom any mem
-spread-from l ls from [] h = rw (eqb-true from (length ls) (not-false (eqb from (length ls)) h), drop-length ls)
-spread-from l ls from (e ∷ es) h =
-    let fall = negative e || ltb (natAbs e) from in
-    let over = fall || ltb (length ls) (natAbs e) in
-    let a = or-fl over (badEnds (length ls) (natAbs e) es) h in
-    let b = ltb-false (natAbs e) from (or-fr (negative e) (ltb (natAbs e) from) (or-fl fall (ltb (length ls) (natAbs e)) a)) in
-    rw (spread-from l ls (natAbs e) es (or-fr over (badEnds (length ls) (natAbs e) es) h))
-    (sym (divided l ls from (natAbs e) b))
-
-pub spread : (ls es : List ℤ) → badEnds (length ls) 0 es ≡ false → Spread ls (clausesFrom ls 0 es)
-spread ls es h l = spread-from l ls 0 es h
-
--- ---- a checked formula
-module _ (p es ls : List ℤ) (ready : Ready p es ls) where
-  pub ready-named : Known ls
-  ready-named = known-up (length p) ls (limits .variables) (ready .prefix .room) (ready .named)
-
-  pub ready-spread : Spread ls (clausesFrom ls 0 es)
-  ready-spread = spread ls es (ready .ends)
+use Rattle.rules.specs.Laws.ClausesMean.{Meant, untrue-means, lowest-conflict-means, lowest-unit-means}
 
 module _ (p : List ℤ) (b : Bound p) (ρ : Assignment) (values quantifiers : List ℕ) (vals : Values ρ values) (quants : Quantifiers p quantifiers) (con : Consistent ρ) where
   -- a literal is true, or false by its opposite, or unassigned and of its variable's quantifier
@@ -136,6 +103,10 @@ module _ (p es ls : List ℤ) (ready : Ready p es ls) where
     -- 1: the lowest clause in conflict
     pub conflict-ready : lowest (conflictBy (statusIn statuses)) 0 (clausesFrom ls 0 es) ≡ lowest (inConflict p ρ) 0 (clausesFrom ls 0 es)
     conflict-ready = lowest-conflict-means p ρ _ _ (λ C i x j. sorting x (literal-named (clauses-in ls 0 es i j)))
+
+    -- the clauses with no true literal
+    pub untrue-ready : untrueOf (trueBy (statusIn statuses)) (clausesFrom ls 0 es) ≡ untrueOf ρ (clausesFrom ls 0 es)
+    untrue-ready = untrue-means p ρ _ _ (λ C i x j. sorting x (literal-named (clauses-in ls 0 es i j)))
 
     -- 2: the lowest unit clause
     pub unit-ready : (levels : List ℕ) → Levels p levels → lowestUnitBy (statusIn statuses) (levelBy levels) 0 (clausesFrom ls 0 es) ≡ lowestUnit p ρ (clausesFrom ls 0 es)

@@ -17,7 +17,8 @@ use Rattle.theory.specs.Record.{entry, Record, Assignment, trueIn}
 use Rattle.theory.specs.Tests.{isOpen}
 use Rattle.theory.specs.Rules.{going, Quiet, Step}
 use Rattle.theory.specs.Laws.Tested.{open-e}
-use Rattle.theory.specs.Laws.Monotone.{monotone-wide}
+use Rattle.theory.specs.Tests.{monotoneOpen}
+use Rattle.theory.specs.Laws.Monotone.{monotone-open-wide}
 use Rattle.theory.specs.Laws.Moves.{good-step}
 use Rattle.theory.specs.Laws.Work.{good-taken}
 use Rattle.rules.specs.Trail.{put, recordOf}
@@ -106,12 +107,13 @@ module _ (F : Formula) (t : Search) (k : KeptIn (F .prefix) t) where
         }
 
   done : {rule : Rule} → Reason F (recordIn t) rule → (l : ℤ) → Permitted (F .prefix) (trueIn (recordIn t)) l → Done (moveOf (F .prefix) rule l)
+  unfolding monotoneOpen
   done (backtrack-exists i c h e) l a =
       let w = last-at 1 (recordIn t) i e in
       flipped 1 i w (Step.backtrack-exists h (recordOf (t .trail) i) (drop (suc i) (recordIn t)) (getD (t .trail .lits) i (pos 0)) (split 1 i w) (w .none-after))
   done (fail c h e) l a = record { fits = omega arith; step = Step.fail h (last-none 1 0 (recordIn t) e); keeps = k }
   done (unit x c q u) l a = appended 0 (x .0) (Step.unit q (u .clause) (u .inside) (x .0) (u .decides))
-  done (monotone x q h) l a = appended 0 (x .0) (Step.monotone q (x .0) (monotone-wide (F .prefix) (F .clauses) (trueIn (recordIn t)) (x .0) h))
+  done (monotone x q h) l a = appended 0 (x .0) (Step.monotone q (x .0) (monotone-open-wide (F .prefix) (F .clauses) (trueIn (recordIn t)) (x .0) h))
   done (decide x q h) l a =
       let y = chosen l (x .0) in
       appended (kindOf (F .prefix) y) y (decide-step F (recordIn t) q y (chosen-open (F .prefix) (trueIn (recordIn t)) l (x .0) a h))

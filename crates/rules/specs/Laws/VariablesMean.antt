@@ -28,11 +28,11 @@ use Rattle.formula.specs.Laws.Places.{word-place, place-plus, place-minus}
 use Rattle.formula.specs.Laws.Prefix.{stands, binds, level-few, one-sign}
 use Rattle.formula.specs.Laws.Permuted.{all-bound, no-other}
 use Rattle.theory.specs.Record.{Assignment, assigned}
-use Rattle.theory.specs.Tests.{unassignedE, unassignedU, oneSign, monotone, isOpen, allAssigned}
+use Rattle.theory.specs.Tests.{unassignedE, unassignedU, oneSign, monotone, isOpen, allAssigned, occurs}
 use Rattle.theory.specs.Laws.First.{first-open}
 use Rattle.rules.specs.Due.{literal, onPicked, firstOf, firstMonotone, firstUnassigned}
 use Rattle.rules.specs.Preferred.{firstOpen}
-use Rattle.rules.specs.Inner.Tables.{valueIn, Values, Quantifiers, Levels, Lowest, Spread, places}
+use Rattle.rules.specs.Inner.Tables.{valueIn, Values, Quantifiers, Levels, Lowest, places}
 use Rattle.rules.specs.Inner.ByLiteral.{Occurring}
 use Rattle.rules.specs.Inner.Variables.{assignedIn, unassignedIn, signsIn, monotoneIn, lowestIn, openIn, preferredIn}
 use Rattle.rules.specs.Inner.Ready.{Bound}
@@ -89,16 +89,16 @@ quantifier-in p b t said l = rw (said (natAbs l)) (go (mem (pos (natAbs l)) p) (
     go false false f = refl
 
 -- ---- signs
-module _ (ls : List ℤ) (m : List (List ℤ)) (spread : Spread ls m) (occurs : List ℕ) (said : Occurring ls occurs) (v : ℕ) (h : v ≤ limits .variables) where
-  plus : getD occurs (maxVariables + v) 0 ≡ cond (mem (pos v) ls) 1 0
-  plus = rw (← variables-are, ← place-plus v) (said (placeOf (pos v)) ∙ ap (λ x. cond (mem x ls) 1 0) (word-place (pos v) h))
+module _ (m : List (List ℤ)) (table : List ℕ) (said : Occurring m table) (v : ℕ) (h : v ≤ limits .variables) where
+  plus : getD table (maxVariables + v) 0 ≡ cond (occurs m (pos v)) 1 0
+  plus = rw (← variables-are, ← place-plus v) (said (placeOf (pos v)) ∙ ap (λ x. cond (occurs m x) 1 0) (word-place (pos v) h))
 
-  minus : getD occurs (maxVariables - v) 0 ≡ cond (mem (negℤ (pos v)) ls) 1 0
-  minus = let l : natAbs (negℤ (pos v)) ≤ limits .variables = rw (natAbs-neg (pos v)) h in rw (← variables-are, ← place-minus v) (said (placeOf (negℤ (pos v))) ∙ ap (λ x. cond (mem x ls) 1 0) (word-place (negℤ (pos v)) l))
+  minus : getD table (maxVariables - v) 0 ≡ cond (occurs m (negℤ (pos v))) 1 0
+  minus = let l : natAbs (negℤ (pos v)) ≤ limits .variables = rw (natAbs-neg (pos v)) h in rw (← variables-are, ← place-minus v) (said (placeOf (negℤ (pos v))) ∙ ap (λ x. cond (occurs m x) 1 0) (word-place (negℤ (pos v)) l))
 
-  signs-one : eqb (signsIn occurs v) 1 ≡ oneSign m (pos v)
+  signs-one : eqb (signsIn table v) 1 ≡ oneSign m (pos v)
   unfolding oneSign
-  signs-one = rw (plus, minus, spread (pos v), spread (negℤ (pos v))) (go (mem (pos v) ls) (mem (negℤ (pos v)) ls))
+  signs-one = rw (plus, minus) (go (occurs m (pos v)) (occurs m (negℤ (pos v))))
     where
       go : (a b : Bool) → eqb (cond (eqb (cond b 1 0) 0) (cond a 1 0) (cond (eqb (cond a 1 0) 0) 2 3)) 1 ≡ (a && not b)
       go true true = refl
@@ -106,9 +106,9 @@ module _ (ls : List ℤ) (m : List (List ℤ)) (spread : Spread ls m) (occurs : 
       go false true = refl
       go false false = refl
 
-  signs-two : eqb (signsIn occurs v) 2 ≡ oneSign m (negℤ (pos v))
+  signs-two : eqb (signsIn table v) 2 ≡ oneSign m (negℤ (pos v))
   unfolding oneSign
-  signs-two = rw (plus, minus, negneg (pos v), spread (pos v), spread (negℤ (pos v))) (go (mem (pos v) ls) (mem (negℤ (pos v)) ls))
+  signs-two = rw (plus, minus, negneg (pos v)) (go (occurs m (pos v)) (occurs m (negℤ (pos v))))
     where
       go : (a b : Bool) → eqb (cond (eqb (cond b 1 0) 0) (cond a 1 0) (cond (eqb (cond a 1 0) 0) 2 3)) 2 ≡ (b && not a)
       go true true = refl
@@ -134,9 +134,9 @@ module _ (p : List ℤ) (b : Bound p) (m : List (List ℤ)) (ρ : Assignment) wh
       (or-false (not (ρ (pos (suc n)) || ρ (negsuc n)) && oneSign m (negsuc n)))
   monotone-opposite (negsuc n) i = rw (mem-i i, one-sign p (b .once) i (omega arith), or-comm (ρ (negsuc n)) (ρ (pos (suc n))))
 
-  pub monotone-means : (values occurs : List ℕ) (ls : List ℤ) → Values ρ values → Occurring ls occurs → Spread ls m → firstOf (monotoneIn values occurs) p ≡ firstMonotone p m ρ
+  pub monotone-means : (values occurs : List ℕ) → Values ρ values → Occurring m occurs → firstOf (monotoneIn values occurs) p ≡ firstMonotone p m ρ
   unfolding firstMonotone monotoneIn
-  monotone-means values occurs ls vals occ spread = first-same _ _ p each
+  monotone-means values occurs vals occ = first-same _ _ p each
     where
       go : (a x y : Bool) (A B : Picked) → cond a NoLiteral (cond x A (cond y B NoLiteral)) ≡ cond (not a && x) A (cond (not a && y) B NoLiteral)
       go true x y A B = refl
@@ -145,7 +145,7 @@ module _ (p : List ℤ) (b : Bound p) (m : List (List ℤ)) (ρ : Assignment) wh
       each : (q : ℤ) → In q p → monotoneIn values occurs q ≡ cond (monotone p m ρ q) (Is (literal q)) (cond (monotone p m ρ (negℤ q)) (Is (literal (negℤ q))) NoLiteral)
       each q i =
           let small : natAbs q ≤ limits .variables = le-trans (in-named (length p) p (b .named) i .most) (b .room) in
-          rw (assigned-in ρ values vals q, monotone-own q i, monotone-opposite q i, ← signs-one ls m spread occurs occ (natAbs q) small, ← signs-two ls m spread occurs occ (natAbs q) small)
+          rw (assigned-in ρ values vals q, monotone-own q i, monotone-opposite q i, ← signs-one m occurs occ (natAbs q) small, ← signs-two m occurs occ (natAbs q) small)
           (go (assigned ρ q) _ _ (Is (literal q)) (Is (literal (negℤ q))))
 
 -- ---- levels and open literals

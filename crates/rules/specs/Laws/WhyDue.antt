@@ -7,7 +7,7 @@ use Rattle.words.specs.Laws.Lists.{any-i}
 use Rattle.words.specs.declared.Literal.{Literal}
 use Rattle.formula.specs.Formula.{Formula}
 use Rattle.theory.specs.Record.{Record, trueIn}
-use Rattle.theory.specs.Tests.{inConflict, conflict, monotone as isMonotone, isOpen}
+use Rattle.theory.specs.Tests.{inConflict, conflict, monotone as isMonotone, untrueOf, isOpen}
 use Rattle.theory.specs.Rules.{Conflict, Quiet, Full}
 use Rattle.theory.specs.Laws.First.{first-open}
 use Rattle.rules.specs.Due.{onFound, onUnit, onPicked, lowest, last, lowestUnit, firstMonotone, firstUnassigned, dueAssigned, dueDecide, dueMonotone, dueUnit, dueConflict, due}
@@ -27,7 +27,7 @@ pub data Reason (F : Formula) (r : Record) : Rule → Type 0 where
   backtrack-exists : (i c : ℕ) → Conflict F r → last 1 0 r ≡ At i → Reason F r (BacktrackExists i c)
   fail : (c : ℕ) → Conflict F r → last 1 0 r ≡ Nothing → Reason F r (Fail c)
   unit : (l : Literal) (c : ℕ) → Quiet F r → UnitOf (F .prefix) (F .clauses) (trueIn r) (l .0) → Reason F r (Unit l c)
-  monotone : (l : Literal) → Quiet F r → isMonotone (F .prefix) (F .clauses) (trueIn r) (l .0) ≡ true → Reason F r (Monotone l)
+  monotone : (l : Literal) → Quiet F r → isMonotone (F .prefix) (untrueOf (trueIn r) (F .clauses)) (trueIn r) (l .0) ≡ true → Reason F r (Monotone l)
   decide : (l : Literal) → Quiet F r → isOpen (F .prefix) (trueIn r) (l .0) ≡ true → Reason F r (Decide l)
   backtrack-forall : (i : ℕ) → Quiet F r → Full F r → last 2 0 r ≡ At i → Reason F r (BacktrackForall i)
   succeed : Quiet F r → Full F r → last 2 0 r ≡ Nothing → Reason F r Succeed
@@ -59,7 +59,7 @@ module _ (F : Formula) (bound : Bound (F .prefix)) (r : Record) where
         (λ e. by-assigned (unassigned-none (trueIn r) (F .prefix) e))
 
     by-monotone : Reason F r (dueMonotone F r)
-    by-monotone = on-picked (Reason F r) (firstMonotone (F .prefix) (F .clauses) (trueIn r)) (λ l e. monotone l quiet (monotone-found (F .prefix) (F .clauses) (trueIn r) l e)) (λ e. by-decide)
+    by-monotone = on-picked (Reason F r) (firstMonotone (F .prefix) (untrueOf (trueIn r) (F .clauses)) (trueIn r)) (λ l e. monotone l quiet (monotone-found (F .prefix) (untrueOf (trueIn r) (F .clauses)) (trueIn r) l e)) (λ e. by-decide)
 
     by-unit : Reason F r (dueUnit F r)
     by-unit = on-unit (Reason F r) (lowestUnit (F .prefix) (trueIn r) (F .clauses)) (λ l c e. unit l c quiet (unit-found (F .prefix) (F .clauses) (trueIn r) l c e)) (λ e. by-monotone)

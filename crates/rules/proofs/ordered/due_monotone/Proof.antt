@@ -1,32 +1,40 @@
--- The first monotone variable, or none, picks the case; the literals that occur are those of all clauses.
+-- The first monotone variable, or none, picks the case; the literals that occur are those of the clauses with no true literal.
 use mathlib.Core.Path.{_≡_, _∙_}
-use denote.Ref.{now}
 use borrow.Author.Needs.{needs}
 use Rattle.formula.specs.Formula.{clausesFrom}
 use Rattle.theory.specs.Record.{Record, trueIn}
+use Rattle.theory.specs.Tests.{untrueOf}
 use Rattle.rules.specs.Due.{firstMonotone}
 use Rattle.rules.specs.Inner.Tables.{Values}
+use Rattle.rules.specs.Inner.Tabled.{Sorts}
 use Rattle.rules.specs.Laws.VariablesMean.{monotone-means}
-use Rattle.rules.specs.Laws.ClausesReady.{ready-named, ready-spread}
+use Rattle.rules.specs.Laws.ClausesReady.{ready-clauses, untrue-ready}
 use Rattle.rules.proofs.ordered.due_monotone.Statement.{statement}
 use Rattle.rules.proofs.ordered.due_monotone.Tie as tie
+
+occurring-requires : tie.Need-occurring-requires
+occurring-requires c κs = ready-clauses _ _ _ (c .before .pre .0)
 
 -- the search is the definition's
 module _ (c : tie.After-first-monotone) where
   abbrev start : tie.Start
   start = c .before .before .before .before
 
-  search-is : (r : Record) → Values (trueIn r) (start .args .values .now) → c .first-monotone .result ≡ firstMonotone (start .args .prefix .now) (clausesFrom (start .args .literals .now) 0 (start .args .ends .now)) (trueIn r)
-  search-is r said = c .first-monotone .ensures ∙ monotone-means _ (start .pre .0 .prefix) _ _ (start .args .values .now) (c .before .before .occurring .result) _ said (c .before .before .occurring .ensures) (ready-spread _ _ _ (start .pre .0))
+  search-is : (r : Record) → Values (trueIn r) (start .args .values .now) → Sorts (start .args .prefix .now) (trueIn r) (start .args .statuses .now)
+      → c .first-monotone .result ≡ firstMonotone (start .args .prefix .now) (untrueOf (trueIn r) (clausesFrom (start .args .literals .now) 0 (start .args .ends .now))) (trueIn r)
+  search-is r said sorting =
+      c .first-monotone .ensures
+      ∙ monotone-means _ (start .pre .0 .prefix) _ _ (start .args .values .now) (c .before .before .occurring .result) said
+      (rw (← untrue-ready _ _ _ (start .pre .0) (trueIn r) (start .args .statuses .now) sorting) (c .before .before .occurring .ensures))
 
 returns : tie.Need-returns
-returns c r told = rw (← search-is (c .before .before .before) r (told .values), c .before .literal .given .1)
+returns c r told sorting = rw (← search-is (c .before .before .before) r (told .values) sorting, c .before .literal .given .1)
 
 returns-2 : tie.Need-returns-2
-returns-2 c r told = rw (← search-is (c .before .before .before) r (told .values), c .before .enum-told .given .1) (c .due-decide .ensures r told)
+returns-2 c r told sorting = rw (← search-is (c .before .before .before) r (told .values) sorting, c .before .enum-told .given .1) (c .due-decide .ensures r told)
 
 pub due-monotone-spec : {M : Type 1} → statement M
 due-monotone-spec =
     tie.close
-    (tie.spec (λ c κs. ready-named _ _ _ (c .before .pre .0)) (λ c κs. search needs) (λ c. search needs) (λ c. search needs)
+    (tie.spec occurring-requires (λ c κs. search needs) (λ c. search needs) (λ c. search needs)
     (λ c κs. search needs) returns returns-2)

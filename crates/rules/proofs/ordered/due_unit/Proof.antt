@@ -24,7 +24,7 @@ returns : tie.Need-returns
 returns c r told sorting = rw (← search-is (c .before .before .before) _ sorting, c .before .literal .given .1)
 
 returns-2 : tie.Need-returns-2
-returns-2 c r told sorting = rw (← search-is (c .before .before .before) _ sorting, c .before .enum-told .given .1) (c .due-monotone .ensures r told)
+returns-2 c r told sorting = rw (← search-is (c .before .before .before) _ sorting, c .before .enum-told .given .1) (c .due-monotone .ensures r told sorting)
 
 pub due-unit-spec : {M : Type 1} → statement M
 due-unit-spec =
