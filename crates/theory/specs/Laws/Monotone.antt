@@ -9,6 +9,7 @@ use Rattle.words.specs.Bools.{clash, look, and-l, and-r, and-i, or-e, or-l, or-
 use Rattle.words.specs.Lists.{In, here, there, any, all-i, any-i}
 use Rattle.words.specs.Words.{mem, negneg}
 use Rattle.theory.specs.Record.{Assignment}
+use Rattle.theory.specs.Rules.{Within}
 use Rattle.theory.specs.Tests.{unassignedE, unassignedU, occurs, oneSign, monotone, untrueOf, monotoneOpen, absent, monotoneWide}
 
 -- any count that leaves out no clause that lacks a true literal: m is the matrix, n what is counted
@@ -41,12 +42,11 @@ untrue-i ρ {C} (there {y = D} {xs = m} i) h = go (any ρ D) (untrue-i ρ i h)
     go true j = j
     go false j = there j
 
-module _ (p : List ℤ) (m : List (List ℤ)) (ρ : Assignment) (l : ℤ) where
-  -- "over the whole matrix"
-  pub monotone-wide : monotone p m ρ l ≡ true → monotoneWide p m ρ l ≡ true
-  monotone-wide = counted-wide m m ρ (λ C i e. i) p l
+-- over the clauses with no true literal
+pub open-within : Within monotoneOpen
+unfolding monotoneOpen
+open-within = record { wide = λ p m ρ l. counted-wide m (untrueOf ρ m) ρ (λ C i e. untrue-i ρ i e) p l }
 
-  -- over the clauses with no true literal
-  pub monotone-open-wide : monotoneOpen p m ρ l ≡ true → monotoneWide p m ρ l ≡ true
-  unfolding monotoneOpen
-  monotone-open-wide = counted-wide m (untrueOf ρ m) ρ (λ C i e. untrue-i ρ i e) p l
+-- "over the whole matrix"
+pub whole-within : Within monotone
+whole-within = record { wide = λ p m ρ l. counted-wide m m ρ (λ C i e. i) p l }
