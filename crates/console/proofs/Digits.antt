@@ -10,8 +10,8 @@ use lib.Dec.{leb}
 use lib.ListN.{length, getD, take, drop}
 use borrow.Author.Tests.{le-leb, lt-leb, eq-eqb, ne-eqb, leb-true, leb-false}
 use lib.Seq.{take-all}
-use Rattle.words.specs.Bools.{look}
-use Rattle.words.specs.Lists.{next, ended}
+use Rattle.words.specs.Laws.Bools.{look}
+use Rattle.words.specs.Laws.Lists.{next, ended}
 use Rattle.console.specs.declared.numbers.Natural.the-variants.{Value, NoNatural}
 use Rattle.console.specs.declared.numbers.Number.the-variants.{NoNumber}
 use Rattle.console.specs.Numbers.{valueOf, naturalOf, grown, withSign, numberOf}

@@ -6,13 +6,14 @@ use Prim.Native.Nat.{ℕ, _+_, _-_, _≤_, _<_}
 use native.Mathlib.Omega.{arith}
 use lib.IntN.{ℤ, pos, natAbs}
 use lib.ListN.{length, take, drop, getD, replicate, length-replicate}
-use Rattle.words.specs.Lists.{any, blank}
+use Rattle.words.specs.Lists.{any}
+use Rattle.words.specs.Laws.Lists.{blank}
 use Rattle.formula.specs.Formula.{clausesFrom}
 use Rattle.formula.specs.Block.{badEnds, bothSigns}
-use Rattle.formula.specs.Ends.{good-end}
-use Rattle.formula.specs.Clauses.{clauses-at, clauses-ended}
-use Rattle.formula.specs.Places.{literalPlaces}
-use Rattle.formula.specs.Tables.{Fresh}
+use Rattle.formula.specs.Laws.Ends.{good-end}
+use Rattle.formula.specs.Laws.Clauses.{clauses-at, clauses-ended}
+use Rattle.formula.specs.Inner.Places.{literalPlaces}
+use Rattle.formula.specs.Inner.Tables.{Fresh}
 
 pub record Looked (ls es : List ℤ) (marks : List ℕ) (from i : ℕ) : Type 0 where
   pub at : i ≤ length es

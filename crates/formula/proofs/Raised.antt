@@ -11,8 +11,10 @@ use lib.Signed.{nonNeg}
 use mir.Syntax.{w32, w64}
 use mir.Val.{SFits, Fits, toZ, ofZ}
 use mir.ValLaws.{toZ-ofZ}
-use Rattle.formula.specs.Limits.{limits, variables-are}
-use Rattle.formula.specs.Places.{placeOf, raised, place-plus, place-within}
+use Rattle.formula.specs.Limits.{limits}
+use Rattle.formula.specs.Laws.Limits.{variables-are}
+use Rattle.formula.specs.Inner.Places.{placeOf}
+use Rattle.formula.specs.Laws.Places.{raised, place-plus, place-within}
 
 pub place-none : (ws : List ℤ) (i m : ℕ) → m ≡ limits .variables → length ws ≤ i → m ≡ placeOf (getD ws i (pos 0))
 place-none ws i m mid h = rw (List·getD-eq-default ws (pos 0) h, place-plus 0) (omega arith)

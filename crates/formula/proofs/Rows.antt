@@ -5,10 +5,10 @@ use Prim.Native.Nat.{ℕ}
 use lib.Dec.{eqb, ltb}
 use lib.IntN.{ℤ, pos, negsuc, natAbs}
 use borrow.Author.Tests.{eq-eqb, ne-eqb}
-use Rattle.words.specs.Bools.{or-l, or-r}
+use Rattle.words.specs.Laws.Bools.{or-l, or-r}
 use Rattle.words.specs.Words.{negative, eqZ}
 use Rattle.formula.specs.Block.{isNot, noVariable}
-use Rattle.formula.specs.Ends.{badEnd}
+use Rattle.formula.specs.Laws.Ends.{badEnd}
 
 -- 3: a word that is not the number n is negative or of another size
 pub not-number : (n : ℕ) (w : ℤ) → isNot n w ≡ negative w || not (eqb (natAbs w) n)

@@ -10,13 +10,16 @@ use lib.IntN.{ℤ, pos, negℤ, natAbs}
 use lib.ListN.{length, drop, getD, set, length-set}
 use lib.Seq.{getD-set-same, getD-set-other}
 use borrow.Author.Tests.{eq-eqb, ne-eqb}
-use Rattle.words.specs.Lists.{next, ended}
-use Rattle.words.specs.Words.{eqZ, mem, eqZ-refl, eqZ-ne, natAbs-neg}
-use Rattle.formula.specs.Limits.{limits, variables-are}
+use Rattle.words.specs.Laws.Lists.{next, ended}
+use Rattle.words.specs.Words.{eqZ, mem}
+use Rattle.words.specs.Laws.Words.{eqZ-refl, eqZ-ne, natAbs-neg}
+use Rattle.formula.specs.Limits.{limits}
+use Rattle.formula.specs.Laws.Limits.{variables-are}
 use Rattle.formula.specs.Block.{bothSigns}
-use Rattle.formula.specs.Once.{signs-drop, signs-at}
-use Rattle.formula.specs.Places.{literalPlaces, placeOf, wordAt, place-word, word-place, place-within, place-opposite}
-use Rattle.formula.specs.Tables.{Fresh}
+use Rattle.formula.specs.Laws.Once.{signs-drop, signs-at}
+use Rattle.formula.specs.Inner.Places.{literalPlaces, placeOf, wordAt}
+use Rattle.formula.specs.Laws.Places.{place-word, word-place, place-within, place-opposite}
+use Rattle.formula.specs.Inner.Tables.{Fresh}
 
 pub record Stamped (ls : List ℤ) (marks : List ℕ) (stamp i : ℕ) : Type 0 where
   pub at : i ≤ length ls

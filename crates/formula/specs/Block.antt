@@ -1,11 +1,12 @@
 -- When a block is turned away: the table's rows 1 to 10, "checked in this order, each check over the whole input".
-use Prim.Native.Nat.{ℕ, suc, _+_}
-use mathlib.Core.Bool.{Bool, false, not, cond, _&&_, _||_}
+use Prim.Native.Nat.{ℕ, _+_}
+use mathlib.Core.Bool.{Bool, false, not, _&&_, _||_}
 use mathlib.Core.List.{List, [], _∷_}
 use lib.Dec.{eqb, ltb}
 use lib.IntN.{ℤ, pos, negℤ, natAbs}
 use lib.ListN.{length}
 use Rattle.words.specs.Lists.{any}
+use Rattle.words.specs.Rows.{Row, row, refusalOf}
 use Rattle.words.specs.Words.{negative, eqZ, mem}
 use Rattle.formula.specs.Limits.{Limits}
 use Rattle.formula.specs.Formula.{word, variablesOf, clauseCountOf, literalCountOf, prefixOf, endsOf, literalsOf, clausesFrom}
@@ -56,26 +57,21 @@ unfoldable pub bothSigns : List ℤ → Bool
 bothSigns [] = false
 bothSigns (l ∷ ls) = mem (negℤ l) ls || bothSigns ls
 
--- the place of the first test that holds, counted from n, and 0 where none does
-abbrev pub first : ℕ → List Bool → ℕ
-first n [] = 0
-first n (t ∷ ts) = cond t n (first (suc n) ts)
-
 -- the ten rows
-abbrev pub rows : Limits → List ℤ → List Bool
+abbrev pub rows : Limits → List ℤ → List Row
 rows L b =
-    ltb (length b) 6
-    ∷ badCounts L b
-    ∷ badOffsets b
-    ∷ badLength b
-    ∷ any (noVariable (variablesOf b)) (prefixOf b)
-    ∷ twice (prefixOf b)
-    ∷ badLast b
-    ∷ badEnds (literalCountOf b) 0 (endsOf b)
-    ∷ any (noVariable (variablesOf b)) (literalsOf b)
-    ∷ any bothSigns (clausesFrom (literalsOf b) 0 (endsOf b))
+    row 1 (ltb (length b) 6)
+    ∷ row 2 (badCounts L b)
+    ∷ row 3 (badOffsets b)
+    ∷ row 4 (badLength b)
+    ∷ row 5 (any (noVariable (variablesOf b)) (prefixOf b))
+    ∷ row 6 (twice (prefixOf b))
+    ∷ row 7 (badLast b)
+    ∷ row 8 (badEnds (literalCountOf b) 0 (endsOf b))
+    ∷ row 9 (any (noVariable (variablesOf b)) (literalsOf b))
+    ∷ row 10 (any bothSigns (clausesFrom (literalsOf b) 0 (endsOf b)))
     ∷ []
 
 -- the number of the first row that applies, and 0 for an accepted block
 unfoldable pub refusal : Limits → List ℤ → ℕ
-refusal L b = first 1 (rows L b)
+refusal L b = refusalOf (rows L b)

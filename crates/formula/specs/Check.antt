@@ -1,21 +1,8 @@
 -- What `check` answers: the table's number for a refused block, and no number for an accepted one.
-use mathlib.Core.Path.{_≡_, refl}
 use Prim.Native.Nat.{ℕ, zero, suc}
-use native.Mathlib.Omega.{arith}
 use Rattle.formula.specs.declared.Checked.{Checked}
 use Rattle.formula.specs.declared.Checked.the-variants.{Accepted, Refused}
 
 unfoldable pub checkedOf : ℕ → Checked
 checkedOf zero = Accepted
 checkedOf (suc n) = Refused (suc n)
-
--- ---- laws
-pub checked-accepted : (n : ℕ) → checkedOf n ≡ Accepted → n ≡ 0
-unfolding checkedOf
-checked-accepted zero e = refl
-checked-accepted (suc n) e = let z : _≡_ {A = ℕ} 0 1 = cc in absurd (omega arith)
-
-pub checked-refused : (n k : ℕ) → checkedOf n ≡ Refused k → n ≡ k
-unfolding checkedOf
-checked-refused zero k e = let z : _≡_ {A = ℕ} 0 1 = cc in absurd (omega arith)
-checked-refused (suc n) k e = cc

@@ -1,17 +1,16 @@
 -- The formula block, why one is refused, what an accepted one means, and when it is true.
+
+-- a formula, its block, its truth
 pub mod Limits
 pub mod Formula
-pub mod Block
-pub mod Named
-pub mod Ends
-pub mod Once
-pub mod Clauses
-pub mod Layout
-pub mod Proper
-pub mod Prefix
-pub mod Permuted
-pub mod Check
-pub mod Places
-pub mod Tables
-pub mod Accepted
 pub mod Truth
+-- when a block is refused, and what `check` answers
+pub mod Block
+pub mod Check
+pub mod Rows
+-- what the theory of the rules asks of a formula
+pub mod Proper
+-- what functions say to each other
+pub mod Inner
+-- what is proved of all these
+pub mod Laws

@@ -33,5 +33,5 @@ pub(crate) fn bad_offsets(block: &[i32], ends: usize, literals: usize) -> bool
     requires { ⌜ literals ≡ 6 + variablesOf (now block) + clauseCountOf (now block) ⌝ }
     ensures { λ r. ⌜ r ≡ badOffsets (now (block .entry)) ⌝ }
 {
-    is_not(block, 3, 6) || is_not(block, 4, ends) || is_not(block, 5, literals)
+    is_not(block, 3, crate::cut::HEADER) || is_not(block, 4, ends) || is_not(block, 5, literals)
 }

@@ -7,22 +7,24 @@ ghost use lib.ListN.{length};
 ghost use Rattle.words.specs.Lists.{any};
 ghost use Rattle.formula.specs.Limits.{limits};
 ghost use Rattle.formula.specs.Formula.{clausesFrom};
-ghost use Rattle.formula.specs.Block.{twice, badEnds, bothSigns};
-ghost use Rattle.formula.specs.Named.{AllNamed};
-ghost use Rattle.formula.specs.Tables.{Fresh};
+ghost use Rattle.formula.specs.Block.{badEnds, bothSigns};
+ghost use Rattle.formula.specs.Inner.Named.{AllNamed};
+ghost use Rattle.formula.specs.Inner.Tables.{repeated, Fresh};
 use crate::places::LITERAL_PLACES;
 use crate::places::place_at;
 
-// Whether some variable stands twice.
+// Whether some variable stands twice, or a word has no place in the table.
 pub fn variable_twice(ws: &[i32]) -> bool
-    requires { ⌜ AllNamed (limits .variables) (now ws) ⌝ }
-    ensures { λ r. ⌜ r ≡ twice (now (ws .entry)) ⌝ }
+    ensures { λ r. ⌜ r ≡ repeated (limits .variables) (now (ws .entry)) ⌝ }
 {
     let mut seen = [false; crate::MAX_VARIABLES + 1];
     let mut i = ws.len();
     while 0 < i {
         i -= 1;
         let v = words::size_at(ws, i);
+        if crate::MAX_VARIABLES < v {
+            return true;
+        }
         if seen[v] {
             return true;
         }

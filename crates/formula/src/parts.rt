@@ -4,10 +4,11 @@ ghost use mathlib.Core.Bool.{false};
 ghost use Prim.Native.Nat.{_≤_};
 ghost use lib.ListN.{length};
 ghost use Rattle.words.specs.Lists.{any};
+ghost use Rattle.words.specs.Rows.{refusalOf};
 ghost use Rattle.formula.specs.Limits.{limits};
-ghost use Rattle.formula.specs.Block.{noVariable, badEnds, first};
+ghost use Rattle.formula.specs.Block.{noVariable, badEnds};
 ghost use Rattle.formula.specs.Check.{checkedOf};
-ghost use Rattle.formula.specs.Tables.{lastNegative, partRows};
+ghost use Rattle.formula.specs.Inner.Tables.{lastNegative, partRows};
 
 // Whether some word is 0 or of size over n.
 pub fn some_stranger(ws: &[i32], n: usize) -> bool
@@ -51,7 +52,7 @@ fn bad_ends(ends: &[i32], total: usize) -> bool
 // The prefix has a word for each variable, and the literals are all that the ends may reach.
 pub(crate) fn check_parts(prefix: &[i32], ends: &[i32], literals: &[i32]) -> crate::Checked
     requires { ⌜ length (now prefix) ≤ limits .variables ⌝ }
-    ensures { λ r. ⌜ r ≡ checkedOf (first 5 (partRows (now (prefix .entry)) (now (ends .entry)) (now (literals .entry)))) ⌝ }
+    ensures { λ r. ⌜ r ≡ checkedOf (refusalOf (partRows (now (prefix .entry)) (now (ends .entry)) (now (literals .entry)))) ⌝ }
 {
     if some_stranger(prefix, prefix.len()) {
         return crate::Checked::Refused(5);

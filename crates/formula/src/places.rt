@@ -4,13 +4,13 @@ ghost use Prim.Native.Nat.{_≤_};
 ghost use lib.IntN.{pos, natAbs};
 ghost use lib.ListN.{getD};
 ghost use Rattle.formula.specs.Limits.{limits};
-ghost use Rattle.formula.specs.Places.{placeOf};
+ghost use Rattle.formula.specs.Inner.Places.{placeOf};
 
 // The place of the word 0, which is no literal. Variable v has its place v above it, and the opposite of v has it v below.
 pub const MIDDLE: usize = crate::MAX_VARIABLES;
 
 // The same number, for a signed word.
-const RAISE: i64 = 256;
+const RAISE: i64 = crate::MAX_VARIABLES as i64;
 
 pub const LITERAL_PLACES: usize = 2 * crate::MAX_VARIABLES + 1;
 

@@ -6,9 +6,10 @@ use native.Mathlib.Omega.{arith}
 use lib.IntN.{ℤ, pos}
 use lib.ListN.{length, take, drop}
 use lib.Seq.{sets, take-take, length-take-le, getD-take}
-use Rattle.formula.specs.Limits.{limits, variables-are}
+use Rattle.formula.specs.Limits.{limits}
+use Rattle.formula.specs.Laws.Limits.{variables-are}
 use Rattle.formula.specs.Formula.{variablesOf, prefixOf, formulaOf, firstGroup}
-use Rattle.formula.specs.Accepted.{accepted, variables-most, prefix-length, prefix-named}
+use Rattle.formula.specs.Laws.Accepted.{accepted, variables-most, prefix-named, prefix-length}
 use Rattle.rules.specs.declared.State.the-variants.{Open}
 use Rattle.rules.specs.Apply.{Search, search}
 use Rattle.rules.specs.Buffers.{Wiped}

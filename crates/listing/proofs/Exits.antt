@@ -14,7 +14,7 @@ use Rattle.rules.specs.Apply.{reached}
 use Rattle.rules.specs.Ready.{Bound}
 use Rattle.rules.specs.Buffers.{Room, Wiped}
 use Rattle.session.specs.Accepted.{prefix-length, accepted-bound}
-use Rattle.formula.specs.Layout.{prefix-lent}
+use Rattle.formula.specs.Laws.Layout.{prefix-lent}
 use Rattle.listing.specs.declared.Paged.{Paged}
 use Rattle.listing.specs.declared.Paged.the-variants.{Page, Refused}
 use Rattle.listing.specs.Opening.{searchOf}

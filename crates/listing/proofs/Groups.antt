@@ -10,9 +10,10 @@ use lib.ListN.{length, getD, drop, set}
 use lib.Pow.{pow-mono}
 use lib.Seq.{sets}
 use borrow.Author.Tests.{not-true, not-false}
-use Rattle.words.specs.Bools.{clash}
-use Rattle.words.specs.Lists.{next, ended}
-use Rattle.words.specs.Words.{negative, opposite, opposite-is}
+use Rattle.words.specs.Laws.Bools.{clash}
+use Rattle.words.specs.Laws.Lists.{next, ended}
+use Rattle.words.specs.Words.{negative, opposite}
+use Rattle.words.specs.Laws.Words.{opposite-is}
 use Rattle.formula.specs.Formula.{run, firstGroup}
 use Rattle.rules.specs.Due.{pick}
 use Rattle.listing.specs.Opening.{valuesOf}

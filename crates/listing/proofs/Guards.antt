@@ -1,6 +1,6 @@
 -- Which row turns a page away, one law for each way out of the guard: the rows passed so far do not hold, the next one does.
-use Prim.Native.Nat.{ℕ, zero, suc, _+_, _-_, _^_, _≤_, _<_}
-use mathlib.Core.Path.{_≡_, refl, _∙_, ap}
+use Prim.Native.Nat.{ℕ, _+_, _-_, _^_, _≤_, _<_}
+use mathlib.Core.Path.{_≡_, refl, sym, _∙_, ap}
 use mathlib.Core.Bool.{Bool, true, false, _&&_}
 use mathlib.Core.List.{List, [], _∷_}
 use native.Mathlib.Omega.{arith}
@@ -8,18 +8,18 @@ use lib.Dec.{ltb}
 use lib.IntN.{ℤ}
 use lib.ListN.{length, take, drop}
 use borrow.Author.Tests.{lt-ltb, le-ltb}
+use Rattle.words.specs.Rows.{Row, refusalOf}
+use Rattle.words.specs.Laws.Rows.{stops, goes-on}
 use Rattle.words.specs.Words.{negative}
 use Rattle.formula.specs.Formula.{word, variablesOf, formulaOf, firstGroup}
-use Rattle.formula.specs.Block.{first}
 use Rattle.rules.specs.Ready.{formula}
-use Rattle.session.specs.Refusals.{after, openRefusal}
-use Rattle.formula.specs.Layout.{prefix-lent}
-use Rattle.listing.specs.Page.{pageRefusal}
-use Rattle.listing.specs.Page.{pageRows}
+use Rattle.session.specs.Refusals.{openRows, openRefusal}
+use Rattle.formula.specs.Laws.Layout.{prefix-lent}
+use Rattle.listing.specs.Page.{ofPage, pageRefusal}
 
 -- ---- rows 18 to 21
-abbrev rowsOf : List ℤ → ℕ → List ℕ → List Bool
-rowsOf p start out = pageRows (formula p [] []) start out
+abbrev rowsOf : List ℤ → ℕ → List ℕ → List Row
+rowsOf p start out = ofPage (formula p [] []) start out
 
 -- an empty prefix has no first word, and the word past its end is not negative
 first-word : (p : List ℤ) → (ltb 0 (length p) && negative (word p 0)) ≡ negative (word p 0)
@@ -27,34 +27,30 @@ first-word [] = refl
 first-word (q ∷ p) = let h : 0 < length (q ∷ p) = omega arith in rw (lt-ltb 0 (length (q ∷ p)) h)
 
 module _ (p : List ℤ) (start : ℕ) (out : List ℕ) {u : Bool} (is : u ≡ negative (word p 0)) where
-  pub openings-universal : u ≡ true → 18 ≡ first 18 (rowsOf p start out)
+  pub openings-universal : u ≡ true → 18 ≡ refusalOf (rowsOf p start out)
   openings-universal x = rw (first-word p, ← is, x)
 
   module _ (x : u ≡ false) {k : ℕ} (e : k ≡ firstGroup p) where
-    pub openings-wide : 16 < k → 19 ≡ first 18 (rowsOf p start out)
+    pub openings-wide : 16 < k → 19 ≡ refusalOf (rowsOf p start out)
     openings-wide h = rw (first-word p, ← is, x, ← e, lt-ltb 16 k h)
 
     module _ (h : k ≤ 16) {m : ℕ} (t : m ≡ 2 ^ k) where
-      pub openings-over : m < start → 20 ≡ first 18 (rowsOf p start out)
+      pub openings-over : m < start → 20 ≡ refusalOf (rowsOf p start out)
       openings-over l = rw (first-word p, ← is, x, ← e, le-ltb 16 k h, ← t, lt-ltb m start l)
 
       module _ (l : start ≤ m) where
-        pub openings-short : length out < 2 → 21 ≡ first 18 (rowsOf p start out)
+        pub openings-short : length out < 2 → 21 ≡ refusalOf (rowsOf p start out)
         openings-short r = rw (first-word p, ← is, x, ← e, le-ltb 16 k h, ← t, le-ltb m start l, lt-ltb (length out) 2 r)
 
-        pub openings-pass : 2 ≤ length out → 0 ≡ first 18 (rowsOf p start out)
+        pub openings-pass : 2 ≤ length out → 0 ≡ refusalOf (rowsOf p start out)
         openings-pass r = rw (first-word p, ← is, x, ← e, le-ltb 16 k h, ← t, le-ltb m start l, le-ltb (length out) 2 r)
 
 -- ---- rows 1 to 11, and then these
-after-first : (n : ℕ) (rows : List Bool) → (n ≡ 0 → ⊥) → n ≡ after 18 n rows
-after-first zero rows f = absurd (f refl)
-after-first (suc n) rows f = refl
-
 module _ (b ls : List ℤ) (ks : List ℕ) (start : ℕ) (out : List ℕ) {r : ℕ} (e : r ≡ openRefusal b ls ks) where
   pub page-buffers : (r ≡ 0 → ⊥) → r ≡ pageRefusal b ls ks start out
-  unfolding pageRefusal
-  page-buffers f = rw (← e) (after-first r (pageRows (formulaOf b) start out) f)
+  unfolding pageRefusal openRefusal
+  page-buffers f = stops (openRows b ls ks) (ofPage (formulaOf b) start out) e f
 
-  pub page-openings : (z : r ≡ 0) {v : ℕ} → v ≡ variablesOf b → {q : ℕ} → q ≡ first 18 (rowsOf (take (6 + v - 6) (drop 6 b)) start out) → q ≡ pageRefusal b ls ks start out
-  unfolding pageRefusal formulaOf
-  page-openings z is p = p ∙ rw (← e, z, prefix-lent b (ap (λ n. 6 + n) is))
+  pub page-openings : (z : r ≡ 0) {v : ℕ} → v ≡ variablesOf b → {q : ℕ} → q ≡ refusalOf (rowsOf (take (6 + v - 6) (drop 6 b)) start out) → q ≡ pageRefusal b ls ks start out
+  unfolding pageRefusal openRefusal formulaOf
+  page-openings z is p = p ∙ rw (prefix-lent b (ap (λ n. 6 + n) is)) (sym (goes-on (openRows b ls ks) (ofPage (formulaOf b) start out) refl (sym e ∙ z)))

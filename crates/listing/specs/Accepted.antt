@@ -8,7 +8,7 @@ use mathlib.Core.List.{List, _++_, append-nil}
 use native.Mathlib.Omega.{arith}
 use lib.IntN.{ℤ, pos}
 use lib.ListN.{length, getD, take, drop}
-use Rattle.words.specs.Bools.{clash, look}
+use Rattle.words.specs.Laws.Bools.{clash, look}
 use Rattle.formula.specs.Formula.{Formula, formulaOf, variablesOf, prefixOf, firstGroup}
 use Rattle.formula.specs.Proper.{Proper}
 use Rattle.rules.specs.declared.State.the-variants.{Open}

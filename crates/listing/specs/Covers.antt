@@ -14,7 +14,7 @@ use lib.IntN.{ℤ, pos, negsuc, negℤ}
 use lib.ListN.{length, take, drop, take-append-drop}
 use lib.Pow.{pow-add, pow-pos}
 use borrow.Author.Tests.{lt-ltb}
-use Rattle.words.specs.Bools.{look, clash, to-false, or-e, or-l, or-r}
+use Rattle.words.specs.Laws.Bools.{look, clash, to-false, or-e, or-l, or-r}
 use Rattle.words.specs.Lists.{In, here, there, all, any}
 use Rattle.words.specs.Words.{negative, eqZ, mem}
 use Rattle.formula.specs.Formula.{Formula, word, run, firstGroup}

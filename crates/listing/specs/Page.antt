@@ -2,18 +2,19 @@
 -- two words: the opening, and how many ones its number has."
 use Prim.Native.Nat.{ℕ, zero, suc, _+_, _*_, _-_, _^_}
 use mathlib.Core.Bool.{Bool, true, false, _&&_}
-use mathlib.Core.List.{List, [], _∷_}
+use mathlib.Core.List.{List, [], _∷_, _++_}
 use lib.Count.{ones}
 use lib.Dec.{ltb, leb}
 use lib.IntN.{ℤ, pos}
 use lib.ListN.{length, set}
+use Rattle.words.specs.Rows.{Row, row, refusalOf}
 use Rattle.words.specs.Words.{negative}
 use Rattle.formula.specs.Formula.{Formula, formulaOf, word, firstGroup}
 use Rattle.rules.specs.declared.State.{State}
 use Rattle.rules.specs.declared.State.the-variants.{Open, Valid, Unsat}
 use Rattle.rules.specs.Due.{pick}
 use Rattle.rules.specs.Apply.{wiped}
-use Rattle.session.specs.Refusals.{after, openRefusal}
+use Rattle.session.specs.Refusals.{openRows}
 use Rattle.listing.specs.declared.Paged.{Paged}
 use Rattle.listing.specs.declared.Paged.the-variants.{Page, Refused}
 use Rattle.listing.specs.Opening.{searchOf}
@@ -27,16 +28,19 @@ firstUniversal F = ltb 0 (length (F .prefix)) && negative (word (F .prefix) 0)
 abbrev pub openings : Formula → ℕ
 openings F = 2 ^ firstGroup (F .prefix)
 
-abbrev pub pageRows : Formula → ℕ → List ℕ → List Bool
-pageRows F start out =
-    firstUniversal F
-    ∷ ltb 16 (firstGroup (F .prefix))
-    ∷ ltb (openings F) start
-    ∷ ltb (length out) 2
+abbrev pub ofPage : Formula → ℕ → List ℕ → List Row
+ofPage F start out =
+    row 18 (firstUniversal F)
+    ∷ row 19 (ltb 16 (firstGroup (F .prefix)))
+    ∷ row 20 (ltb (openings F) start)
+    ∷ row 21 (ltb (length out) 2)
     ∷ []
 
+abbrev pub pageRows : List ℤ → List ℤ → List ℕ → ℕ → List ℕ → List Row
+pageRows b ls ks start out = openRows b ls ks ++ ofPage (formulaOf b) start out
+
 unfoldable pub pageRefusal : List ℤ → List ℤ → List ℕ → ℕ → List ℕ → ℕ
-pageRefusal b ls ks start out = after 18 (openRefusal b ls ks) (pageRows (formulaOf b) start out)
+pageRefusal b ls ks start out = refusalOf (pageRows b ls ks start out)
 
 -- ---- what a page writes
 -- where a page stands: the next opening, the entries written, whether it is paused, and the output

@@ -9,7 +9,7 @@ use native.Mathlib.Decide.{decLt}
 use native.Mathlib.Omega.{arith}
 use lib.IntN.{ℤ}
 use lib.ListN.{length, take}
-use Rattle.words.specs.Bools.{clash}
+use Rattle.words.specs.Laws.Bools.{clash}
 use Rattle.words.specs.Lists.{In, here, there}
 use Rattle.formula.specs.Limits.{limits}
 use Rattle.formula.specs.Formula.{formulaOf, variablesOf, prefixOf, firstGroup}

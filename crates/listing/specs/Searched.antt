@@ -8,14 +8,12 @@ use mathlib.Core.List.{List}
 use native.Mathlib.Omega.{arith}
 use lib.IntN.{ℤ}
 use lib.ListN.{length}
-use Rattle.words.specs.Bools.{clash}
+use Rattle.words.specs.Laws.Bools.{clash}
 use Rattle.formula.specs.Formula.{Formula, firstGroup}
 use Rattle.formula.specs.Proper.{Proper}
 use Rattle.theory.specs.Rules.{State as Standing, going, Path}
-use Rattle.theory.specs.Paths.{path-snoc}
-use Rattle.theory.specs.Sound.{sound}
-use Rattle.theory.specs.Finite.{finite}
-use Rattle.theory.specs.Progress.{never-stuck}
+use Rattle.theory.specs.Laws.Moves.{path-snoc}
+use Rattle.theory.specs.Theorem.{sound, finite, never-stuck}
 use Rattle.rules.specs.declared.State.{State}
 use Rattle.rules.specs.declared.State.the-variants.{Open, Valid, Unsat}
 use Rattle.rules.specs.Apply.{Search}

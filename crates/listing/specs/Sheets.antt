@@ -12,7 +12,7 @@ use lib.IntN.{ℤ}
 use lib.ListN.{length, getD, take, drop, set, length-set}
 use lib.Seq.{take-suc-set, drop-set-lt, getD-set-same, getD-set-other}
 use borrow.Author.Tests.{le-leb, lt-leb}
-use Rattle.words.specs.Bools.{clash}
+use Rattle.words.specs.Laws.Bools.{clash}
 use Rattle.formula.specs.Formula.{Formula}
 use Rattle.formula.specs.Proper.{Proper}
 use Rattle.rules.specs.declared.State.{State}

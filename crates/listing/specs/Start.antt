@@ -10,11 +10,11 @@ use native.Mathlib.Omega.{arith}
 use lib.IntN.{ℤ, pos}
 use lib.ListN.{length, take, drop, replicate, length-replicate, replicate-append-replicate, take-append-drop}
 use lib.Seq.{sets, sets-eq, length-sets}
-use Rattle.words.specs.Bools.{and-i, or-l, or-r}
+use Rattle.words.specs.Laws.Bools.{and-i, or-l, or-r}
 use Rattle.words.specs.Lists.{In, here, there, all}
 use Rattle.formula.specs.Formula.{Formula, firstGroup, existential, universal}
 use Rattle.formula.specs.Block.{twice}
-use Rattle.formula.specs.Prefix.{stands, stands-i, stands-append, stands-bound}
+use Rattle.formula.specs.Laws.Prefix.{stands, stands-i, stands-append, stands-bound}
 use Rattle.theory.specs.Record.{entry, Record, literals, forced}
 use Rattle.theory.specs.Start.{suits, allSuit, Good}
 use Rattle.rules.specs.Apply.{recordOf, wiped}

@@ -11,12 +11,14 @@ use lib.Dec.{eqb}
 use lib.IntN.{ℤ, pos, negℤ, natAbs}
 use lib.ListN.{length, getD, take, drop, set, length-drop, take-append-drop}
 use lib.Seq.{sets, length-take-le}
-use Rattle.words.specs.Bools.{look, or-fl, eqb-ne}
-use Rattle.words.specs.Lists.{In, there, next}
-use Rattle.words.specs.Words.{negative, natAbs-neg}
+use Rattle.words.specs.Laws.Bools.{look, or-fl, eqb-ne}
+use Rattle.words.specs.Lists.{In, there}
+use Rattle.words.specs.Laws.Lists.{next}
+use Rattle.words.specs.Words.{negative}
+use Rattle.words.specs.Laws.Words.{natAbs-neg}
 use Rattle.formula.specs.Formula.{Formula, run, firstGroup}
 use Rattle.formula.specs.Block.{twice}
-use Rattle.formula.specs.Prefix.{stands, stands-none, stands-step, stands-append, other, twice-head, twice-tail, twice-cons}
+use Rattle.formula.specs.Laws.Prefix.{stands, stands-none, stands-step, stands-append, other, twice-head, twice-tail, twice-cons}
 use Rattle.rules.specs.Due.{pick}
 use Rattle.listing.specs.Opening.{groupOf, valuesOf}
 

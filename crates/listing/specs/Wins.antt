@@ -11,17 +11,18 @@ use native.Mathlib.Omega.{arith}
 use lib.Count.{ones}
 use lib.IntN.{ℤ}
 use lib.ListN.{take, drop, take-append-drop}
-use Rattle.words.specs.Bools.{look}
-use Rattle.words.specs.Lists.{In, here, there, all-i}
+use Rattle.words.specs.Laws.Bools.{look}
+use Rattle.words.specs.Lists.{In, here, there}
+use Rattle.words.specs.Laws.Lists.{all-i}
 use Rattle.formula.specs.Formula.{Formula, firstGroup}
 use Rattle.formula.specs.Proper.{Proper}
-use Rattle.formula.specs.Prefix.{stands-i}
+use Rattle.formula.specs.Laws.Prefix.{stands-i}
 use Rattle.formula.specs.Truth.{truth}
 use Rattle.theory.specs.Record.{among, assigned}
 use Rattle.theory.specs.Tests.{allAssigned}
-use Rattle.theory.specs.Assignment.{assigned-among}
+use Rattle.theory.specs.Laws.Assignment.{assigned-among}
 use Rattle.theory.specs.Start.{rest, trueUnder}
-use Rattle.theory.specs.Value.{rest-append, rest-set, rest-unset}
+use Rattle.theory.specs.Laws.Value.{rest-append, rest-set, rest-unset}
 use Rattle.rules.specs.Due.{pick}
 use Rattle.listing.specs.Opening.{groupOf, valuesOf}
 use Rattle.listing.specs.Values.{values-stand, before-rest}

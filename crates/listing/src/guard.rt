@@ -1,15 +1,14 @@
 // The rows of the table that speak of a page, in its order.
 ghost use mathlib.Core.Path.{_≡_};
 ghost use mathlib.Core.List.{[]};
-ghost use Rattle.formula.specs.Block.{first};
+ghost use Rattle.words.specs.Rows.{refusalOf};
 ghost use Rattle.rules.specs.Ready.{formula};
-ghost use Rattle.listing.specs.Page.{pageRefusal};
-ghost use Rattle.listing.specs.Page.{pageRows};
+ghost use Rattle.listing.specs.Page.{ofPage, pageRefusal};
 use crate::openings;
 
 // Rows 18 to 21, which look at the prefix and at no clause.
 fn of_openings(prefix: &[i32], start: u32, output: &[u32]) -> u32
-    ensures { λ r. ⌜ r ≡ first 18 (pageRows (formula (now (prefix .entry)) [] []) start (now (output .entry))) ⌝ }
+    ensures { λ r. ⌜ r ≡ refusalOf (ofPage (formula (now (prefix .entry)) [] []) start (now (output .entry))) ⌝ }
 {
     if words::negative_at(prefix, 0) {
         return 18;

@@ -6,7 +6,7 @@ use mathlib.Core.List.{List, [], _∷_}
 use native.Mathlib.Numerals.{add-one}
 use lib.IntN.{ℤ, pos}
 use lib.ListN.{length, getD, drop}
-use Rattle.words.specs.Lists.{next, ended}
+use Rattle.words.specs.Laws.Lists.{next, ended}
 use Rattle.rules.specs.Due.{lowest}
 use Rattle.rules.specs.Clauses.{byStatus, conflictBy}
 use Rattle.rules.specs.declared.Found.the-variants.{At, Nothing}

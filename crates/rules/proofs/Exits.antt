@@ -6,7 +6,7 @@ use native.Mathlib.Omega.{arith}
 use lib.IntN.{ℤ, natAbs}
 use borrow.Author.Tests.{eq-eqb, ne-eqb}
 use Rattle.words.specs.declared.Literal.{Literal}
-use Rattle.formula.specs.Limits.{variables-small}
+use Rattle.formula.specs.Laws.Limits.{variables-small}
 use Rattle.rules.specs.Apply.{Search, append, kindOf, chosen, apply}
 use Rattle.rules.specs.Ready.{Kept}
 use Rattle.rules.specs.Buffers.{Cuttable}

@@ -7,9 +7,10 @@ use native.Mathlib.Omega.{arith}
 use lib.IntN.{ℤ, pos, natAbs}
 use lib.ListN.{length, getD, take, set, replicate, length-set, length-replicate}
 use lib.Seq.{getD-set-same, getD-set-other}
-use Rattle.words.specs.Lists.{take-more, blank}
-use Rattle.formula.specs.Limits.{limits, variables-are}
-use Rattle.formula.specs.Named.{all-named, known-up}
+use Rattle.words.specs.Laws.Lists.{take-more, blank}
+use Rattle.formula.specs.Limits.{limits}
+use Rattle.formula.specs.Laws.Limits.{variables-are}
+use Rattle.formula.specs.Laws.Named.{all-named, known-up}
 use Rattle.rules.specs.Ready.{Bound}
 use Rattle.rules.specs.Tables.{places, Known}
 

@@ -7,7 +7,7 @@ use lib.IntN.{ℤ}
 use lib.ListN.{length, take}
 use Rattle.formula.specs.Limits.{limits}
 use Rattle.formula.specs.Formula.{clausesFrom}
-use Rattle.formula.specs.Named.{known-up}
+use Rattle.formula.specs.Laws.Named.{known-up}
 use Rattle.theory.specs.Record.{literals, among, trueIn}
 use Rattle.rules.specs.Apply.{recordOf}
 use Rattle.rules.specs.Ready.{Ready, Kept, Held}

@@ -6,11 +6,12 @@ use Prim.Native.Nat.{ℕ, _+_, _≤_, _<_}
 use native.Mathlib.Omega.{arith}
 use lib.IntN.{ℤ, pos, negsuc, negℤ, natAbs}
 use lib.ListN.{length, getD, drop}
-use Rattle.words.specs.Bools.{clash}
-use Rattle.words.specs.Lists.{next, ended}
-use Rattle.words.specs.Words.{negative, natAbs-neg, eqZ, eqZ-refl, mem, other-word}
+use Rattle.words.specs.Laws.Bools.{clash}
+use Rattle.words.specs.Laws.Lists.{next, ended}
+use Rattle.words.specs.Words.{negative, eqZ, mem}
+use Rattle.words.specs.Laws.Words.{natAbs-neg, eqZ-refl, other-word}
 use Rattle.formula.specs.Formula.{universal}
-use Rattle.formula.specs.Named.{all-named}
+use Rattle.formula.specs.Laws.Named.{all-named}
 use Rattle.rules.specs.Due.{pick}
 use Rattle.rules.specs.Apply.{kindOf}
 use Rattle.rules.specs.Ready.{Bound}

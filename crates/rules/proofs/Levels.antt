@@ -10,12 +10,13 @@ use lib.IntN.{ℤ, pos, natAbs}
 use lib.ListN.{length, getD, take, drop, set, replicate, length-set, length-replicate}
 use lib.Seq.{getD-set-same, getD-set-other, take-length}
 use borrow.Author.Tests.{eq-eqb, ne-eqb, eqb-false}
-use Rattle.words.specs.Bools.{clash, or-fl, or-fr}
-use Rattle.words.specs.Lists.{any, next, ended, take-more, any-append}
+use Rattle.words.specs.Laws.Bools.{clash, or-fl, or-fr}
+use Rattle.words.specs.Lists.{any}
+use Rattle.words.specs.Laws.Lists.{next, ended, take-more, any-append}
 use Rattle.words.specs.Words.{negative}
 use Rattle.formula.specs.Formula.{change, levelOf}
 use Rattle.formula.specs.Block.{names}
-use Rattle.formula.specs.Prefix.{change-few}
+use Rattle.formula.specs.Laws.Prefix.{change-few}
 use Rattle.rules.specs.Tables.{places}
 
 -- ---- the change after a word

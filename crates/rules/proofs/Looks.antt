@@ -10,7 +10,7 @@ use lib.IntN.{ℤ, pos}
 use lib.ListN.{length, getD, take, drop}
 use borrow.Author.Tests.{lt-ltb, le-ltb, le-leb, leb-true}
 use Rattle.words.specs.declared.Literal.{Literal}
-use Rattle.words.specs.Bools.{clash, and-l, and-r}
+use Rattle.words.specs.Laws.Bools.{clash, and-l, and-r}
 use Rattle.words.specs.Words.{eqZ}
 use Rattle.rules.specs.Due.{pick, literal}
 use Rattle.rules.specs.Clauses.{levelBy, staysUnit, unitFrom, unitAfter, unitWith, Shown, decidedBy, lowestUnitBy}

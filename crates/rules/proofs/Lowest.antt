@@ -10,8 +10,9 @@ use lib.Dec.{leb}
 use lib.IntN.{ℤ, pos, natAbs}
 use lib.ListN.{length, getD, drop}
 use borrow.Author.Tests.{le-leb, leb-true, eq-eqb}
-use Rattle.words.specs.Bools.{look}
-use Rattle.words.specs.Lists.{all, any, any-i, next, ended, in-at}
+use Rattle.words.specs.Laws.Bools.{look}
+use Rattle.words.specs.Lists.{all, any}
+use Rattle.words.specs.Laws.Lists.{any-i, next, ended, in-at}
 use Rattle.formula.specs.Limits.{limits}
 use Rattle.formula.specs.Formula.{level}
 use Rattle.formula.specs.Block.{names}

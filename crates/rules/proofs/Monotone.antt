@@ -10,12 +10,15 @@ use lib.Dec.{eqb}
 use lib.IntN.{ℤ, pos, negsuc, negℤ, natAbs}
 use lib.ListN.{length, getD, drop}
 use borrow.Author.Tests.{eq-eqb, ne-eqb}
-use Rattle.words.specs.Lists.{In, next, ended, in-at}
-use Rattle.words.specs.Words.{opposite, opposite-is, negneg, mem, mem-i}
-use Rattle.formula.specs.Limits.{limits, variables-small}
+use Rattle.words.specs.Lists.{In}
+use Rattle.words.specs.Laws.Lists.{next, ended, in-at}
+use Rattle.words.specs.Words.{opposite, mem}
+use Rattle.words.specs.Laws.Words.{opposite-is, negneg, mem-i}
+use Rattle.formula.specs.Limits.{limits}
+use Rattle.formula.specs.Laws.Limits.{variables-small}
 use Rattle.formula.specs.Formula.{existential, universal}
-use Rattle.formula.specs.Named.{all-named, in-named}
-use Rattle.formula.specs.Prefix.{one-sign}
+use Rattle.formula.specs.Laws.Named.{all-named, in-named}
+use Rattle.formula.specs.Laws.Prefix.{one-sign}
 use Rattle.theory.specs.Record.{Assignment, assigned}
 use Rattle.theory.specs.Tests.{unassignedE, unassignedU, oneSign, monotone}
 use Rattle.rules.specs.declared.Picked.{Picked}

@@ -7,10 +7,13 @@ use native.Mathlib.Nat.{le-refl}
 use native.Mathlib.Omega.{arith}
 use lib.IntN.{ℤ, pos, negℤ, natAbs}
 use lib.ListN.{length, getD, take, set, replicate}
-use Rattle.words.specs.Words.{mem, eqZ-ne, mem-here, mem-other, natAbs-neg}
-use Rattle.formula.specs.Limits.{limits, variables-are}
-use Rattle.formula.specs.Named.{all-named}
-use Rattle.formula.specs.Places.{literalPlaces, placeOf, wordAt, place-word, word-place, place-within, place-plus, place-minus}
+use Rattle.words.specs.Words.{mem}
+use Rattle.words.specs.Laws.Words.{eqZ-ne, mem-here, mem-other, natAbs-neg}
+use Rattle.formula.specs.Limits.{limits}
+use Rattle.formula.specs.Laws.Limits.{variables-are}
+use Rattle.formula.specs.Laws.Named.{all-named}
+use Rattle.formula.specs.Inner.Places.{literalPlaces, placeOf, wordAt}
+use Rattle.formula.specs.Laws.Places.{place-word, word-place, place-within, place-plus, place-minus}
 use Rattle.rules.specs.Due.{pick}
 use Rattle.rules.specs.Tables.{Known, signsOf}
 use Rattle.rules.specs.ByLiteral.{Occurring}

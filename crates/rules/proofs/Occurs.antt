@@ -9,9 +9,10 @@ use lib.IntN.{ℤ, natAbs}
 use lib.ListN.{length, take, drop, take-append-drop}
 use lib.Seq.{drop-drop, drop-length}
 use borrow.Author.Tests.{ltb-false, eqb-true, not-false}
-use Rattle.words.specs.Bools.{or-fl, or-fr}
+use Rattle.words.specs.Laws.Bools.{or-fl, or-fr}
 use Rattle.words.specs.Lists.{any}
-use Rattle.words.specs.Words.{negative, mem, mem-append}
+use Rattle.words.specs.Words.{negative, mem}
+use Rattle.words.specs.Laws.Words.{mem-append}
 use Rattle.formula.specs.Formula.{clausesFrom}
 use Rattle.formula.specs.Block.{badEnds}
 use Rattle.theory.specs.Tests.{occurs}

@@ -7,11 +7,12 @@ use native.Mathlib.Nat.{le-trans}
 use lib.Dec.{leb}
 use lib.IntN.{ℤ, pos, natAbs}
 use lib.ListN.{length, getD, drop}
-use Rattle.words.specs.Lists.{any, next, ended}
+use Rattle.words.specs.Lists.{any}
+use Rattle.words.specs.Laws.Lists.{next, ended}
 use Rattle.formula.specs.Limits.{limits}
 use Rattle.formula.specs.Formula.{existential, universal, levelOf, level}
 use Rattle.formula.specs.Block.{names}
-use Rattle.formula.specs.Prefix.{stands, binds, level-few}
+use Rattle.formula.specs.Laws.Prefix.{stands, binds, level-few}
 use Rattle.theory.specs.Record.{Assignment, assigned}
 use Rattle.theory.specs.Tests.{unassignedE, unassignedU, isOpen}
 use Rattle.rules.specs.Preferred.{firstOpen}

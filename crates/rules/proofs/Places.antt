@@ -8,7 +8,8 @@ use native.Mathlib.Omega.{arith}
 use borrow.Author.Tests.{eq-eqb, ne-eqb}
 use lib.IntN.{ℤ, pos}
 use lib.ListN.{length, getD, set, length-set}
-use Rattle.words.specs.Words.{opposite, opposite-is}
+use Rattle.words.specs.Words.{opposite}
+use Rattle.words.specs.Laws.Words.{opposite-is}
 use Rattle.rules.specs.Apply.{wiped, search, turn}
 use Rattle.rules.specs.Buffers.{Wiped, Cuttable, lastKind}
 use Rattle.rules.specs.declared.State.the-variants.{Open}

@@ -10,12 +10,14 @@ use lib.ListN.{length, getD, take, drop}
 use lib.Seq.{getD-take, length-take-le}
 use borrow.Author.Tests.{ne-eqb, lt-ltb, le-ltb}
 use Rattle.words.specs.Lists.{any}
-use Rattle.words.specs.Words.{mem, mem-e}
+use Rattle.words.specs.Words.{mem}
+use Rattle.words.specs.Laws.Words.{mem-e}
 use Rattle.formula.specs.Formula.{existential, universal}
 use Rattle.formula.specs.Block.{noVariable, twice}
 use Rattle.formula.specs.Limits.{limits}
-use Rattle.formula.specs.Named.{Named, in-named, all-named}
-use Rattle.formula.specs.Prefix.{one-sign}
+use Rattle.formula.specs.Inner.Named.{Named}
+use Rattle.formula.specs.Laws.Named.{in-named, all-named}
+use Rattle.formula.specs.Laws.Prefix.{one-sign}
 use Rattle.theory.specs.Record.{entry}
 use Rattle.rules.specs.Due.{pick}
 use Rattle.rules.specs.Apply.{recordOf}

@@ -7,8 +7,9 @@ use native.Mathlib.Omega.{arith}
 use lib.IntN.{ℤ, pos, negsuc, natAbs}
 use lib.ListN.{length, getD, set, replicate, length-set, length-replicate}
 use lib.Seq.{getD-set-same, getD-set-other}
-use Rattle.formula.specs.Limits.{limits, variables-are}
-use Rattle.formula.specs.Places.{literalPlaces, placeOf}
+use Rattle.formula.specs.Limits.{limits}
+use Rattle.formula.specs.Laws.Limits.{variables-are}
+use Rattle.formula.specs.Inner.Places.{literalPlaces, placeOf}
 use Rattle.rules.specs.ByLiteral.{statusOf, statusBy, statusIn, Statuses}
 
 -- the variables below v are written

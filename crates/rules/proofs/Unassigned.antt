@@ -8,11 +8,13 @@ use lib.Dec.{eqb}
 use lib.IntN.{ℤ, pos, negsuc, negℤ, natAbs}
 use lib.ListN.{length, getD, drop}
 use borrow.Author.Tests.{eq-eqb, ne-eqb, not-false}
-use Rattle.words.specs.Bools.{not-t}
-use Rattle.words.specs.Lists.{next, ended}
-use Rattle.words.specs.Words.{negative, opposite, opposite-is}
-use Rattle.formula.specs.Limits.{limits, variables-small}
-use Rattle.formula.specs.Named.{all-named}
+use Rattle.words.specs.Laws.Bools.{not-t}
+use Rattle.words.specs.Laws.Lists.{next, ended}
+use Rattle.words.specs.Words.{negative, opposite}
+use Rattle.words.specs.Laws.Words.{opposite-is}
+use Rattle.formula.specs.Limits.{limits}
+use Rattle.formula.specs.Laws.Limits.{variables-small}
+use Rattle.formula.specs.Laws.Named.{all-named}
 use Rattle.theory.specs.Record.{Assignment, assigned}
 use Rattle.rules.specs.declared.Picked.the-variants.{Is, NoLiteral}
 use Rattle.rules.specs.Due.{literal, pick, firstUnassigned}

@@ -8,11 +8,12 @@ use native.Mathlib.Omega.{arith}
 use lib.Dec.{eqb·zero-suc}
 use lib.IntN.{ℤ, pos, negsuc, negℤ, natAbs}
 use lib.ListN.{length, getD, take, set, replicate}
-use Rattle.words.specs.Bools.{clash}
-use Rattle.words.specs.Words.{negative, eqZ, mem, mem-here, mem-other, minus-other}
+use Rattle.words.specs.Laws.Bools.{clash}
+use Rattle.words.specs.Words.{negative, eqZ, mem}
+use Rattle.words.specs.Laws.Words.{mem-here, mem-other, minus-other}
 use Rattle.formula.specs.Limits.{limits}
 use Rattle.formula.specs.Formula.{universal}
-use Rattle.formula.specs.Named.{all-named}
+use Rattle.formula.specs.Laws.Named.{all-named}
 use Rattle.rules.specs.Due.{pick}
 use Rattle.rules.specs.Tables.{Known, places}
 use Rattle.rules.proofs.Filled.{Filled, begin, turn, pass, placed}

@@ -7,13 +7,15 @@ use native.Mathlib.Omega.{arith}
 use lib.IntN.{ℤ, pos, negsuc, natAbs}
 use lib.ListN.{length, getD, take, set, replicate}
 use lib.Seq.{getD-take, take-take, length-take-le}
-use Rattle.words.specs.Bools.{clash}
+use Rattle.words.specs.Laws.Bools.{clash}
 use Rattle.words.specs.Lists.{any}
-use Rattle.words.specs.Words.{negative, eqZ, mem, mem-here, mem-other, plus-other, minus-other}
+use Rattle.words.specs.Words.{negative, eqZ, mem}
+use Rattle.words.specs.Laws.Words.{mem-here, mem-other, plus-other, minus-other}
 use Rattle.formula.specs.Limits.{limits}
 use Rattle.formula.specs.Block.{names}
-use Rattle.formula.specs.Named.{Named, all-named}
-use Rattle.formula.specs.Prefix.{fresh-word, fresh-at}
+use Rattle.formula.specs.Inner.Named.{Named}
+use Rattle.formula.specs.Laws.Named.{all-named}
+use Rattle.formula.specs.Laws.Prefix.{fresh-word, fresh-at}
 use Rattle.theory.specs.Record.{among}
 use Rattle.rules.specs.Tables.{signOf, valueOf, Written, places}
 use Rattle.rules.proofs.Filled.{Filled, begin, turn, placed}

@@ -11,13 +11,13 @@ use lib.IntN.{ℤ, pos, natAbs}
 use lib.ListN.{length, getD, take, drop, length-take, List·getD-eq-default}
 use lib.Seq.{getD-take, getD-drop}
 use borrow.Author.Tests.{ltb-true, ltb-false}
-use Rattle.words.specs.Bools.{look}
-use Rattle.words.specs.Lists.{next}
+use Rattle.words.specs.Laws.Bools.{look}
+use Rattle.words.specs.Laws.Lists.{next}
 use Rattle.formula.specs.Limits.{limits}
 use Rattle.formula.specs.Formula.{clausesFrom}
 use Rattle.formula.specs.Block.{badEnds}
-use Rattle.formula.specs.Ends.{good-end}
-use Rattle.formula.specs.Clauses.{clauses-at, clauses-ended}
+use Rattle.formula.specs.Laws.Ends.{good-end}
+use Rattle.formula.specs.Laws.Clauses.{clauses-at, clauses-ended}
 use Rattle.rules.specs.Clauses.{Placed, Clauses}
 
 -- the clause that begins at `from` and is number c, when it ends at e

@@ -7,7 +7,7 @@ use lib.IntN.{ℤ, natAbs}
 use lib.ListN.{getD}
 use borrow.Author.Tests.{eq-eqb, ne-eqb}
 use Rattle.words.specs.Words.{mem}
-use Rattle.formula.specs.Places.{placeOf, wordAt}
+use Rattle.formula.specs.Inner.Places.{placeOf, wordAt}
 use Rattle.rules.specs.Due.{pick}
 use Rattle.rules.specs.Tables.{signOf}
 

@@ -10,9 +10,11 @@ use lib.Dec.{ltb}
 use lib.IntN.{ℤ}
 use lib.ListN.{getD}
 use borrow.Author.Tests.{lt-ltb, le-ltb, ltb-true, ltb-false}
-use Rattle.words.specs.Bools.{clash, look, and-l, and-r, to-false}
-use Rattle.words.specs.Lists.{In, here, there, all, any, any-i}
-use Rattle.words.specs.Words.{eqZ, eqZ-refl, mem, mem-i, mem-e}
+use Rattle.words.specs.Laws.Bools.{clash, look, and-l, and-r, to-false}
+use Rattle.words.specs.Lists.{In, here, there, all, any}
+use Rattle.words.specs.Laws.Lists.{any-i}
+use Rattle.words.specs.Words.{eqZ, mem}
+use Rattle.words.specs.Laws.Words.{eqZ-refl, mem-i, mem-e}
 use Rattle.formula.specs.Formula.{existential, universal, level}
 use Rattle.theory.specs.Record.{Assignment}
 use Rattle.theory.specs.Tests.{unassignedE, unassignedU, inConflict, unitOn}

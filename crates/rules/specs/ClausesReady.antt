@@ -10,16 +10,19 @@ use lib.Dec.{ltb}
 use lib.IntN.{ℤ, pos, negsuc, negℤ, natAbs}
 use lib.ListN.{length, getD, List·getD-eq-default}
 use borrow.Author.Tests.{ltb-true, ltb-false}
-use Rattle.words.specs.Bools.{clash, look, to-false}
-use Rattle.words.specs.Lists.{In, in-at}
-use Rattle.words.specs.Words.{mem-e}
-use Rattle.formula.specs.Limits.{limits, variables-are}
+use Rattle.words.specs.Laws.Bools.{clash, look, to-false}
+use Rattle.words.specs.Lists.{In}
+use Rattle.words.specs.Laws.Lists.{in-at}
+use Rattle.words.specs.Laws.Words.{mem-e}
+use Rattle.formula.specs.Limits.{limits}
+use Rattle.formula.specs.Laws.Limits.{variables-are}
 use Rattle.formula.specs.Formula.{existential, universal, level, clausesFrom}
 use Rattle.formula.specs.Block.{twice}
-use Rattle.formula.specs.Named.{Named, in-named}
-use Rattle.formula.specs.Prefix.{once-in, level-few}
-use Rattle.formula.specs.Permuted.{all-bound, quantifier}
-use Rattle.formula.specs.Clauses.{clauses-in}
+use Rattle.formula.specs.Inner.Named.{Named}
+use Rattle.formula.specs.Laws.Named.{in-named}
+use Rattle.formula.specs.Laws.Prefix.{once-in, level-few}
+use Rattle.formula.specs.Laws.Permuted.{all-bound, quantifier}
+use Rattle.formula.specs.Laws.Clauses.{clauses-in}
 use Rattle.theory.specs.Record.{Assignment, among, assigned}
 use Rattle.theory.specs.Tests.{unassignedE, unassignedU, inConflict}
 use Rattle.rules.specs.Due.{lowest, lowestUnit}

@@ -10,18 +10,20 @@ use lib.Dec.{ltb}
 use lib.IntN.{ℤ, pos}
 use lib.ListN.{length}
 use borrow.Author.Tests.{ltb-false}
-use Rattle.words.specs.Bools.{clash, or-fl, or-l, or-r, to-false}
-use Rattle.words.specs.Lists.{In, here, there, any, all-e, all-i, any-f, any-none}
-use Rattle.words.specs.Words.{mem, mem-e}
+use Rattle.words.specs.Laws.Bools.{clash, or-fl, or-l, or-r, to-false}
+use Rattle.words.specs.Lists.{In, here, there, any}
+use Rattle.words.specs.Laws.Lists.{all-e, all-i, any-f, any-none}
+use Rattle.words.specs.Words.{mem}
+use Rattle.words.specs.Laws.Words.{mem-e}
 use Rattle.formula.specs.Formula.{Formula, existential, universal}
 use Rattle.formula.specs.Block.{noVariable}
-use Rattle.formula.specs.Named.{named, named-passes}
-use Rattle.formula.specs.Prefix.{stands, stands-bound, universal-existential, existential-universal}
-use Rattle.formula.specs.Permuted.{stands-named, all-stand}
+use Rattle.formula.specs.Laws.Named.{named, named-passes}
+use Rattle.formula.specs.Laws.Prefix.{stands, stands-bound, universal-existential, existential-universal}
+use Rattle.formula.specs.Laws.Permuted.{stands-named, all-stand}
 use Rattle.formula.specs.Proper.{Proper}
 use Rattle.theory.specs.Record.{Entry, entry, Record, literals}
 use Rattle.theory.specs.Start.{suits, allSuit, Good}
-use Rattle.theory.specs.Moves.{suits-stands}
+use Rattle.theory.specs.Laws.Moves.{suits-stands}
 use Rattle.rules.specs.Apply.{recordOf}
 use Rattle.rules.specs.Check.{badKind, badRecord}
 use Rattle.rules.specs.Ready.{Bound, Kept}

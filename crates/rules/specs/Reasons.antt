@@ -3,13 +3,13 @@ use Prim.Native.Nat.{ℕ}
 use mathlib.Core.Path.{_≡_, refl}
 use mathlib.Core.Bool.{true}
 use mathlib.Core.List.{[]}
-use Rattle.words.specs.Lists.{any-i}
+use Rattle.words.specs.Laws.Lists.{any-i}
 use Rattle.words.specs.declared.Literal.{Literal}
 use Rattle.formula.specs.Formula.{Formula}
 use Rattle.theory.specs.Record.{Record, trueIn}
 use Rattle.theory.specs.Tests.{inConflict, conflict, monotone as isMonotone, isOpen}
 use Rattle.theory.specs.Rules.{Conflict, Quiet, Full}
-use Rattle.theory.specs.Progress.{first-open}
+use Rattle.theory.specs.Laws.First.{first-open}
 use Rattle.rules.specs.Due.{onFound, onUnit, onPicked, lowest, last, lowestUnit, firstMonotone, firstUnassigned, dueAssigned, dueDecide, dueMonotone, dueUnit, dueConflict, due}
 use Rattle.rules.specs.Ready.{Bound}
 use Rattle.rules.specs.Passed.{bare, bare-proper}

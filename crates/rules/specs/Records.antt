@@ -12,11 +12,12 @@ use lib.IntN.{ℤ, pos, negℤ, natAbs}
 use lib.ListN.{length, getD, take, drop, set, replicate}
 use lib.Seq.{sets, length-sets, take-set-le}
 use borrow.Author.Tests.{eqb-true, ltb-false, le-ltb, eq-eqb}
-use Rattle.words.specs.Bools.{or-fl, or-fr, and-i, not-f}
-use Rattle.words.specs.Lists.{In, here, there, all, any, any-none, next}
+use Rattle.words.specs.Laws.Bools.{or-fl, or-fr, and-i, not-f}
+use Rattle.words.specs.Lists.{In, here, there, all, any}
+use Rattle.words.specs.Laws.Lists.{any-none, next}
 use Rattle.formula.specs.Formula.{existential, universal}
 use Rattle.formula.specs.Block.{noVariable, twice}
-use Rattle.formula.specs.Named.{named}
+use Rattle.formula.specs.Laws.Named.{named}
 use Rattle.theory.specs.Record.{Entry, entry, Record, literals, without}
 use Rattle.rules.specs.Due.{pick, onFound, last}
 use Rattle.rules.specs.Apply.{recordOf, wiped, search, turn}

@@ -10,16 +10,16 @@ use lib.Dec.{eqb}
 use lib.IntN.{ℤ, pos, negℤ, natAbs}
 use lib.ListN.{length, getD, set, length-set, length-append}
 use borrow.Author.Tests.{eq-eqb}
-use Rattle.words.specs.Bools.{look, clash}
+use Rattle.words.specs.Laws.Bools.{look, clash}
 use Rattle.formula.specs.Formula.{Formula, universal}
-use Rattle.formula.specs.Prefix.{stands-bound}
+use Rattle.formula.specs.Laws.Prefix.{stands-bound}
 use Rattle.theory.specs.Record.{Entry, entry, Record, Assignment, trueIn}
 use Rattle.theory.specs.Tests.{monotone as isMonotone, isOpen}
 use Rattle.theory.specs.Rules.{State as Standing, going, valid, unsat, Quiet, Step}
-use Rattle.theory.specs.Tested.{open-e}
-use Rattle.theory.specs.Monotone.{monotone-wide}
-use Rattle.theory.specs.Good.{good-step}
-use Rattle.theory.specs.Free.{good-taken}
+use Rattle.theory.specs.Laws.Tested.{open-e}
+use Rattle.theory.specs.Laws.Monotone.{monotone-wide}
+use Rattle.theory.specs.Laws.Moves.{good-step}
+use Rattle.theory.specs.Laws.Work.{good-taken}
 use Rattle.rules.specs.Due.{due}
 use Rattle.rules.specs.Apply.{Search, search, recordOf, append, turn, kindOf, chosen, apply}
 use Rattle.rules.specs.Ready.{Kept, Fitting}

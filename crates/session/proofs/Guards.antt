@@ -1,73 +1,77 @@
 -- Which row turns a call away, one law for each way out of the guard: the rows passed so far do not hold, the next one does.
 use Prim.Native.Nat.{ℕ, zero, suc}
-use mathlib.Core.Path.{_≡_, sym, _∙_}
+use mathlib.Core.Path.{_≡_, refl, sym, _∙_}
 use mathlib.Core.Bool.{Bool, true, false, not}
 use mathlib.Core.List.{List}
 use native.Mathlib.Omega.{arith}
 use lib.IntN.{ℤ, natAbs}
-use lib.ListN.{drop}
 use borrow.Author.Tests.{eq-eqb, ne-eqb}
+use Rattle.words.specs.Rows.{refusalOf}
+use Rattle.words.specs.Laws.Rows.{stops, goes-on}
 use Rattle.words.specs.declared.Literal.{Literal}
 use Rattle.formula.specs.declared.Checked.{Checked}
 use Rattle.formula.specs.declared.Checked.the-variants.{Accepted, Refused}
 use Rattle.formula.specs.Limits.{limits}
 use Rattle.formula.specs.Formula.{prefixOf}
-use Rattle.formula.specs.Block.{first, refusal}
-use Rattle.formula.specs.Check.{checkedOf, checked-accepted}
+use Rattle.formula.specs.Block.{rows, refusal}
+use Rattle.formula.specs.Check.{checkedOf}
+use Rattle.formula.specs.Laws.Check.{checked-accepted, checked-refused}
 use Rattle.theory.specs.Record.{Assignment}
 use Rattle.theory.specs.Tests.{isOpen}
 use Rattle.rules.specs.declared.Rule.{Rule}
 use Rattle.rules.specs.Check.{badRecord}
 use Rattle.session.specs.declared.Revision.{Revision}
 use Rattle.session.specs.declared.Session.{Session}
-use Rattle.session.specs.Refusals.{short, over, decides, after, openRows, openRefusal}
-use Rattle.session.specs.Rows.{after-passed, after-stopped}
-use Rattle.session.specs.Checked.{sessionRows, sessionRefusal, proposalRefusal}
+use Rattle.session.specs.Memory.{Memory}
+use Rattle.session.specs.Refusals.{short, over, decides, ofBuffers, openRows, openRefusal, ofSession}
+use Rattle.session.specs.Checked.{sessionRefusal, proposalRefusal}
 
 -- ---- rows 1 to 11
-after-refused : (n k : ℕ) (us : List Bool) → checkedOf n ≡ Refused k → k ≡ after 11 n us
+refused-some : (n k : ℕ) → checkedOf n ≡ Refused k → k ≡ 0 → ⊥
 unfolding checkedOf
-after-refused zero k us e = let z : _≡_ {A = ℕ} 0 1 = cc in absurd (omega arith)
-after-refused (suc n) k us e = cc
+refused-some zero k e z = let y : _≡_ {A = ℕ} 0 1 = cc in omega arith
+refused-some (suc n) k e z = let y : k ≡ suc n = cc in omega arith
 
-module _ (b ls : List ℤ) (ks : List ℕ) {r : Checked} (e : r ≡ checkedOf (refusal limits b)) where
-  pub block-refused : (k : ℕ) → r ≡ Refused k → k ≡ openRefusal b ls ks
-  unfolding openRefusal
-  block-refused k h = after-refused (refusal limits b) k (openRows b ls ks) (sym e ∙ h)
+module _ (b : List ℤ) (m : Memory) {r : Checked} (e : r ≡ checkedOf (refusal limits b)) where
+  pub block-refused : (k : ℕ) → r ≡ Refused k → k ≡ openRefusal b m
+  unfolding openRefusal refusal
+  block-refused k h = stops (rows limits b) (ofBuffers b m) (sym (checked-refused (refusal limits b) k (sym e ∙ h))) (refused-some (refusal limits b) k (sym e ∙ h))
 
-  module _ (h : r ≡ Accepted) {t : Bool} (tested : t ≡ short b ls ks) where
-    pub buffers-short : t ≡ true → 11 ≡ openRefusal b ls ks
-    unfolding openRefusal
-    buffers-short x = rw (checked-accepted (refusal limits b) (sym e ∙ h), ← tested, x)
+  module _ (h : r ≡ Accepted) {t : Bool} (tested : t ≡ short b m) where
+    from-11 : openRefusal b m ≡ refusalOf (ofBuffers b m)
+    unfolding openRefusal refusal
+    from-11 = goes-on (rows limits b) (ofBuffers b m) refl (checked-accepted (refusal limits b) (sym e ∙ h))
 
-    pub buffers-pass : t ≡ false → 0 ≡ openRefusal b ls ks
-    unfolding openRefusal
-    buffers-pass x = rw (checked-accepted (refusal limits b) (sym e ∙ h), ← tested, x)
+    pub buffers-short : t ≡ true → 11 ≡ openRefusal b m
+    buffers-short x = rw (from-11, ← tested, x)
+
+    pub buffers-pass : t ≡ false → 0 ≡ openRefusal b m
+    buffers-pass x = rw (from-11, ← tested, x)
 
 -- ---- rows 1 to 14
-module _ (s : Session) (b ls : List ℤ) (ks : List ℕ) (seen : Revision) {r : ℕ} (e : r ≡ openRefusal b ls ks) where
-  pub session-buffers : (r ≡ 0 → ⊥) → r ≡ sessionRefusal s b ls ks seen
+module _ (s : Session) (b : List ℤ) (m : Memory) (seen : Revision) {r : ℕ} (e : r ≡ openRefusal b m) where
+  pub session-buffers : (r ≡ 0 → ⊥) → r ≡ sessionRefusal s b m seen
   unfolding openRefusal sessionRefusal
-  session-buffers f = sym (after-stopped (refusal limits b) (openRows b ls ks) (drop 1 (sessionRows s b ls ks seen)) (sym e) f)
+  session-buffers f = stops (openRows b m) (ofSession s b m seen) e f
 
   module _ (z : r ≡ 0) where
-    from-12 : sessionRefusal s b ls ks seen ≡ first 12 (drop 1 (sessionRows s b ls ks seen))
+    from-12 : sessionRefusal s b m seen ≡ refusalOf (ofSession s b m seen)
     unfolding openRefusal sessionRefusal
-    from-12 = after-passed (refusal limits b) (openRows b ls ks) (drop 1 (sessionRows s b ls ks seen)) (sym e ∙ z)
+    from-12 = goes-on (openRows b m) (ofSession s b m seen) refl (sym e ∙ z)
 
-    module _ {t : Bool} (bad : t ≡ badRecord (prefixOf b) ls ks (s .length)) where
-      pub session-record : t ≡ true → 12 ≡ sessionRefusal s b ls ks seen
+    module _ {t : Bool} (bad : t ≡ badRecord (prefixOf b) (m .lits) (m .kinds) (s .length)) where
+      pub session-record : t ≡ true → 12 ≡ sessionRefusal s b m seen
       session-record x = rw (from-12, ← bad, x)
 
       module _ (x : t ≡ false) {u : Bool} (ended : u ≡ over (s .state)) where
-        pub session-over : u ≡ true → 13 ≡ sessionRefusal s b ls ks seen
+        pub session-over : u ≡ true → 13 ≡ sessionRefusal s b m seen
         session-over y = rw (from-12, ← bad, x, ← ended, y)
 
         module _ (y : u ≡ false) where
-          pub session-stale : (seen .0 ≡ s .revision .0 → ⊥) → 14 ≡ sessionRefusal s b ls ks seen
+          pub session-stale : (seen .0 ≡ s .revision .0 → ⊥) → 14 ≡ sessionRefusal s b m seen
           session-stale f = rw (from-12, ← bad, x, ← ended, y, ne-eqb (seen .0) (s .revision .0) f)
 
-          pub session-passes : seen .0 ≡ s .revision .0 → 0 ≡ sessionRefusal s b ls ks seen
+          pub session-passes : seen .0 ≡ s .revision .0 → 0 ≡ sessionRefusal s b m seen
           session-passes q = rw (from-12, ← bad, x, ← ended, y, eq-eqb (seen .0) (s .revision .0) q)
 
 -- ---- rows 16 and 17

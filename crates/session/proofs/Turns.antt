@@ -7,7 +7,7 @@ use native.Mathlib.Nat.{sub-zero}
 use native.Mathlib.Omega.{arith}
 use lib.IntN.{ℤ}
 use lib.ListN.{length, take}
-use Rattle.words.specs.Bools.{clash}
+use Rattle.words.specs.Laws.Bools.{clash}
 use Rattle.words.specs.declared.Literal.{Literal}
 use Rattle.formula.specs.Formula.{prefixOf, formulaOf}
 use Rattle.theory.specs.Record.{among}
@@ -21,12 +21,13 @@ use Rattle.rules.specs.Apply.{Search, search, reached, recordOf, apply}
 use Rattle.rules.specs.Steps.{apply-lengths}
 use Rattle.rules.proofs.Kept.{kept-true}
 use Rattle.session.specs.Refusals.{over}
+use Rattle.session.specs.Memory.{memory}
 use Rattle.session.specs.Checked.{OnBlock, proposalOf}
 use Rattle.session.specs.Run.{trip, advance, runFrom}
 use Rattle.session.specs.Accepted.{over-open}
 use Rattle.session.specs.Advance.{apply-proposal, advance-keeps, run-ended, turn-more, turn-last}
 
-module _ {b ls : List ℤ} {ks : List ℕ} {n : ℕ} (o : OnBlock b ls ks n) (preferred : List ℤ) where
+module _ {b ls : List ℤ} {ks : List ℕ} {n : ℕ} (o : OnBlock b (memory ls ks) n) (preferred : List ℤ) where
   -- the due rule, with the proposal that the preferences give it
   pub advanced : {rule : Rule} → rule ≡ due (formulaOf b) (recordOf ls ks n)
       → {l : Literal} → l ≡ literal (proposalOf (prefixOf b) (among (take n ls)) preferred rule)
@@ -43,7 +44,7 @@ module _ {b ls : List ℤ} {ks : List ℕ} {n : ℕ} (o : OnBlock b ls ks n) (pr
   abbrev next : Search
   next = advance (formulaOf b) preferred (search ls ks n Open)
 
-  advance-on : OnBlock b (next .lits) (next .kinds) (next .count)
+  advance-on : OnBlock b (memory (next .lits) (next .kinds)) (next .count)
   unfolding formulaOf
   advance-on = record { block = o .block; kept = advance-keeps (formulaOf b) preferred (search ls ks n Open) (o .kept) }
 
@@ -53,13 +54,13 @@ module _ {b ls : List ℤ} {ks : List ℕ} {n : ℕ} (o : OnBlock b ls ks n) (pr
 
 -- ---- the loop: from the first buffers to the present ones, with some steps of the budget done
 pub record Turn (b : List ℤ) (ls₀ : List ℤ) (ks₀ : List ℕ) (n budget : ℕ) (preferred : List ℤ) (ls : List ℤ) (ks : List ℕ) (at : Reached) (steps : ℕ) : Type 0 where
-  pub on : OnBlock b ls ks (at .count)
+  pub on : OnBlock b (memory ls ks) (at .count)
   pub within : steps ≤ budget
   pub lits-long : length ls ≡ length ls₀
   pub kinds-long : length ks ≡ length ks₀
   pub same : runFrom (formulaOf b) preferred (budget - steps) (reached at ls ks) steps ≡ runFrom (formulaOf b) preferred budget (search ls₀ ks₀ n Open) 0
 
-pub begun : {b ls : List ℤ} {ks : List ℕ} {n : ℕ} → OnBlock b ls ks n → (budget : ℕ) (preferred : List ℤ) → Turn b ls ks n budget preferred ls ks (record { count = n; state = Open }) 0
+pub begun : {b ls : List ℤ} {ks : List ℕ} {n : ℕ} → OnBlock b (memory ls ks) n → (budget : ℕ) (preferred : List ℤ) → Turn b ls ks n budget preferred ls ks (record { count = n; state = Open }) 0
 begun o budget preferred = record { on = o; within = omega arith; lits-long = refl; kinds-long = refl; same = rw sub-zero }
 
 module _
@@ -85,7 +86,7 @@ module _
         let live = over-open (at .state) (sym e ∙ f) in
         let long = advance-lengths (t .on) preferred in
         record {
-          on = subst (λ (u : Search). OnBlock b (u .lits) (u .kinds) (u .count)) (sym a) (advance-on (t .on) preferred);
+          on = subst (λ (u : Search). OnBlock b (memory (u .lits) (u .kinds)) (u .count)) (sym a) (advance-on (t .on) preferred);
           within = omega arith;
           lits-long = ap (λ (u : Search). length (u .lits)) a ∙ long .0 ∙ t .lits-long;
           kinds-long = ap (λ (u : Search). length (u .kinds)) a ∙ long .1 ∙ t .kinds-long;

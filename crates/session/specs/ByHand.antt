@@ -21,6 +21,7 @@ use Rattle.session.specs.declared.Revision.{Revision}
 use Rattle.session.specs.declared.Session.{Session}
 use Rattle.session.specs.declared.Ran.{Ran}
 use Rattle.session.specs.declared.Ran.the-variants.{Until, Stopped}
+use Rattle.session.specs.Memory.{memoryOf}
 use Rattle.session.specs.Refusals.{lastRevision, decides, runRefusal}
 use Rattle.session.specs.Accepted.{Guarded, run-guarded, step-passes}
 use Rattle.session.specs.Outcome.{moved, searchOf}
@@ -39,7 +40,7 @@ proposalAt F r preferred = proposalOf (F .prefix) (trueIn r) preferred (due F r)
 -- one step by hand with that proposal, at the revision of the moment; and n of them
 unfoldable pub handed : List ℤ → List ℤ → Desk → Desk
 handed b preferred d =
-    let r = recordOf (d .lits) (d .kinds) (d .latest .length) in
+    let r = recordOf (d .memory .lits) (d .memory .kinds) (d .latest .length) in
     call b d (step (d .latest .revision) (literal (proposalAt (formulaOf b) r preferred)))
 
 unfoldable pub byHand : List ℤ → List ℤ → ℕ → Desk → Desk
@@ -58,10 +59,10 @@ proposal-permitted p ρ false x a = inl refl
 -- ---- steps by hand, rule by rule
 -- a desk whose search has gone on by n accepted steps
 abbrev deskAfter : Desk → ℕ → Search → Desk
-deskAfter d n u = desk (moved (d .latest) n u) (u .lits) (u .kinds) (d .steps + n)
+deskAfter d n u = desk (moved (d .latest) n u) (memoryOf u) (d .steps + n)
 
 abbrev pub searchAt : Desk → Search
-searchAt d = searchOf (d .latest) (d .lits) (d .kinds)
+searchAt d = searchOf (d .latest) (d .memory)
 
 module _ (b : List ℤ) (block : refusal limits b ≡ 0) (preferred : List ℤ) where
   hand-step : (d : Desk) → KeptIn (prefixOf b) (searchAt d) → d .latest .state ≡ Open → d .latest .revision .0 < lastRevision
@@ -72,10 +73,10 @@ module _ (b : List ℤ) (block : refusal limits b ≡ 0) (preferred : List ℤ) 
       let F = formulaOf b in
       let x = firstOpen (F .prefix) (trueIn r) preferred in
       let l = literal (proposalAt F r preferred) in
-      let g : Guarded (d .latest) b (d .lits) (d .kinds) (d .latest .revision) = record { block = block; kept = k; live = o; current = refl } in
+      let g : Guarded (d .latest) b (d .memory) (d .latest .revision) = record { block = block; kept = k; live = o; current = refl } in
       let below : d .latest .revision .0 ≡ lastRevision → ⊥ = λ e. omega arith in
-      let e = step-passes (d .latest) b (d .lits) (d .kinds) (d .latest .revision) g below l (proposal-due (decides (due F r)) x) (proposal-permitted (F .prefix) (trueIn r) (decides (due F r)) x (first-open (F .prefix) (trueIn r) preferred)) in
-      rw (accepted-is (d .latest) b (d .lits) (d .kinds) (d .latest .revision) l e, apply-proposal (F .prefix) (due F r) x (searchAt d))
+      let e = step-passes (d .latest) b (d .memory) (d .latest .revision) g below l (proposal-due (decides (due F r)) x) (proposal-permitted (F .prefix) (trueIn r) (decides (due F r)) x (first-open (F .prefix) (trueIn r) preferred)) in
+      rw (accepted-is (d .latest) b (d .memory) (d .latest .revision) l e, apply-proposal (F .prefix) (due F r) x (searchAt d))
 
   hand-goes : (c : ℕ) (d : Desk) → KeptIn (prefixOf b) (searchAt d) → d .latest .revision .0 + c ≤ lastRevision → ((j : ℕ) → j < c → goOn (formulaOf b) preferred j (searchAt d) .state ≡ Open)
       → byHand b preferred c d ≡ deskAfter d c (goOn (formulaOf b) preferred c (searchAt d))
@@ -110,32 +111,32 @@ module _ (b : List ℤ) (d : Desk) (seen : Revision) (budget : ℕ) (preferred :
   last : Search
   last = goOn (formulaOf b) preferred (taking .taken) (searchAt d)
 
-  run-accepted : runRefusal (d .latest) b (d .lits) (d .kinds) seen budget ≡ 0 → runOf (d .latest) b (d .lits) (d .kinds) seen budget preferred ≡ ran (d .latest) (trip last (taking .taken))
+  run-accepted : runRefusal (d .latest) b (d .memory) seen budget ≡ 0 → runOf (d .latest) b (d .memory) seen budget preferred ≡ ran (d .latest) (trip last (taking .taken))
   unfolding runOf last
   run-accepted e = let z : 0 + taking .taken ≡ taking .taken = omega arith in rw (e, taking .reached, z)
 
-  accepted-steps : runRefusal (d .latest) b (d .lits) (d .kinds) seen budget ≡ 0 → byHand b preferred (taking .taken) d ≡ deskAfter d (taking .taken) last
+  accepted-steps : runRefusal (d .latest) b (d .memory) seen budget ≡ 0 → byHand b preferred (taking .taken) d ≡ deskAfter d (taking .taken) last
   unfolding last
   accepted-steps e =
-      let g = run-guarded (d .latest) b (d .lits) (d .kinds) seen budget e in
+      let g = run-guarded (d .latest) b (d .memory) seen budget e in
       let h = taking .within in
       hand-goes b (g .guard .block) preferred (taking .taken) d (g .guard .kept) (omega (arith, g .below)) (taking .live)
 
   -- a run is the steps that it counts
-  pub run-is-steps : call b d (run seen budget preferred) ≡ byHand b preferred (counted (runOf (d .latest) b (d .lits) (d .kinds) seen budget preferred .answer)) d
+  pub run-is-steps : call b d (run seen budget preferred) ≡ byHand b preferred (counted (runOf (d .latest) b (d .memory) seen budget preferred .answer)) d
   unfolding call byHand
-  run-is-steps = go (runRefusal (d .latest) b (d .lits) (d .kinds) seen budget) refl
+  run-is-steps = go (runRefusal (d .latest) b (d .memory) seen budget) refl
     where
-      go : (n : ℕ) → runRefusal (d .latest) b (d .lits) (d .kinds) seen budget ≡ n → call b d (run seen budget preferred) ≡ byHand b preferred (counted (runOf (d .latest) b (d .lits) (d .kinds) seen budget preferred .answer)) d
+      go : (n : ℕ) → runRefusal (d .latest) b (d .memory) seen budget ≡ n → call b d (run seen budget preferred) ≡ byHand b preferred (counted (runOf (d .latest) b (d .memory) seen budget preferred .answer)) d
       go zero e = rw (run-accepted e) (sym (accepted-steps e))
-      go (suc n) e = rw (run-refused (d .latest) b (d .lits) (d .kinds) seen budget preferred n e)
+      go (suc n) e = rw (run-refused (d .latest) b (d .memory) seen budget preferred n e)
 
   -- "it pauses exactly if it isn't ended when the budget is used": it has paused if its session is open, and then the budget is used
-  pub run-pauses : (s′ : Session) (c : ℕ) → runOf (d .latest) b (d .lits) (d .kinds) seen budget preferred .answer ≡ Until s′ c → (c ≤ budget) × (s′ .state ≡ Open → c ≡ budget)
+  pub run-pauses : (s′ : Session) (c : ℕ) → runOf (d .latest) b (d .memory) seen budget preferred .answer ≡ Until s′ c → (c ≤ budget) × (s′ .state ≡ Open → c ≡ budget)
   unfolding last
-  run-pauses s′ c a = go (runRefusal (d .latest) b (d .lits) (d .kinds) seen budget) refl
+  run-pauses s′ c a = go (runRefusal (d .latest) b (d .memory) seen budget) refl
     where
-      go : (n : ℕ) → runRefusal (d .latest) b (d .lits) (d .kinds) seen budget ≡ n → (c ≤ budget) × (s′ .state ≡ Open → c ≡ budget)
+      go : (n : ℕ) → runRefusal (d .latest) b (d .memory) seen budget ≡ n → (c ≤ budget) × (s′ .state ≡ Open → c ≡ budget)
       go zero e =
           let a′ = rw (run-accepted e) at a in
           let x : taking .taken ≡ c = cc in
@@ -143,5 +144,5 @@ module _ (b : List ℤ) (d : Desk) (seen : Revision) (budget : ℕ) (preferred :
           let h = taking .within in
           (omega arith, λ o. sym x ∙ taking .used (ap (λ (s : Session). s .state) y ∙ o))
       go (suc n) e =
-          let a′ = rw (run-refused (d .latest) b (d .lits) (d .kinds) seen budget preferred n e) at a in
+          let a′ = rw (run-refused (d .latest) b (d .memory) seen budget preferred n e) at a in
           let z : _≡_ {A = ℕ} 0 1 = cc in absurd (omega arith)

@@ -2,46 +2,42 @@
 -- the outcomes needs none of it; one of a run's steps by hand needs `proposalOf`.
 use Prim.Native.Nat.{ℕ}
 use mathlib.Core.Path.{_≡_}
-use mathlib.Core.Bool.{Bool, not, _&&_}
-use mathlib.Core.List.{List, [], _∷_, _++_}
+use mathlib.Core.List.{List}
 use lib.IntN.{ℤ, pos}
+use Rattle.words.specs.Rows.{refusalOf}
 use Rattle.words.specs.declared.Literal.{Literal}
 use Rattle.formula.specs.Limits.{limits}
 use Rattle.formula.specs.Formula.{prefixOf}
-use Rattle.formula.specs.Block.{first, refusal}
+use Rattle.formula.specs.Block.{refusal}
 use Rattle.theory.specs.Record.{Assignment}
-use Rattle.theory.specs.Tests.{isOpen}
 use Rattle.rules.specs.declared.Rule.{Rule}
 use Rattle.rules.specs.Due.{pick}
 use Rattle.rules.specs.Preferred.{firstOpen}
-use Rattle.rules.specs.Check.{badRecord}
 use Rattle.rules.specs.Ready.{Kept, Held}
 use Rattle.rules.specs.Buffers.{Lent}
 use Rattle.session.specs.declared.Revision.{Revision}
 use Rattle.session.specs.declared.Session.{Session}
-use Rattle.session.specs.Refusals.{over, stale, decides, proposed, after, openRows}
+use Rattle.session.specs.Memory.{Memory}
+use Rattle.session.specs.Refusals.{decides, ofProposal, sessionRows}
 
 -- rows 1 to 14
-module _ (s : Session) (b ls : List ℤ) (ks : List ℕ) (seen : Revision) where
-  abbrev pub sessionRows : List Bool
-  sessionRows = openRows b ls ks ++ (badRecord (prefixOf b) ls ks (s .length) ∷ over (s .state) ∷ stale s seen ∷ [])
-
+module _ (s : Session) (b : List ℤ) (m : Memory) (seen : Revision) where
   unfoldable pub sessionRefusal : ℕ
-  sessionRefusal = after 11 (refusal limits b) sessionRows
+  sessionRefusal = refusalOf (sessionRows s b m seen)
 
 -- rows 16 and 17, where the rule is due
 unfoldable pub proposalRefusal : List ℤ → Assignment → Rule → Literal → ℕ
-proposalRefusal p ρ rule l = first 16 ((proposed l && not (decides rule)) ∷ (proposed l && not (isOpen p ρ (l .0))) ∷ [])
+proposalRefusal p ρ rule l = refusalOf (ofProposal p ρ rule l)
 
 -- the block passes rows 1 to 10, and the buffers row 11
-pub record BuffersOn (b ls : List ℤ) (ks : List ℕ) : Type 0 where
+pub record BuffersOn (b : List ℤ) (m : Memory) : Type 0 where
   pub block : refusal limits b ≡ 0
-  pub lent : Lent (prefixOf b) ls ks
+  pub lent : Lent (prefixOf b) (m .lits) (m .kinds)
 
 -- and then row 12: the buffers have a record of n entries
-pub record OnBlock (b ls : List ℤ) (ks : List ℕ) (n : ℕ) : Type 0 where
+pub record OnBlock (b : List ℤ) (m : Memory) (n : ℕ) : Type 0 where
   pub block : refusal limits b ≡ 0
-  pub kept : Kept (prefixOf b) ls ks n
+  pub kept : Kept (prefixOf b) (m .lits) (m .kinds) n
 
 -- the part of it that says which literals are true, with no kinds
 pub record HeldOn (b ls : List ℤ) (n : ℕ) : Type 0 where

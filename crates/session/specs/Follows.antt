@@ -17,43 +17,44 @@ use Rattle.rules.specs.Written.{Aside, apply-untouched, apply-zeros, apply-ende
 use Rattle.session.specs.declared.Revision.{Revision}
 use Rattle.session.specs.declared.Session.{Session}
 use Rattle.session.specs.declared.Answer.the-variants.{To}
+use Rattle.session.specs.Memory.{Memory, memoryOf}
 use Rattle.session.specs.Refusals.{stepRefusal}
 use Rattle.session.specs.Accepted.{step-guarded}
 use Rattle.session.specs.Refused.{unless-to}
 use Rattle.session.specs.Outcome.{moved, searchOf, stepped, stepOutcome}
 
 -- from a session s and its buffers to the next, by an accepted step with the proposal l
-pub record Follows (b : List ℤ) (l : ℤ) (s s′ : Session) (ls ls′ : List ℤ) (ks ks′ : List ℕ) : Type 0 where
+pub record Follows (b : List ℤ) (l : ℤ) (s s′ : Session) (m m′ : Memory) : Type 0 where
   -- it is the due rule, and a rule of the theory
-  pub rule : searchOf s′ ls′ ks′ ≡ apply (prefixOf b) (due (formulaOf b) (recordOf ls ks (s .length))) l (searchOf s ls ks)
-  pub step : Step (formulaOf b) (recordOf ls ks (s .length)) (stateOf (searchOf s′ ls′ ks′))
+  pub rule : searchOf s′ m′ ≡ apply (prefixOf b) (due (formulaOf b) (recordOf (m .lits) (m .kinds) (s .length))) l (searchOf s m)
+  pub step : Step (formulaOf b) (recordOf (m .lits) (m .kinds) (s .length)) (stateOf (searchOf s′ m′))
   -- "An accepted step adds one to the revision."
   pub revision : s′ .revision .0 ≡ s .revision .0 + 1
   -- "A cut sets the places from the new to the old length to 0 in both buffers."
-  pub zeros : (j : ℕ) → s′ .length ≤ j → j < s .length → (getD ls′ j (pos 0) ≡ pos 0) × (getD ks′ j 0 ≡ 0)
+  pub zeros : (j : ℕ) → s′ .length ≤ j → j < s .length → (getD (m′ .lits) j (pos 0) ≡ pos 0) × (getD (m′ .kinds) j 0 ≡ 0)
   -- "No other place is written": but for the last entry and those, all are as they were
-  pub untouched : (j : ℕ) → Aside j (s .length) (s′ .length) → (getD ls′ j (pos 0) ≡ getD ls j (pos 0)) × (getD ks′ j 0 ≡ getD ks j 0)
-  pub lengths : (length ls′ ≡ length ls) × (length ks′ ≡ length ks)
+  pub untouched : (j : ℕ) → Aside j (s .length) (s′ .length) → (getD (m′ .lits) j (pos 0) ≡ getD (m .lits) j (pos 0)) × (getD (m′ .kinds) j 0 ≡ getD (m .kinds) j 0)
+  pub lengths : (length (m′ .lits) ≡ length (m .lits)) × (length (m′ .kinds) ≡ length (m .kinds))
   -- "Fail and Succeed leave the record."
-  pub ended : (s′ .state ≡ Open → ⊥) → (ls′ ≡ ls) × (ks′ ≡ ks) × (s′ .length ≡ s .length)
+  pub ended : (s′ .state ≡ Open → ⊥) → ((m′ .lits) ≡ (m .lits)) × ((m′ .kinds) ≡ (m .kinds)) × (s′ .length ≡ s .length)
   -- rows 11 and 12 would pass again
-  pub kept : KeptIn (prefixOf b) (searchOf s′ ls′ ks′)
+  pub kept : KeptIn (prefixOf b) (searchOf s′ m′)
 
-module _ (s : Session) (b ls : List ℤ) (ks : List ℕ) (seen : Revision) (l : Literal) where
+module _ (s : Session) (b : List ℤ) (m : Memory) (seen : Revision) (l : Literal) where
   next : Search
-  next = apply (prefixOf b) (due (formulaOf b) (recordOf ls ks (s .length))) (l .0) (searchOf s ls ks)
+  next = apply (prefixOf b) (due (formulaOf b) (recordOf (m .lits) (m .kinds) (s .length))) (l .0) (searchOf s m)
 
   -- a step that breaks no row
-  pub accepted-is : stepRefusal s b ls ks seen l ≡ 0 → stepOutcome s b ls ks seen l ≡ stepped s b l (searchOf s ls ks)
+  pub accepted-is : stepRefusal s b m seen l ≡ 0 → stepOutcome s b m seen l ≡ stepped s b l (searchOf s m)
   unfolding stepOutcome
   accepted-is e = rw e
 
-  follows-next : stepRefusal s b ls ks seen l ≡ 0 → Follows b (l .0) s (moved s 1 next) ls (next .lits) ks (next .kinds)
+  follows-next : stepRefusal s b m seen l ≡ 0 → Follows b (l .0) s (moved s 1 next) m (memoryOf next)
   unfolding next formulaOf
   follows-next e =
-      let g = step-guarded s b ls ks seen l e in
-      let t = searchOf s ls ks in
-      let rule = due (formulaOf b) (recordOf ls ks (s .length)) in
+      let g = step-guarded s b m seen l e in
+      let t = searchOf s m in
+      let rule = due (formulaOf b) (recordOf (m .lits) (m .kinds) (s .length)) in
       record {
         rule = refl;
         step = due-step (formulaOf b) t (g .guard .kept) (l .0) (g .permitted);
@@ -66,11 +67,11 @@ module _ (s : Session) (b ls : List ℤ) (ks : List ℕ) (seen : Revision) (l : 
       }
 
   -- an answer with a session comes from such a step
-  pub answered-accepted : (s′ : Session) → stepOutcome s b ls ks seen l .answer ≡ To s′ → stepRefusal s b ls ks seen l ≡ 0
+  pub answered-accepted : (s′ : Session) → stepOutcome s b m seen l .answer ≡ To s′ → stepRefusal s b m seen l ≡ 0
   unfolding stepOutcome
-  answered-accepted = unless-to (stepRefusal s b ls ks seen l) ls ks (stepped s b l (searchOf s ls ks))
+  answered-accepted = unless-to (stepRefusal s b m seen l) m (stepped s b l (searchOf s m))
 
-  pub accepted-step : (s′ : Session) → let o = stepOutcome s b ls ks seen l in o .answer ≡ To s′ → Follows b (l .0) s s′ ls (o .lits) ks (o .kinds)
+  pub accepted-step : (s′ : Session) → let o = stepOutcome s b m seen l in o .answer ≡ To s′ → Follows b (l .0) s s′ m (o .memory)
   unfolding next
   accepted-step s′ a =
       let e = answered-accepted s′ a in

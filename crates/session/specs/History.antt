@@ -7,22 +7,16 @@ use mathlib.Core.Logic.{inl}
 use mathlib.Core.Bool.{true, false}
 use mathlib.Core.List.{List, [], _∷_}
 use native.Mathlib.Omega.{arith}
-use lib.Dec.{ltb}
 use lib.IntN.{ℤ, pos}
-use lib.ListN.{length}
-use borrow.Author.Tests.{ltb-false}
-use Rattle.words.specs.Bools.{or-fl, or-fr}
+use Rattle.words.specs.Outcomes.{Outcome}
 use Rattle.words.specs.declared.Literal.{Literal}
 use Rattle.formula.specs.Limits.{limits}
 use Rattle.formula.specs.Formula.{formulaOf, variablesOf, prefixOf}
 use Rattle.formula.specs.Block.{refusal}
 use Rattle.formula.specs.Truth.{true?}
 use Rattle.theory.specs.Rules.{going, Path, stop}
-use Rattle.theory.specs.Paths.{path-snoc}
-use Rattle.theory.specs.Sound.{sound-formula}
-use Rattle.theory.specs.Good.{good-none}
-use Rattle.theory.specs.Finite.{finite-formula}
-use Rattle.theory.specs.Progress.{never-stuck}
+use Rattle.theory.specs.Laws.Moves.{path-snoc, good-none}
+use Rattle.theory.specs.Theorem.{sound-formula, finite-formula, never-stuck}
 use Rattle.rules.specs.declared.State.the-variants.{Open, Valid, Unsat}
 use Rattle.rules.specs.Due.{literal}
 use Rattle.rules.specs.Apply.{recordOf, wiped}
@@ -33,11 +27,11 @@ use Rattle.session.specs.declared.Revision.{Revision}
 use Rattle.session.specs.declared.Session.{Session}
 use Rattle.session.specs.declared.Answer.{Answer}
 use Rattle.session.specs.declared.Answer.the-variants.{To, Refused}
-use Rattle.session.specs.Refusals.{lastRevision, openRows, openRefusal}
-use Rattle.session.specs.Rows.{after-zero}
-use Rattle.session.specs.Outcome.{Outcome, session, openOutcome, stepOutcome}
+use Rattle.session.specs.Memory.{Memory, memory}
+use Rattle.session.specs.Refusals.{lastRevision, openRefusal}
+use Rattle.session.specs.Outcome.{session, openOutcome, stepOutcome}
 use Rattle.session.specs.Play.{Desk, desk, Call, step, run, afterStep, call, play}
-use Rattle.session.specs.Accepted.{prefix-length, accepted-bound, accepted-proper, Guarded, step-guarded, step-last, step-passes}
+use Rattle.session.specs.Accepted.{prefix-length, opened as opens, accepted-proper, Guarded, step-guarded, step-last, step-passes}
 use Rattle.session.specs.Refused.{unless-to, step-refused, step-refused-leaves}
 use Rattle.session.specs.Follows.{Follows, accepted-is, accepted-step, answered-accepted}
 use Rattle.session.specs.ByHand.{searchAt, handed, byHand, run-is-steps}
@@ -54,9 +48,9 @@ pub record Demand (b : List ℤ) (first : ℕ) (d : Desk) : Type 0 where
   pub unsat-false : d .latest .state ≡ Unsat → true? (formulaOf b) ≡ false
   -- "while open, a step with proposal 0 at the session's revision is accepted unless the revision is 2^64 - 1, and then refused with 15"
   pub accepted : d .latest .state ≡ Open → (d .latest .revision .0 ≡ lastRevision → ⊥)
-      → (s : Session) × (stepOutcome (d .latest) b (d .lits) (d .kinds) (d .latest .revision) (literal (pos 0)) .answer ≡ To s)
+      → (s : Session) × (stepOutcome (d .latest) b (d .memory) (d .latest .revision) (literal (pos 0)) .answer ≡ To s)
   pub refused : d .latest .state ≡ Open → d .latest .revision .0 ≡ lastRevision
-      → stepOutcome (d .latest) b (d .lits) (d .kinds) (d .latest .revision) (literal (pos 0)) .answer ≡ Refused 15
+      → stepOutcome (d .latest) b (d .memory) (d .latest .revision) (literal (pos 0)) .answer ≡ Refused 15
 
 -- ---- what every call keeps
 record Reached (b : List ℤ) (first : ℕ) (d : Desk) : Type 0 where
@@ -66,8 +60,8 @@ record Reached (b : List ℤ) (first : ℕ) (d : Desk) : Type 0 where
 
 module _ (b : List ℤ) (first : ℕ) where
   -- one more rule
-  grown : (d : Desk) (l : ℤ) (s′ : Session) (ls′ : List ℤ) (ks′ : List ℕ) → Reached b first d → d .latest .state ≡ Open → Follows b l (d .latest) s′ (d .lits) ls′ (d .kinds) ks′ → Reached b first (desk s′ ls′ ks′ (d .steps + 1))
-  grown d l s′ ls′ ks′ r o f =
+  grown : (d : Desk) (l : ℤ) (s′ : Session) (m′ : Memory) → Reached b first d → d .latest .state ≡ Open → Follows b l (d .latest) s′ (d .memory) m′ → Reached b first (desk s′ m′ (d .steps + 1))
+  grown d l s′ m′ r o f =
       let x : d .steps + 1 ≡ suc (d .steps) = omega arith in
       let y = r .revision in
       let z = f .revision in
@@ -79,16 +73,16 @@ module _ (b : List ℤ) (first : ℕ) where
 
   step-reached : (d : Desk) (seen : Revision) (l : Literal) → Reached b first d → Reached b first (call b d (step seen l))
   unfolding call
-  step-reached d seen l r = go (stepOutcome (d .latest) b (d .lits) (d .kinds) seen l .answer) refl
+  step-reached d seen l r = go (stepOutcome (d .latest) b (d .memory) seen l .answer) refl
     where
-      o : Outcome Answer
-      o = stepOutcome (d .latest) b (d .lits) (d .kinds) seen l
+      o : Outcome Memory Answer
+      o = stepOutcome (d .latest) b (d .memory) seen l
 
-      go : (a : Answer) → o .answer ≡ a → Reached b first (afterStep d a (o .lits) (o .kinds))
+      go : (a : Answer) → o .answer ≡ a → Reached b first (afterStep d a (o .memory))
       go (To s′) e =
-          let g = step-guarded (d .latest) b (d .lits) (d .kinds) seen l (answered-accepted (d .latest) b (d .lits) (d .kinds) seen l s′ e) in
-          grown d (l .0) s′ (o .lits) (o .kinds) r (g .guard .live) (accepted-step (d .latest) b (d .lits) (d .kinds) seen l s′ e)
-      go (Refused n) e = let w = step-refused-leaves (d .latest) b (d .lits) (d .kinds) seen l n e in rw (w .lits, w .kinds) r
+          let g = step-guarded (d .latest) b (d .memory) seen l (answered-accepted (d .latest) b (d .memory) seen l s′ e) in
+          grown d (l .0) s′ (o .memory) r (g .guard .live) (accepted-step (d .latest) b (d .memory) seen l s′ e)
+      go (Refused n) e = let w = step-refused-leaves (d .latest) b (d .memory) seen l n e in rw (w .memory) r
 
   hand-reached : (preferred : List ℤ) (c : ℕ) (d : Desk) → Reached b first d → Reached b first (byHand b preferred c d)
   unfolding byHand handed
@@ -106,7 +100,7 @@ module _ (b : List ℤ) (first : ℕ) where
 
 -- ---- what is kept is what is asked
 module _ (b : List ℤ) (block : refusal limits b ≡ 0) (first : ℕ) where
-  guard : (d : Desk) → Reached b first d → d .latest .state ≡ Open → Guarded (d .latest) b (d .lits) (d .kinds) (d .latest .revision)
+  guard : (d : Desk) → Reached b first d → d .latest .state ≡ Open → Guarded (d .latest) b (d .memory) (d .latest .revision)
   guard d r o = record { block = block; kept = r .kept; live = o; current = refl }
 
   demand : (d : Desk) → Reached b first d → Demand b first d
@@ -121,48 +115,46 @@ module _ (b : List ℤ) (block : refusal limits b ≡ 0) (first : ℕ) where
         valid-true = λ e. sound-formula F ok true (rw e at (r .path));
         unsat-false = λ e. sound-formula F ok false (rw e at (r .path));
         accepted = λ o h.
-            let e = step-passes (d .latest) b (d .lits) (d .kinds) (d .latest .revision) (guard d r o) h (literal (pos 0)) (inl refl) (inl refl) in
-            (_, ap (λ (o : Outcome Answer). o .answer) (accepted-is (d .latest) b (d .lits) (d .kinds) (d .latest .revision) (literal (pos 0)) e));
+            let e = step-passes (d .latest) b (d .memory) (d .latest .revision) (guard d r o) h (literal (pos 0)) (inl refl) (inl refl) in
+            (_, ap (λ (o : Outcome Memory Answer). o .answer) (accepted-is (d .latest) b (d .memory) (d .latest .revision) (literal (pos 0)) e));
         refused = λ o h.
-            let e = step-last (d .latest) b (d .lits) (d .kinds) (d .latest .revision) (guard d r o) h (literal (pos 0)) in
-            ap (λ (o : Outcome Answer). o .answer) (step-refused (d .latest) b (d .lits) (d .kinds) (d .latest .revision) (literal (pos 0)) 14 e);
+            let e = step-last (d .latest) b (d .memory) (d .latest .revision) (guard d r o) h (literal (pos 0)) in
+            ap (λ (o : Outcome Memory Answer). o .answer) (step-refused (d .latest) b (d .memory) (d .latest .revision) (literal (pos 0)) 14 e);
       }
 
 -- ---- a fresh desk
-module _ (b xs : List ℤ) (ys : List ℕ) (rev : Revision) where
+module _ (b : List ℤ) (m : Memory) (rev : Revision) where
   opened : Desk
-  opened = desk (session 0 (rev .0) Open) (wiped (pos 0) xs 0 (variablesOf b)) (wiped 0 ys 0 (variablesOf b)) 0
+  opened = desk (session 0 (rev .0) Open) (memory (wiped (pos 0) (m .lits) 0 (variablesOf b)) (wiped 0 (m .kinds) 0 (variablesOf b))) 0
 
-  open-reached : openRefusal b xs ys ≡ 0 → Reached b (rev .0) opened
-  unfolding openRefusal opened formulaOf recordOf
+  open-reached : openRefusal b m ≡ 0 → Reached b (rev .0) opened
+  unfolding opened formulaOf recordOf
   open-reached e =
-      let (h, r) = after-zero (refusal limits b) (openRows b xs ys) e in
+      let o = opens b m e .lent in
       let F = formulaOf b in
       let V′ = variablesOf b in
-      let p = prefix-length b h in
       record {
         path = stop;
         kept = record {
-          prefix = accepted-bound b h;
-          lits-room = rw (wiped-length, p) (ltb-false (length xs) V′ (or-fl _ _ (r 0)));
-          kinds-room = rw (wiped-length, p) (ltb-false (length ys) V′ (or-fr (ltb (length xs) V′) _ (r 0)));
-          good = good-kept F (wiped (pos 0) xs 0 V′) (wiped 0 ys 0 V′) 0 (accepted-bound b h) (omega arith) (good-none F);
+          prefix = o .prefix;
+          lits-room = rw wiped-length (o .room .lits);
+          kinds-room = rw wiped-length (o .room .kinds);
+          good = good-kept F (wiped (pos 0) (m .lits) 0 V′) (wiped 0 (m .kinds) 0 V′) 0 (o .prefix) (omega arith) (good-none F);
         };
         revision = omega arith;
       }
 
   -- an answer with a session comes from an accepted opening
-  opened-is : (s : Session) → let o = openOutcome b xs ys rev in o .answer ≡ To s → (openRefusal b xs ys ≡ 0) × (desk s (o .lits) (o .kinds) 0 ≡ opened)
+  opened-is : (s : Session) → let o = openOutcome b m rev in o .answer ≡ To s → (openRefusal b m ≡ 0) × (desk s (o .memory) 0 ≡ opened)
   unfolding openOutcome opened
   opened-is s a =
-      let e = unless-to (openRefusal b xs ys) xs ys _ s a in
+      let e = unless-to (openRefusal b m) m _ s a in
       let a′ = rw e at a in
       let z : s ≡ session 0 (rev .0) Open = cc in
       (e, rw (e, z))
 
   -- Demand 2: whatever is called after an accepted opening
-  pub any-history : (s : Session) → let o = openOutcome b xs ys rev in o .answer ≡ To s → (calls : List Call) → Demand b (rev .0) (play b (desk s (o .lits) (o .kinds) 0) calls)
-  unfolding openRefusal
+  pub any-history : (s : Session) → let o = openOutcome b m rev in o .answer ≡ To s → (calls : List Call) → Demand b (rev .0) (play b (desk s (o .memory) 0) calls)
   any-history s a calls =
       let (e, z) = opened-is s a in
-      demand b (after-zero (refusal limits b) (openRows b xs ys) e .0) (rev .0) _ (rw z (play-reached b (rev .0) calls opened (open-reached e)))
+      demand b (opens b m e .block) (rev .0) _ (rw z (play-reached b (rev .0) calls opened (open-reached e)))

@@ -1,4 +1,5 @@
 -- Open, step and run: what each answers and leaves, for every input.
+pub mod Memory
 pub mod Refusals
 pub mod Rows
 pub mod Outcome

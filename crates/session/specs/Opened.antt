@@ -12,27 +12,28 @@ use Rattle.rules.specs.Written.{wiped-inside, wiped-outside}
 use Rattle.session.specs.declared.Revision.{Revision}
 use Rattle.session.specs.declared.Session.{Session}
 use Rattle.session.specs.declared.Answer.the-variants.{To}
+use Rattle.session.specs.Memory.{Memory}
 use Rattle.session.specs.Refusals.{openRefusal}
 use Rattle.session.specs.Refused.{unless-to}
 use Rattle.session.specs.Outcome.{session, openOutcome}
 
-pub record Opens (b : List ℤ) (rev : Revision) (s : Session) (ls ls′ : List ℤ) (ks ks′ : List ℕ) : Type 0 where
+pub record Opens (b : List ℤ) (rev : Revision) (s : Session) (m m′ : Memory) : Type 0 where
   -- "The opener gives the first revision."
   pub fresh : s ≡ session 0 (rev .0) Open
-  pub zeros : (j : ℕ) → j < variablesOf b → (getD ls′ j (pos 0) ≡ pos 0) × (getD ks′ j 0 ≡ 0)
-  pub untouched : (j : ℕ) → variablesOf b ≤ j → (getD ls′ j (pos 0) ≡ getD ls j (pos 0)) × (getD ks′ j 0 ≡ getD ks j 0)
-  pub lengths : (length ls′ ≡ length ls) × (length ks′ ≡ length ks)
+  pub zeros : (j : ℕ) → j < variablesOf b → (getD (m′ .lits) j (pos 0) ≡ pos 0) × (getD (m′ .kinds) j 0 ≡ 0)
+  pub untouched : (j : ℕ) → variablesOf b ≤ j → (getD (m′ .lits) j (pos 0) ≡ getD (m .lits) j (pos 0)) × (getD (m′ .kinds) j 0 ≡ getD (m .kinds) j 0)
+  pub lengths : (length (m′ .lits) ≡ length (m .lits)) × (length (m′ .kinds) ≡ length (m .kinds))
 
-pub accepted-open : (b ls : List ℤ) (ks : List ℕ) (rev : Revision) (s : Session) → let o = openOutcome b ls ks rev in
-    o .answer ≡ To s → Opens b rev s ls (o .lits) ks (o .kinds)
+pub accepted-open : (b : List ℤ) (m : Memory) (rev : Revision) (s : Session) → let o = openOutcome b m rev in
+    o .answer ≡ To s → Opens b rev s m (o .memory)
 unfolding openOutcome
-accepted-open b ls ks rev s a =
-    let e = unless-to (openRefusal b ls ks) ls ks _ s a in
+accepted-open b m rev s a =
+    let e = unless-to (openRefusal b m) m _ s a in
     let a′ = rw e at a in
     rw e
     (record {
       fresh = cc;
-      zeros = λ j h. (wiped-inside (pos 0) ls 0 (variablesOf b) j zero-le h, wiped-inside 0 ks 0 (variablesOf b) j zero-le h);
-      untouched = λ j h. (wiped-outside (pos 0) ls 0 (variablesOf b) j (pos 0) (inr h), wiped-outside 0 ks 0 (variablesOf b) j 0 (inr h));
-      lengths = (wiped-length (pos 0) ls 0 (variablesOf b), wiped-length 0 ks 0 (variablesOf b));
+      zeros = λ j h. (wiped-inside (pos 0) (m .lits) 0 (variablesOf b) j zero-le h, wiped-inside 0 (m .kinds) 0 (variablesOf b) j zero-le h);
+      untouched = λ j h. (wiped-outside (pos 0) (m .lits) 0 (variablesOf b) j (pos 0) (inr h), wiped-outside 0 (m .kinds) 0 (variablesOf b) j 0 (inr h));
+      lengths = (wiped-length (pos 0) (m .lits) 0 (variablesOf b), wiped-length 0 (m .kinds) 0 (variablesOf b));
     })

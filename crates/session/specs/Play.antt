@@ -9,39 +9,39 @@ use Rattle.session.specs.declared.Answer.{Answer}
 use Rattle.session.specs.declared.Answer.the-variants.{To, Refused}
 use Rattle.session.specs.declared.Ran.{Ran}
 use Rattle.session.specs.declared.Ran.the-variants.{Until, Stopped}
+use Rattle.session.specs.Memory.{Memory}
 use Rattle.session.specs.Outcome.{stepOutcome}
 use Rattle.session.specs.Run.{runOf}
 
 -- the latest session, the two buffers, and the accepted steps so far
 pub record Desk : Type 0 where
   pub latest : Session
-  pub lits : List ℤ
-  pub kinds : List ℕ
+  pub memory : Memory
   pub steps : ℕ
 
-abbrev pub desk : Session → List ℤ → List ℕ → ℕ → Desk
-desk s ls ks n = record { latest = s; lits = ls; kinds = ks; steps = n }
+abbrev pub desk : Session → Memory → ℕ → Desk
+desk s m n = record { latest = s; memory = m; steps = n }
 
 pub data Call : Type 0 where
   step : Revision → Literal → Call
   run : Revision → ℕ → List ℤ → Call
 
 -- an answer's session and accepted steps; a refused call leaves both
-abbrev pub afterStep : Desk → Answer → List ℤ → List ℕ → Desk
-afterStep d (To s) ls ks = desk s ls ks (d .steps + 1)
-afterStep d (Refused n) ls ks = desk (d .latest) ls ks (d .steps)
+abbrev pub afterStep : Desk → Answer → Memory → Desk
+afterStep d (To s) m = desk s m (d .steps + 1)
+afterStep d (Refused n) m = desk (d .latest) m (d .steps)
 
-abbrev pub afterRun : Desk → Ran → List ℤ → List ℕ → Desk
-afterRun d (Until s n) ls ks = desk s ls ks (d .steps + n)
-afterRun d (Stopped n) ls ks = desk (d .latest) ls ks (d .steps)
+abbrev pub afterRun : Desk → Ran → Memory → Desk
+afterRun d (Until s n) m = desk s m (d .steps + n)
+afterRun d (Stopped n) m = desk (d .latest) m (d .steps)
 
 unfoldable pub call : List ℤ → Desk → Call → Desk
 call b d (step seen l) =
-    let o = stepOutcome (d .latest) b (d .lits) (d .kinds) seen l in
-    afterStep d (o .answer) (o .lits) (o .kinds)
+    let o = stepOutcome (d .latest) b (d .memory) seen l in
+    afterStep d (o .answer) (o .memory)
 call b d (run seen budget preferred) =
-    let o = runOf (d .latest) b (d .lits) (d .kinds) seen budget preferred in
-    afterRun d (o .answer) (o .lits) (o .kinds)
+    let o = runOf (d .latest) b (d .memory) seen budget preferred in
+    afterRun d (o .answer) (o .memory)
 
 unfoldable pub play : List ℤ → Desk → List Call → Desk
 play b d [] = d

@@ -1,15 +1,16 @@
 -- When a call on a session is turned away: the table's rows 11 to 17, after rows 1 to 10, "checked in this order".
-use Prim.Native.Nat.{ℕ, zero, suc, _+_}
+use Prim.Native.Nat.{ℕ, _+_}
 use mathlib.Core.Bool.{Bool, true, false, not, _&&_, _||_}
-use mathlib.Core.List.{List, [], _∷_}
+use mathlib.Core.List.{List, [], _∷_, _++_}
 use lib.Dec.{eqb, ltb}
 use lib.IntN.{ℤ, natAbs}
 use lib.ListN.{length}
+use Rattle.words.specs.Rows.{Row, row, refusalOf}
 use Rattle.words.specs.declared.Literal.{Literal}
 use Rattle.formula.specs.Limits.{limits}
 use Rattle.formula.specs.Formula.{formulaOf, variablesOf, prefixOf}
-use Rattle.formula.specs.Block.{first, refusal}
-use Rattle.theory.specs.Record.{trueIn}
+use Rattle.formula.specs.Block.{rows}
+use Rattle.theory.specs.Record.{Assignment, trueIn}
 use Rattle.theory.specs.Tests.{isOpen}
 use Rattle.rules.specs.declared.State.{State}
 use Rattle.rules.specs.declared.State.the-variants.{Open, Valid, Unsat}
@@ -20,14 +21,15 @@ use Rattle.rules.specs.Apply.{recordOf}
 use Rattle.rules.specs.Check.{badRecord}
 use Rattle.session.specs.declared.Revision.{Revision}
 use Rattle.session.specs.declared.Session.{Session}
+use Rattle.session.specs.Memory.{Memory}
 
 -- the largest revision, 2^64 - 1
 abbrev pub lastRevision : ℕ
 lastRevision = 18446744073709551615
 
 -- 11: "a record buffer shorter than V"
-abbrev pub short : List ℤ → List ℤ → List ℕ → Bool
-short b ls ks = ltb (length ls) (variablesOf b) || ltb (length ks) (variablesOf b)
+abbrev pub short : List ℤ → Memory → Bool
+short b m = ltb (length (m .lits)) (variablesOf b) || ltb (length (m .kinds)) (variablesOf b)
 
 -- 13: "session already ended"
 abbrev pub over : State → Bool
@@ -52,44 +54,54 @@ decides Succeed = false
 abbrev pub proposed : Literal → Bool
 proposed l = not (eqb (natAbs (l .0)) 0)
 
--- the rows before, of which the first that applies has the number n (0 if none does), and then the rows from k on
-abbrev pub after : ℕ → ℕ → List Bool → ℕ
-after k zero rows = first k rows
-after k (suc n) rows = suc n
+-- ---- each call's table: "opening 1 to 11, a step 1 to 17, a run 1 to 15"
+abbrev pub ofBuffers : List ℤ → Memory → List Row
+ofBuffers b m = row 11 (short b m) ∷ []
 
--- the rows from 11 on, of each call
-abbrev pub openRows : List ℤ → List ℤ → List ℕ → List Bool
-openRows b ls ks = short b ls ks ∷ []
+abbrev pub openRows : List ℤ → Memory → List Row
+openRows b m = rows limits b ++ ofBuffers b m
 
-unfoldable pub openRefusal : List ℤ → List ℤ → List ℕ → ℕ
-openRefusal b ls ks = after 11 (refusal limits b) (openRows b ls ks)
+unfoldable pub openRefusal : List ℤ → Memory → ℕ
+openRefusal b m = refusalOf (openRows b m)
 
-module _ (s : Session) (b ls : List ℤ) (ks : List ℕ) (seen : Revision) where
-  abbrev pub stepRows : Literal → List Bool
-  stepRows l =
-      let F = formulaOf b in
-      let r = recordOf ls ks (s .length) in
-      short b ls ks
-      ∷ badRecord (prefixOf b) ls ks (s .length)
-      ∷ over (s .state)
-      ∷ stale s seen
-      ∷ eqb (s .revision .0) lastRevision
-      ∷ (proposed l && not (decides (due F r)))
-      ∷ (proposed l && not (isOpen (F .prefix) (trueIn r) (l .0)))
+-- a proposal, where a rule is due
+abbrev pub ofProposal : List ℤ → Assignment → Rule → Literal → List Row
+ofProposal p ρ rule l =
+    row 16 (proposed l && not (decides rule))
+    ∷ row 17 (proposed l && not (isOpen p ρ (l .0)))
+    ∷ []
+
+module _ (s : Session) (b : List ℤ) (m : Memory) (seen : Revision) where
+  -- what a step and a run share
+  abbrev pub ofSession : List Row
+  ofSession =
+      row 12 (badRecord (prefixOf b) (m .lits) (m .kinds) (s .length))
+      ∷ row 13 (over (s .state))
+      ∷ row 14 (stale s seen)
       ∷ []
+
+  abbrev pub sessionRows : List Row
+  sessionRows = openRows b m ++ ofSession
+
+  abbrev pub ofStep : Literal → List Row
+  ofStep l =
+      let F = formulaOf b in
+      let r = recordOf (m .lits) (m .kinds) (s .length) in
+      row 15 (eqb (s .revision .0) lastRevision)
+      ∷ ofProposal (F .prefix) (trueIn r) (due F r) l
+
+  abbrev pub stepRows : Literal → List Row
+  stepRows l = sessionRows ++ ofStep l
 
   unfoldable pub stepRefusal : Literal → ℕ
-  stepRefusal l = after 11 (refusal limits b) (stepRows l)
+  stepRefusal l = refusalOf (stepRows l)
 
   -- 15 for a run: "revision + budget over 2^64 - 1"
-  abbrev pub runRows : ℕ → List Bool
-  runRows budget =
-      short b ls ks
-      ∷ badRecord (prefixOf b) ls ks (s .length)
-      ∷ over (s .state)
-      ∷ stale s seen
-      ∷ ltb lastRevision (s .revision .0 + budget)
-      ∷ []
+  abbrev pub ofRun : ℕ → List Row
+  ofRun budget = row 15 (ltb lastRevision (s .revision .0 + budget)) ∷ []
+
+  abbrev pub runRows : ℕ → List Row
+  runRows budget = sessionRows ++ ofRun budget
 
   unfoldable pub runRefusal : ℕ → ℕ
-  runRefusal budget = after 11 (refusal limits b) (runRows budget)
+  runRefusal budget = refusalOf (runRows budget)

@@ -3,6 +3,7 @@
 use Prim.Native.Nat.{ℕ, zero, suc, _+_}
 use mathlib.Core.List.{List}
 use lib.IntN.{ℤ}
+use Rattle.words.specs.Outcomes.{Outcome, outcome, unless}
 use Rattle.formula.specs.Formula.{Formula, formulaOf}
 use Rattle.theory.specs.Record.{trueIn}
 use Rattle.rules.specs.declared.State.{State}
@@ -14,8 +15,9 @@ use Rattle.session.specs.declared.Revision.{Revision}
 use Rattle.session.specs.declared.Session.{Session}
 use Rattle.session.specs.declared.Ran.{Ran}
 use Rattle.session.specs.declared.Ran.the-variants.{Until, Stopped}
+use Rattle.session.specs.Memory.{Memory, memoryOf}
 use Rattle.session.specs.Refusals.{runRefusal}
-use Rattle.session.specs.Outcome.{Outcome, outcome, unless, moved, searchOf}
+use Rattle.session.specs.Outcome.{moved, searchOf}
 
 -- where a number of steps lead, and how many they are
 pub record Trip : Type 0 where
@@ -42,10 +44,10 @@ module _ (F : Formula) (preferred : List ℤ) where
   runFrom zero t steps = trip t steps
   runFrom (suc n) t steps = whileOpen (t .state) (runFrom n (advance t) (steps + 1)) (trip t steps)
 
-abbrev pub ran : Session → Trip → Outcome Ran
-ran s u = outcome (Until (moved s (u .steps) (u .reached)) (u .steps)) (u .reached .lits) (u .reached .kinds)
+abbrev pub ran : Session → Trip → Outcome Memory Ran
+ran s u = outcome (Until (moved s (u .steps) (u .reached)) (u .steps)) (memoryOf (u .reached))
 
-unfoldable pub runOf : Session → List ℤ → List ℤ → List ℕ → Revision → ℕ → List ℤ → Outcome Ran
-runOf s b ls ks seen budget preferred =
-    unless Stopped (runRefusal s b ls ks seen budget) ls ks
-    (ran s (runFrom (formulaOf b) preferred budget (searchOf s ls ks) 0))
+unfoldable pub runOf : Session → List ℤ → Memory → Revision → ℕ → List ℤ → Outcome Memory Ran
+runOf s b m seen budget preferred =
+    unless Stopped (runRefusal s b m seen budget) m
+    (ran s (runFrom (formulaOf b) preferred budget (searchOf s m) 0))

@@ -3,6 +3,7 @@ ghost use mathlib.Core.Path.{_≡_};
 ghost use lib.ListN.{take};
 ghost use Rattle.formula.specs.Formula.{prefixOf};
 ghost use Rattle.theory.specs.Record.{among};
+ghost use Rattle.session.specs.Memory.{memory};
 ghost use Rattle.session.specs.Refusals.{short, over, decides, openRefusal};
 ghost use Rattle.session.specs.Checked.{sessionRefusal, proposalRefusal, HeldOn};
 use crate::Revision;
@@ -15,7 +16,7 @@ use words::Literal;
 
 // Whether a buffer has fewer than V places.
 fn is_short(block: &[i32], lits: &[i32], kinds: &[u8]) -> bool
-    ensures { λ r. ⌜ r ≡ short (now (block .entry)) (now (lits .entry)) (now (kinds .entry)) ⌝ }
+    ensures { λ r. ⌜ r ≡ short (now (block .entry)) (memory (now (lits .entry)) (now (kinds .entry))) ⌝ }
 {
     let n = words::size_at(block, 0);
     if lits.len() < n {
@@ -26,7 +27,7 @@ fn is_short(block: &[i32], lits: &[i32], kinds: &[u8]) -> bool
 
 // Rows 1 to 11: the number of the first that applies, 0 if none does. A page asks them too.
 pub fn of_buffers(block: &[i32], lits: &[i32], kinds: &[u8]) -> u32
-    ensures { λ r. ⌜ r ≡ openRefusal (now (block .entry)) (now (lits .entry)) (now (kinds .entry)) ⌝ }
+    ensures { λ r. ⌜ r ≡ openRefusal (now (block .entry)) (memory (now (lits .entry)) (now (kinds .entry))) ⌝ }
 {
     match formula::check(block) {
         Checked::Refused(number) => number,
@@ -71,7 +72,7 @@ pub(crate) fn of_session(
     kinds: &[u8],
     seen: Revision,
 ) -> u32
-    ensures { λ r. ⌜ r ≡ sessionRefusal session (now (block .entry)) (now (lits .entry)) (now (kinds .entry)) seen ⌝ }
+    ensures { λ r. ⌜ r ≡ sessionRefusal session (now (block .entry)) (memory (now (lits .entry)) (now (kinds .entry))) seen ⌝ }
 {
     let refused = of_buffers(block, lits, kinds);
     if refused != 0 {

@@ -1,6 +1,8 @@
 // A session that goes step by step, and the run with a budget.
 ghost use mathlib.Core.Path.{_≡_};
-ghost use Rattle.session.specs.Outcome.{session, outcome, openOutcome, stepOutcome};
+ghost use Rattle.words.specs.Outcomes.{outcome};
+ghost use Rattle.session.specs.Memory.{memory};
+ghost use Rattle.session.specs.Outcome.{session, openOutcome, stepOutcome};
 ghost use Rattle.session.specs.Run.{runOf};
 
 mod guard; // which row of the table turns a call away, but for row 15
@@ -41,7 +43,7 @@ pub enum Ran {
 
 // A fresh session at the given revision. The first V places of the record are set to 0.
 pub fn open(block: &[i32], literals: &mut [i32], kinds: &mut [u8], first: Revision) -> Answer
-    ensures { λ r. ⌜ outcome r (now (literals .exit)) (now (kinds .exit)) ≡ openOutcome (now (block .entry)) (now (literals .entry)) (now (kinds .entry)) first ⌝ }
+    ensures { λ r. ⌜ outcome r (memory (now (literals .exit)) (now (kinds .exit))) ≡ openOutcome (now (block .entry)) (memory (now (literals .entry)) (now (kinds .entry))) first ⌝ }
 {
     let refused = guard::of_buffers(block, literals, kinds);
     if refused != 0 {
@@ -65,7 +67,7 @@ impl Session {
         seen: Revision,
         proposal: Literal,
     ) -> Answer
-        ensures { λ r. ⌜ outcome r (now (literals .exit)) (now (kinds .exit)) ≡ stepOutcome self (now (block .entry)) (now (literals .entry)) (now (kinds .entry)) seen proposal ⌝ }
+        ensures { λ r. ⌜ outcome r (memory (now (literals .exit)) (now (kinds .exit))) ≡ stepOutcome self (now (block .entry)) (memory (now (literals .entry)) (now (kinds .entry))) seen proposal ⌝ }
     {
         let refused = guard::of_session(self, block, literals, kinds, seen);
         if refused != 0 {
@@ -95,7 +97,7 @@ impl Session {
         budget: u32,
         preferred: &[i32],
     ) -> Ran
-        ensures { λ r. ⌜ outcome r (now (literals .exit)) (now (kinds .exit)) ≡ runOf self (now (block .entry)) (now (literals .entry)) (now (kinds .entry)) seen budget (now (preferred .entry)) ⌝ }
+        ensures { λ r. ⌜ outcome r (memory (now (literals .exit)) (now (kinds .exit))) ≡ runOf self (now (block .entry)) (memory (now (literals .entry)) (now (kinds .entry))) seen budget (now (preferred .entry)) ⌝ }
     {
         let refused = guard::of_session(self, block, literals, kinds, seen);
         if refused != 0 {

@@ -13,6 +13,7 @@ ghost use Rattle.rules.specs.Apply as spec;
 ghost use Rattle.rules.specs.Apply.{recordOf, search, reached};
 ghost use Rattle.rules.specs.Check.{badRecord};
 ghost use Rattle.rules.specs.declared.State.the-variants.{Open};
+ghost use Rattle.session.specs.Memory.{memory};
 ghost use Rattle.session.specs.Checked.{BuffersOn, OnBlock, HeldOn};
 use rules::Reached;
 use rules::Rule;
@@ -28,7 +29,7 @@ fn prefix_end(block: &[i32]) -> usize
 
 // Whether the record is turned away.
 pub(crate) fn bad_record(block: &[i32], lits: &[i32], kinds: &[u8], count: usize) -> bool
-    requires { ⌜ BuffersOn (now block) (now lits) (now kinds) ⌝ }
+    requires { ⌜ BuffersOn (now block) (memory (now lits) (now kinds)) ⌝ }
     ensures { λ r. ⌜ r ≡ badRecord (prefixOf (now (block .entry))) (now (lits .entry)) (now (kinds .entry)) count ⌝ }
 {
     let end = prefix_end(block);
@@ -44,7 +45,7 @@ pub(crate) fn apply(
     rule: Rule,
     proposal: Literal,
 ) -> Reached
-    requires { ⌜ OnBlock (now block) (now lits) (now kinds) count ⌝ }
+    requires { ⌜ OnBlock (now block) (memory (now lits) (now kinds)) count ⌝ }
     requires { ⌜ rule ≡ rules.due (formulaOf (now block)) (recordOf (now lits) (now kinds) count) ⌝ }
     ensures { λ r. ⌜ reached r (now (lits .exit)) (now (kinds .exit)) ≡ spec.apply (prefixOf (now (block .entry))) rule (proposal .0) (search (now (lits .entry)) (now (kinds .entry)) count Open) ⌝ }
 {
@@ -54,7 +55,7 @@ pub(crate) fn apply(
 
 // The due rule.
 pub(crate) fn due(block: &[i32], lits: &[i32], kinds: &[u8], count: usize) -> Rule
-    requires { ⌜ OnBlock (now block) (now lits) (now kinds) count ⌝ }
+    requires { ⌜ OnBlock (now block) (memory (now lits) (now kinds)) count ⌝ }
     ensures { λ r. ⌜ r ≡ rules.due (formulaOf (now (block .entry))) (recordOf (now (lits .entry)) (now (kinds .entry)) count) ⌝ }
 {
     let ends = prefix_end(block);

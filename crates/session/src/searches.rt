@@ -6,6 +6,7 @@ ghost use Rattle.theory.specs.Record.{among};
 ghost use Rattle.rules.specs.Due.{literal};
 ghost use Rattle.rules.specs.Apply as rules;
 ghost use Rattle.rules.specs.declared.State.the-variants.{Open};
+ghost use Rattle.session.specs.Memory.{memory};
 ghost use Rattle.session.specs.Checked.{OnBlock, HeldOn, proposalOf};
 ghost use Rattle.session.specs.Run as spec;
 use crate::guard;
@@ -41,7 +42,7 @@ fn advance(
     count: usize,
     preferred: &[i32],
 ) -> Reached
-    requires { ⌜ OnBlock (now block) (now lits) (now kinds) count ⌝ }
+    requires { ⌜ OnBlock (now block) (memory (now lits) (now kinds)) count ⌝ }
     ensures { λ r. ⌜ rules.reached r (now (lits .exit)) (now (kinds .exit)) ≡ spec.advance (formulaOf (now (block .entry))) (now (preferred .entry)) (rules.search (now (lits .entry)) (now (kinds .entry)) count Open) ⌝ }
 {
     let rule = parts::due(block, lits, kinds, count);
@@ -58,7 +59,7 @@ pub fn search(
     budget: u32,
     preferred: &[i32],
 ) -> Searched
-    requires { ⌜ OnBlock (now block) (now lits) (now kinds) count ⌝ }
+    requires { ⌜ OnBlock (now block) (memory (now lits) (now kinds)) count ⌝ }
     ensures { λ r. ⌜ spec.trip (rules.reached (r .reached) (now (lits .exit)) (now (kinds .exit))) (r .steps) ≡ spec.runFrom (formulaOf (now (block .entry))) (now (preferred .entry)) budget (rules.search (now (lits .entry)) (now (kinds .entry)) count Open) 0 ⌝ }
 {
     let mut at = Reached {

@@ -12,14 +12,14 @@ use native.Mathlib.Omega.{arith}
 use native.Mathlib.Nat.{one-le-pow}
 use lib.IntN.{ℤ}
 use lib.ListN.{length}
-use Rattle.words.specs.Bools.{look}
+use Rattle.words.specs.Laws.Bools.{look}
 use Rattle.words.specs.Lists.{all}
 use Rattle.formula.specs.Limits.{Limits}
 use Rattle.formula.specs.Formula.{Formula, formulaOf}
 use Rattle.formula.specs.Block.{refusal}
-use Rattle.formula.specs.Prefix.{stands-bound}
+use Rattle.formula.specs.Laws.Prefix.{stands-bound}
 use Rattle.formula.specs.Proper.{Proper}
-use Rattle.formula.specs.Accepted.{proper}
+use Rattle.formula.specs.Laws.Accepted.{proper}
 use Rattle.formula.specs.Truth.{true?}
 use Rattle.theory.specs.Record.{Record, trueIn, without, forced}
 use Rattle.theory.specs.Tests.{conflict, allAssigned, monotone, monotoneOpen}

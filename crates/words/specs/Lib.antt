@@ -1,6 +1,11 @@
--- Signed words as literals, and the lists that every room speaks of.
-pub mod Bools
-pub mod Lists
+-- Signed words as literals, the lists that every room speaks of, and what every call has in common.
+
+-- words and lists
 pub mod Words
+pub mod Lists
+-- a table of refusals; what a call answers and leaves, and that there is only one
+pub mod Rows
+pub mod Outcomes
 pub mod Only
-pub mod Counts
+-- what is proved of them
+pub mod Laws

@@ -1,7 +1,7 @@
 // Signed words as literals. Every function answers for every word, the least one too.
 ghost use mathlib.Core.Path.{_≡_};
 ghost use lib.IntN.{pos, natAbs};
-ghost use lib.ListN.{getD};
+ghost use lib.ListN.{getD, take, drop};
 ghost use Rattle.words.specs.Words as words;
 
 // A literal is +v or -v; any other word may be handed in, and is refused where it matters.
@@ -14,19 +14,26 @@ pub fn negative(x: i32) -> bool
     x < 0
 }
 
-// A word's size. It is widened first: the least word is never negated.
+// The least word, whose negation is no word.
+const LEAST: i32 = -2147483648;
+
+const LEAST_SIZE: usize = 2147483648;
+
+// A word's size. The least word is looked for first: it is never negated.
 pub fn size(x: i32) -> usize
     ensures { λ r. ⌜ r ≡ natAbs x ⌝ }
 {
-    let y = x as i64;
-    if y < 0 { (0 - y) as usize } else { y as usize }
+    if x == LEAST {
+        return LEAST_SIZE;
+    }
+    if x < 0 { (-x) as usize } else { x as usize }
 }
 
 // The opposite of a literal. The least word has none: it is answered with 0, which is no literal.
 pub fn opposite(x: i32) -> i32
     ensures { λ r. ⌜ r ≡ words.opposite x ⌝ }
 {
-    if x == -2147483648 { 0 } else { -x }
+    if x == LEAST { 0 } else { -x }
 }
 
 // The size of the word at an index, and whether it is below zero. Past the end there is the word 0.
@@ -40,4 +47,17 @@ pub fn negative_at(ws: &[i32], i: usize) -> bool
     ensures { λ r. ⌜ r ≡ words.negative (getD (now (ws .entry)) i (pos 0)) ⌝ }
 {
     if i < ws.len() { negative(ws[i]) } else { false }
+}
+
+// The first n words, and the words after them. Of a list with fewer there are as many as it has.
+pub fn take(ws: &[i32], n: usize) -> &[i32]
+    ensures { λ r. ⌜ now r ≡ take n (now (ws .entry)) ⌝ }
+{
+    if ws.len() <= n { ws } else { &ws[0..n] }
+}
+
+pub fn drop(ws: &[i32], n: usize) -> &[i32]
+    ensures { λ r. ⌜ now r ≡ drop n (now (ws .entry)) ⌝ }
+{
+    if n < ws.len() { &ws[n..] } else { &ws[0..0] }
 }

@@ -1,6 +1,6 @@
 -- A refused block's number is the one that the check gives.
 use mathlib.Core.Path.{sym, _∙_}
-use Rattle.formula.specs.Check.{checked-accepted, checked-refused}
+use Rattle.formula.specs.Laws.Check.{checked-accepted, checked-refused}
 use borrow.Author.Needs.{needs}
 use Rattle.exports.proofs.moki_check.Statement.{statement}
 use Rattle.exports.proofs.moki_check.Tie as tie

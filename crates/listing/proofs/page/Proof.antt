@@ -3,8 +3,9 @@ use Prim.Native.Nat.{_+_}
 use mathlib.Core.Path.{ap}
 use native.Mathlib.Omega.{arith}
 use borrow.Author.Needs.{needs}
-use Rattle.formula.specs.Limits.{limits, variables-are}
-use Rattle.formula.specs.Accepted.{accepted, variables-most, prefix-within}
+use Rattle.formula.specs.Limits.{limits}
+use Rattle.formula.specs.Laws.Limits.{variables-are}
+use Rattle.formula.specs.Laws.Accepted.{accepted, variables-most, prefix-within}
 use Rattle.listing.proofs.Exits.{refuses, passed, on-page, still-room, cleans}
 use Rattle.listing.proofs.page.Statement.{statement}
 use Rattle.listing.proofs.page.Tie as tie

@@ -15,7 +15,7 @@ same-length-2 : tie.Need-same-length-2
 same-length-2 c = search needs
 
 returns : tie.Need-returns
-returns c = open-refused _ _ _ _ (c .before .of-buffers .ensures) (c .if1 .taken)
+returns c = open-refused _ _ _ (c .before .of-buffers .ensures) (c .if1 .taken)
 
 size-at-requires : tie.Need-size-at-requires
 size-at-requires c κs = search needs
@@ -23,7 +23,7 @@ size-at-requires c κs = search needs
 clear-requires : tie.Need-clear-requires
 clear-requires c κs =
     let o = c .before .before .before in
-    clearable (opened _ _ _ (o .before .of-buffers .ensures) (o .if1 .left)) (c .size-at .ensures)
+    clearable (opened _ _ (o .before .of-buffers .ensures) (o .if1 .left)) (c .size-at .ensures)
 
 same-length-3 : tie.Need-same-length-3
 same-length-3 c = search needs
@@ -35,7 +35,7 @@ returns-2 : tie.Need-returns-2
 returns-2 c =
     let w = c .before .before .before in
     let o = w .before .before .before .before in
-    open-clears _ _ _ _ (o .before .of-buffers .ensures) (o .if1 .left) (w .before .size-at .ensures) (w .clear .ensures)
+    open-clears _ _ _ (o .before .of-buffers .ensures) (o .if1 .left) (w .before .size-at .ensures) (w .clear .ensures)
 
 pub open-spec : {M : Type 1} → statement M
 open-spec =

@@ -2,7 +2,7 @@
 use mathlib.Core.Path.{_≡_, refl, sym}
 use mathlib.Core.Logic.{_⊎_, inl, inr}
 use mathlib.Core.Bool.{Bool, true, false, and-comm, or-comm}
-use Rattle.words.specs.Bools.{and-l, and-r, and-i, or-r}
+use Rattle.words.specs.Laws.Bools.{and-l, and-r, and-i, or-r}
 use Rattle.formula.specs.Truth.{asked}
 
 -- either literal may come first

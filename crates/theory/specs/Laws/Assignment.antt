@@ -6,9 +6,10 @@ use mathlib.Core.Bool.{Bool, true, false, _||_, or-comm, or-assoc, or-false}
 use mathlib.Core.List.{List, [], _∷_, _++_, append-nil, append-assoc}
 use lib.Dec.{eqb}
 use lib.IntN.{ℤ, negℤ, natAbs}
-use Rattle.words.specs.Bools.{or-e, or-r, eqb-same}
-use Rattle.words.specs.Words.{eqZ, eqZ-refl, eqZ-eq, mem, mem-append, negneg, natAbs-neg, var-cases, same-variable}
-use Rattle.formula.specs.Prefix.{stands, stands-mem}
+use Rattle.words.specs.Laws.Bools.{or-e, or-r, eqb-same}
+use Rattle.words.specs.Words.{eqZ, mem}
+use Rattle.words.specs.Laws.Words.{eqZ-refl, eqZ-eq, mem-append, negneg, natAbs-neg, var-cases, same-variable}
+use Rattle.formula.specs.Laws.Prefix.{stands, stands-mem}
 use Rattle.formula.specs.Truth.{asked}
 use Rattle.theory.specs.Record.{Entry, Record, literals, Assignment, among, trueIn, assigned}
 use Rattle.theory.specs.Laws.Asked.{asked-exchange}

@@ -7,12 +7,13 @@ use mathlib.Core.List.{List, _∷_}
 use native.Mathlib.Omega.{arith}
 use lib.Dec.{eqb}
 use lib.IntN.{ℤ, negℤ, natAbs}
-use Rattle.words.specs.Bools.{look, eqb-ne, eqb-comm}
+use Rattle.words.specs.Laws.Bools.{look, eqb-ne, eqb-comm}
 use Rattle.words.specs.Lists.{In, here, there}
-use Rattle.words.specs.Words.{negative, natAbs-neg}
+use Rattle.words.specs.Words.{negative}
+use Rattle.words.specs.Laws.Words.{natAbs-neg}
 use Rattle.formula.specs.Formula.{Formula, universal}
 use Rattle.formula.specs.Proper.{Proper}
-use Rattle.formula.specs.Prefix.{stands-e, other, universal-var, level-var, word-universal, Ordered, more, ordered}
+use Rattle.formula.specs.Laws.Prefix.{stands-e, other, universal-var, level-var, word-universal, Ordered, more, ordered}
 use Rattle.formula.specs.Truth.{asked}
 use Rattle.theory.specs.Record.{Assignment, assigned}
 use Rattle.theory.specs.Tests.{isOpen}

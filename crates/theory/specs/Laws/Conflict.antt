@@ -5,13 +5,15 @@ use mathlib.Core.Logic.{inl, inr}
 use mathlib.Core.Bool.{true, false, not}
 use mathlib.Core.List.{List, [], _∷_}
 use lib.IntN.{ℤ, negℤ}
-use Rattle.words.specs.Bools.{clash, look, to-false}
-use Rattle.words.specs.Lists.{In, any, all-e, all-i, any-i, any-e, any-f, any-none, all-f}
-use Rattle.words.specs.Words.{negative, mem, mem-i, mem-e, own-opposite, negative-named}
+use Rattle.words.specs.Laws.Bools.{clash, look, to-false}
+use Rattle.words.specs.Lists.{In, any}
+use Rattle.words.specs.Laws.Lists.{all-e, all-i, any-i, any-e, any-f, any-none, all-f}
+use Rattle.words.specs.Words.{negative, mem}
+use Rattle.words.specs.Laws.Words.{mem-i, mem-e, own-opposite, negative-named}
 use Rattle.formula.specs.Formula.{Formula, existential}
 use Rattle.formula.specs.Block.{bothSigns}
 use Rattle.formula.specs.Proper.{Proper}
-use Rattle.formula.specs.Prefix.{stands-e, existential-neg, existential-stands, both-signs, Ordered, more, ordered}
+use Rattle.formula.specs.Laws.Prefix.{stands-e, existential-neg, existential-stands, both-signs, Ordered, more, ordered}
 use Rattle.theory.specs.Record.{Assignment, assigned}
 use Rattle.theory.specs.Tests.{unassignedE, inConflict, conflict, allAssigned}
 use Rattle.theory.specs.Laws.Assignment.{put, assigned-neg, assigned-var}

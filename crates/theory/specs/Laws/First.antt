@@ -8,11 +8,12 @@ use Prim.Native.Nat.{ℕ}
 use native.Mathlib.Omega.{arith}
 use lib.Dec.{eqb}
 use lib.IntN.{ℤ, natAbs}
-use Rattle.words.specs.Bools.{clash, look, and-l, and-r, and-i, not-f, eqb-eq}
-use Rattle.words.specs.Lists.{In, here, there, all, in-middle}
+use Rattle.words.specs.Laws.Bools.{clash, look, and-l, and-r, and-i, not-f, eqb-eq}
+use Rattle.words.specs.Lists.{In, here, there, all}
+use Rattle.words.specs.Laws.Lists.{in-middle}
 use Rattle.formula.specs.Formula.{Formula}
 use Rattle.formula.specs.Proper.{Proper}
-use Rattle.formula.specs.Prefix.{stands-i, level-var, Ordered, more, ordered}
+use Rattle.formula.specs.Laws.Prefix.{stands-i, level-var, Ordered, more, ordered}
 use Rattle.theory.specs.Record.{entry, Record, Assignment, assigned, without}
 use Rattle.theory.specs.Tests.{isOpen, allAssigned}
 use Rattle.theory.specs.Laws.Assignment.{assigned-var}

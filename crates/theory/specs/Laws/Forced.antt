@@ -9,13 +9,15 @@ use Prim.Native.Nat.{_≤_}
 use native.Mathlib.Omega.{arith}
 use lib.Dec.{eqb}
 use lib.IntN.{ℤ, negℤ, natAbs}
-use Rattle.words.specs.Bools.{clash, look, to-false, eqb-i, eqb-comm}
-use Rattle.words.specs.Lists.{In, any, all-e, all-i, any-f, any-none, any-more}
-use Rattle.words.specs.Words.{negative, natAbs-neg, own-opposite}
+use Rattle.words.specs.Laws.Bools.{clash, look, to-false, eqb-i, eqb-comm}
+use Rattle.words.specs.Lists.{In, any}
+use Rattle.words.specs.Laws.Lists.{all-e, all-i, any-f, any-none, any-more}
+use Rattle.words.specs.Words.{negative}
+use Rattle.words.specs.Laws.Words.{natAbs-neg, own-opposite}
 use Rattle.formula.specs.Formula.{Formula, existential, universal, level}
 use Rattle.formula.specs.Block.{bothSigns}
 use Rattle.formula.specs.Proper.{Proper}
-use Rattle.formula.specs.Prefix.{stands, stands-e, stands-cons, stands-none, existential-var, existential-stands, existential-universal, existential-named, universal-var, universal-stands, level-var, both-signs, Ordered, more, ordered}
+use Rattle.formula.specs.Laws.Prefix.{stands, stands-e, stands-cons, stands-none, existential-var, existential-stands, existential-universal, existential-named, universal-var, universal-stands, level-var, both-signs, Ordered, more, ordered}
 use Rattle.formula.specs.Truth.{asked}
 use Rattle.theory.specs.Record.{Assignment, assigned}
 use Rattle.theory.specs.Tests.{unassignedE, unitOn, absent, monotoneWide}

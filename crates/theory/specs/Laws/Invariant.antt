@@ -7,10 +7,11 @@ use mathlib.Core.List.{[], _∷_, _++_, append-nil, append-assoc}
 use Prim.Native.Nat.{ℕ, zero, suc}
 use lib.Dec.{eqb}
 use lib.IntN.{ℤ, negℤ}
-use Rattle.words.specs.Bools.{clash, and-l, and-r, not-t}
-use Rattle.words.specs.Lists.{all, all-append, past}
+use Rattle.words.specs.Laws.Bools.{clash, and-l, and-r, not-t}
+use Rattle.words.specs.Lists.{all}
+use Rattle.words.specs.Laws.Lists.{past, all-append}
 use Rattle.formula.specs.Formula.{Formula}
-use Rattle.formula.specs.Prefix.{existential-universal}
+use Rattle.formula.specs.Laws.Prefix.{existential-universal}
 use Rattle.formula.specs.Proper.{Proper}
 use Rattle.formula.specs.Truth.{asked}
 use Rattle.theory.specs.Record.{Entry, entry, Record, Assignment, trueIn, without, forced}

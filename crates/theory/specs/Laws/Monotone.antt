@@ -5,9 +5,11 @@ use mathlib.Core.Logic.{_⊎_, inl, inr}
 use mathlib.Core.Bool.{Bool, true, false, not, cond, _&&_, _||_}
 use mathlib.Core.List.{List, _∷_}
 use lib.IntN.{ℤ, negℤ}
-use Rattle.words.specs.Bools.{clash, look, and-l, and-r, and-i, or-e, or-l, or-r, not-t, not-f, to-false}
-use Rattle.words.specs.Lists.{In, here, there, any, all-i, any-i}
-use Rattle.words.specs.Words.{mem, negneg}
+use Rattle.words.specs.Laws.Bools.{clash, look, and-l, and-r, and-i, or-e, or-l, or-r, not-t, not-f, to-false}
+use Rattle.words.specs.Lists.{In, here, there, any}
+use Rattle.words.specs.Laws.Lists.{all-i, any-i}
+use Rattle.words.specs.Words.{mem}
+use Rattle.words.specs.Laws.Words.{negneg}
 use Rattle.theory.specs.Record.{Assignment}
 use Rattle.theory.specs.Rules.{Within}
 use Rattle.theory.specs.Tests.{unassignedE, unassignedU, occurs, oneSign, monotone, untrueOf, monotoneOpen, absent, monotoneWide}

@@ -8,10 +8,11 @@ use mathlib.Core.List.{List, [], _∷_, _++_}
 use Prim.Native.Nat.{ℕ, zero, suc}
 use lib.Dec.{eqb}
 use lib.IntN.{ℤ, negℤ}
-use Rattle.words.specs.Bools.{clash, or-e, or-l, or-r, and-l, and-r}
-use Rattle.words.specs.Lists.{all, all-append}
+use Rattle.words.specs.Laws.Bools.{clash, or-e, or-l, or-r, and-l, and-r}
+use Rattle.words.specs.Lists.{all}
+use Rattle.words.specs.Laws.Lists.{all-append}
 use Rattle.formula.specs.Formula.{Formula, existential, universal}
-use Rattle.formula.specs.Prefix.{stands, existential-neg, universal-neg, existential-stands, universal-stands, twice-before, twice-snoc}
+use Rattle.formula.specs.Laws.Prefix.{stands, existential-neg, universal-neg, existential-stands, universal-stands, twice-before, twice-snoc}
 use Rattle.formula.specs.Block.{twice}
 use Rattle.theory.specs.Record.{entry, Record, trueIn, assigned, Entry, literals}
 use Rattle.theory.specs.Rules.{State, going, verdict, Monotone, Within, StepBy, backtrack-exists, fail, unit, monotone, decide-exists, decide-forall, backtrack-forall, succeed, valid, unsat, PathBy, stop, take}

@@ -6,11 +6,13 @@ use mathlib.Core.List.{List}
 use Prim.Native.Nat.{_≤_, _<_}
 use lib.Dec.{leb, leb→le, ltb→lt, le→leb}
 use lib.IntN.{ℤ, negℤ}
-use Rattle.words.specs.Bools.{clash, look, T→eq, eq→T, and-l, and-r, and-i, or-e, or-l, or-r, not-t, to-false}
-use Rattle.words.specs.Lists.{In, all, any, all-e, all-i, any-i, any-f, any-more}
-use Rattle.words.specs.Words.{eqZ-eq, mem, mem-i, mem-e}
+use Rattle.words.specs.Laws.Bools.{clash, look, T→eq, eq→T, and-l, and-r, and-i, or-e, or-l, or-r, not-t, to-false}
+use Rattle.words.specs.Lists.{In, all, any}
+use Rattle.words.specs.Laws.Lists.{all-e, all-i, any-i, any-f, any-more}
+use Rattle.words.specs.Words.{mem}
+use Rattle.words.specs.Laws.Words.{eqZ-eq, mem-i, mem-e}
 use Rattle.formula.specs.Formula.{existential, universal, level}
-use Rattle.formula.specs.Prefix.{stands, stands-bound, existential-stands, universal-stands}
+use Rattle.formula.specs.Laws.Prefix.{stands, stands-bound, existential-stands, universal-stands}
 use Rattle.theory.specs.Record.{Assignment, assigned}
 use Rattle.theory.specs.Tests.{unassignedE, unassignedU, inConflict, isOnly, isDeeper, unitOn, absent, monotoneWide, notBelow, isOpen}
 use Rattle.theory.specs.Laws.Assignment.{put, put-old, put-e, assigned-still}

@@ -6,12 +6,13 @@ use mathlib.Core.Bool.{Bool, true, false, cond}
 use mathlib.Core.List.{List, [], _∷_, _++_}
 use lib.Dec.{eqb}
 use lib.IntN.{ℤ, negℤ, natAbs}
-use Rattle.words.specs.Bools.{clash, look, or-fl, or-fr}
+use Rattle.words.specs.Laws.Bools.{clash, look, or-fl, or-fr}
 use Rattle.words.specs.Lists.{In, here, there, all, any}
-use Rattle.words.specs.Words.{negative, mem, negneg, var-cases}
+use Rattle.words.specs.Words.{negative, mem}
+use Rattle.words.specs.Laws.Words.{negneg, var-cases}
 use Rattle.formula.specs.Formula.{Formula}
 use Rattle.formula.specs.Block.{twice}
-use Rattle.formula.specs.Prefix.{stands, stands-neg, twice-head, twice-tail}
+use Rattle.formula.specs.Laws.Prefix.{stands, stands-neg, twice-head, twice-tail}
 use Rattle.formula.specs.Proper.{Proper}
 use Rattle.formula.specs.Truth.{asked, truth, true?}
 use Rattle.theory.specs.Record.{Record, literals, Assignment, among, trueIn, assigned}

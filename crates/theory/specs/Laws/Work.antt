@@ -11,12 +11,12 @@ use native.Mathlib.Nat.{two-pow-succ, one-le-pow, pow-le-pow-right}
 use lib.Dec.{eqb}
 use lib.ListN.{length}
 use lib.IntN.{ℤ, negℤ}
-use Rattle.words.specs.Bools.{clash, look, and-l, and-r}
+use Rattle.words.specs.Laws.Bools.{clash, look, and-l, and-r}
 use Rattle.words.specs.Lists.{all}
 use Rattle.words.specs.Words.{mem}
 use Rattle.formula.specs.Formula.{Formula}
 use Rattle.formula.specs.Block.{twice}
-use Rattle.formula.specs.Prefix.{stands, stands-cons, stands-none, twice-head, twice-tail}
+use Rattle.formula.specs.Laws.Prefix.{stands, stands-cons, stands-none, twice-head, twice-tail}
 use Rattle.theory.specs.Record.{Entry, entry, Record, literals, Assignment, among, trueIn, assigned, forced}
 use Rattle.theory.specs.Rules.{State, going, valid, unsat, Monotone, Within, StepBy, PathBy, stop, take}
 use Rattle.theory.specs.Start.{suits, allSuit, Good, rest}

@@ -9,15 +9,6 @@ use borrow.Author.Needs.{needs, sfits-of}
 use Rattle.words.proofs.negative_at.Statement.{statement}
 use Rattle.words.proofs.negative_at.Tie as tie
 
-mul-negative : tie.Need-mul-negative
-mul-negative c = search needs
-
-shared-slice-copy-out-negative : tie.Need-shared-slice-copy-out-negative
-shared-slice-copy-out-negative c = search needs
-
-negative-requires : tie.Need-negative-requires
-negative-requires c κs = search needs
-
 returns : tie.Need-returns
 returns c =
     let start = c .before .before .before in
@@ -29,5 +20,4 @@ returns-2 c =
     sym (ap negative (List·getD-eq-default (start .args .ws .now) (pos 0) (c .if1 .left)))
 
 pub negative-at-spec : {M : Type 1} → statement M
-negative-at-spec =
-    tie.close (tie.spec mul-negative shared-slice-copy-out-negative negative-requires returns returns-2)
+negative-at-spec = tie.close (tie.spec (λ c. search needs) (λ c. search needs) (λ c κs. search needs) returns returns-2)

@@ -8,15 +8,6 @@ use borrow.Author.Needs.{needs, sfits-of}
 use Rattle.words.proofs.size_at.Statement.{statement}
 use Rattle.words.proofs.size_at.Tie as tie
 
-mul-size : tie.Need-mul-size
-mul-size c = search needs
-
-shared-slice-copy-out-size : tie.Need-shared-slice-copy-out-size
-shared-slice-copy-out-size c = search needs
-
-size-requires : tie.Need-size-requires
-size-requires c κs = search needs
-
 returns : tie.Need-returns
 returns c =
     let start = c .before .before .before in
@@ -28,5 +19,4 @@ returns-2 c =
     sym (ap natAbs (List·getD-eq-default (start .args .ws .now) (pos 0) (c .if1 .left)))
 
 pub size-at-spec : {M : Type 1} → statement M
-size-at-spec =
-    tie.close (tie.spec mul-size shared-slice-copy-out-size size-requires returns returns-2)
+size-at-spec = tie.close (tie.spec (λ c. search needs) (λ c. search needs) (λ c κs. search needs) returns returns-2)

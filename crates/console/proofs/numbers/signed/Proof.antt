@@ -8,7 +8,7 @@ use lib.IntN.{pos, negℤ, _-ℤ_, +ℤ-idl}
 use mir.Syntax.{w32, w64}
 use mir.Val.{SFits, toZ, ofZ}
 use mir.ValLaws.{toZ-ofZ}
-use Rattle.words.specs.Bools.{clash}
+use Rattle.words.specs.Laws.Bools.{clash}
 use Rattle.console.specs.declared.numbers.Place.the-variants as place
 use Rattle.console.specs.Numbers.{largestOf}
 use Rattle.console.proofs.Places.{word-most}

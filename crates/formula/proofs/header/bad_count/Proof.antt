@@ -1,7 +1,7 @@
 -- The first test that holds decides.
 use mathlib.Core.Path.{ap}
 use lib.Dec.{ltb}
-use Rattle.words.specs.Bools.{or-first, or-second}
+use Rattle.words.specs.Laws.Bools.{or-first, or-second}
 use borrow.Author.Needs.{needs}
 use Rattle.formula.proofs.header.bad_count.Statement.{statement}
 use Rattle.formula.proofs.header.bad_count.Tie as tie

@@ -2,8 +2,9 @@
 use mathlib.Core.Path.{_≡_, _∙_}
 use mathlib.Core.Bool.{_||_}
 use mathlib.Core.Logic.{⊎-elim}
-use Rattle.words.specs.Bools.{or-first, or-second}
-use Rattle.formula.specs.Limits.{limits, variables-are, clauses-are, literals-are}
+use Rattle.words.specs.Laws.Bools.{or-first, or-second}
+use Rattle.formula.specs.Limits.{limits}
+use Rattle.formula.specs.Laws.Limits.{variables-are, clauses-are, literals-are}
 use Rattle.formula.specs.Formula.{word}
 use Rattle.formula.specs.Block.{badCount}
 use borrow.Author.Needs.{needs}

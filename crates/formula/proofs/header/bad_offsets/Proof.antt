@@ -3,7 +3,7 @@ use mathlib.Core.Path.{_≡_, _∙_}
 use mathlib.Core.Bool.{_||_}
 use mathlib.Core.Logic.{⊎-elim}
 use Prim.Native.Nat.{_+_}
-use Rattle.words.specs.Bools.{or-first, or-second}
+use Rattle.words.specs.Laws.Bools.{or-first, or-second}
 use Rattle.formula.specs.Formula.{word, variablesOf}
 use Rattle.formula.specs.Block.{isNot}
 use borrow.Author.Needs.{needs}

@@ -2,7 +2,7 @@
 use mathlib.Core.Path.{ap}
 use mathlib.Core.Bool.{not}
 use lib.Dec.{eqb}
-use Rattle.words.specs.Bools.{or-first, or-second}
+use Rattle.words.specs.Laws.Bools.{or-first, or-second}
 use Rattle.formula.proofs.Rows.{not-number}
 use borrow.Author.Needs.{needs}
 use Rattle.formula.proofs.header.is_not.Statement.{statement}

@@ -4,8 +4,9 @@ use Prim.Native.Nat.{_+_, _-_, _*_, _≤_, _<_}
 use native.Mathlib.Omega.{arith}
 use lib.IntN.{pos, natAbs}
 use lib.ListN.{getD}
-use Rattle.formula.specs.Limits.{limits, maxVariables, variables-are}
-use Rattle.formula.specs.Places.{literalPlaces}
+use Rattle.formula.specs.Limits.{limits, maxVariables}
+use Rattle.formula.specs.Laws.Limits.{variables-are}
+use Rattle.formula.specs.Inner.Places.{literalPlaces}
 use Rattle.formula.proofs.Stamped.{Stamped, own-within, begin, hit, more, end}
 use Rattle.formula.proofs.marks.both_signs.Statement.{statement}
 use Rattle.formula.proofs.marks.both_signs.Tie as tie

@@ -3,7 +3,7 @@ use Prim.Native.Nat.{_-_, _≤_}
 use native.Mathlib.Omega.{arith}
 use lib.ListN.{length}
 use Rattle.formula.specs.Limits.{limits}
-use Rattle.formula.specs.Named.{named-part}
+use Rattle.formula.specs.Laws.Named.{named-part}
 use Rattle.formula.proofs.Looked.{Looked, begin, end, rises, fits, hit, more}
 use Rattle.formula.proofs.marks.clause_with_both_signs.Statement.{statement}
 use Rattle.formula.proofs.marks.clause_with_both_signs.Tie as tie

@@ -1,15 +1,15 @@
--- The marks are the variables of the words passed, from the last one on; each word's size is within the table.
+-- The marks are the variables of the words passed, from the last one on; a word over the table's size is answered at once.
 use mathlib.Core.Path.{_≡_}
-use Prim.Native.Nat.{_+_, _-_, _<_}
+use Prim.Native.Nat.{_+_, _-_}
 use native.Mathlib.Omega.{arith}
-use lib.ListN.{length}
-use Rattle.formula.specs.Limits.{limits, variables-are}
-use Rattle.formula.proofs.Seen.{Seen, begin, hit, more, end}
+use Rattle.formula.specs.Limits.{limits}
+use Rattle.formula.specs.Laws.Limits.{variables-are}
+use Rattle.formula.proofs.Seen.{Seen, begin, large, hit, more, end}
 use Rattle.formula.proofs.marks.variable_twice.Statement.{statement}
 use Rattle.formula.proofs.marks.variable_twice.Tie as tie
 
 abbrev Inv-loop : tie.InvT-loop
-Inv-loop ws seen₀ i₀ seen i = Seen ws (limits .variables + 1) seen i
+Inv-loop ws seen₀ i₀ seen i = Seen ws (limits .variables) seen i
 
 abbrev μ-loop : tie.MeasureT-loop
 μ-loop ws seen₀ i₀ seen i = i
@@ -17,43 +17,26 @@ abbrev μ-loop : tie.MeasureT-loop
 loop-holds : tie.Need-loop-holds Inv-loop μ-loop
 loop-holds c = rw variables-are (begin _ _)
 
-sub-i : tie.Need-sub-i Inv-loop μ-loop
-sub-i c = omega arith
-
-size-at-requires : tie.Need-size-at-requires Inv-loop μ-loop
-size-at-requires c κs = tt
-
--- the word before the i-th is within the list, and its size within the table
-module _ (c : tie.After-size-at Inv-loop μ-loop) where
-  step : c .before .before .loop .i - 1 + 1 ≡ c .before .before .loop .i
-  step = omega (arith, c .before .loop-test .taken)
-
-  sized : c .size-at .result < limits .variables + 1
-  sized =
-      let head = c .before .before in
-      let start = head .before in
-      let near : head .loop .i - 1 < length (start .args .ws .now) = omega (arith, c .before .loop-test .taken, head .loop .inv .at) in
-      omega (arith, c .size-at .ensures, start .pre .at (head .loop .i - 1) near .most)
-
-array-read-if1 : tie.Need-array-read-if1 Inv-loop μ-loop
-array-read-if1 c = omega (arith, variables-are, sized c)
+step : (c : tie.After-size-at Inv-loop μ-loop) → c .before .before .loop .i - 1 + 1 ≡ c .before .before .loop .i
+step c = omega (arith, c .before .loop-test .taken)
 
 returns : tie.Need-returns Inv-loop μ-loop
-returns c = hit _ _ _ _ (c .before .before .before .loop .inv) _ (step (c .before)) _ (c .before .size-at .ensures) (c .if1 .taken)
+returns c =
+    let read = c .before in
+    large _ _ _ _ (read .before .before .loop .inv) _ (step read) _ (read .size-at .ensures) (rw variables-are (c .if1 .taken))
 
-array-write-seen : tie.Need-array-write-seen Inv-loop μ-loop
-array-write-seen c = omega (arith, variables-are, sized (c .before))
-
-loop-less : tie.Need-loop-less Inv-loop μ-loop
-loop-less c = omega arith
+returns-2 : tie.Need-returns-2 Inv-loop μ-loop
+returns-2 c =
+    let read = c .before .before in
+    hit _ _ _ _ (read .before .before .loop .inv) _ (step read) _ (read .size-at .ensures) (c .if2 .taken)
 
 loop-again : tie.Need-loop-again Inv-loop μ-loop
 loop-again c =
-    let read = c .before in
-    more _ _ _ _ (read .before .before .loop .inv) _ (step read) _ (read .size-at .ensures) (c .if1 .left) (sized read)
+    let read = c .before .before in
+    more _ _ _ _ (read .before .before .loop .inv) _ (step read) _ (read .size-at .ensures) (c .if2 .left) (rw variables-are (c .before .if1 .left))
 
-returns-2 : tie.Need-returns-2 Inv-loop μ-loop
-returns-2 c = end _ _ _ _ (c .before .loop .inv) (c .loop-test .left)
+returns-3 : tie.Need-returns-3 Inv-loop μ-loop
+returns-3 c = end _ _ _ _ (c .before .loop .inv) (c .loop-test .left)
 
 pub variable-twice-spec : {M : Type 1} → statement M
 variable-twice-spec =
@@ -62,11 +45,12 @@ variable-twice-spec =
     Inv-loop
     μ-loop
     loop-holds
-    sub-i
-    size-at-requires
-    array-read-if1
+    (λ c. omega arith)
+    (λ c κs. tt)
     returns
-    array-write-seen
-    loop-less
+    (λ c. omega (arith, c .if1 .left))
+    returns-2
+    (λ c. omega (arith, c .before .if1 .left))
+    (λ c. omega arith)
     loop-again
-    returns-2)
+    returns-3)

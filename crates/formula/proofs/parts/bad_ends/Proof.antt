@@ -8,7 +8,7 @@ use native.Mathlib.Omega.{arith}
 use lib.IntN.{ℤ, pos}
 use lib.ListN.{length, drop, getD}
 use Rattle.formula.specs.Block.{badEnds}
-use Rattle.formula.specs.Ends.{badEnd, ends-bad, ends-past, ends-ended}
+use Rattle.formula.specs.Laws.Ends.{badEnd, ends-bad, ends-past, ends-ended}
 use Rattle.formula.proofs.Rows.{end-negative, end-falls, end-over, end-fine}
 use borrow.Author.Needs.{needs}
 use Rattle.formula.proofs.parts.bad_ends.Statement.{statement}

@@ -6,7 +6,8 @@ use Prim.Native.Nat.{_-_, _≤_}
 use native.Mathlib.Omega.{arith}
 use lib.IntN.{pos}
 use lib.ListN.{length, drop, getD}
-use Rattle.words.specs.Lists.{any, any-found, any-past, any-ended}
+use Rattle.words.specs.Lists.{any}
+use Rattle.words.specs.Laws.Lists.{any-found, any-past, any-ended}
 use Rattle.formula.specs.Block.{noVariable}
 use Rattle.formula.proofs.Rows.{zero-is-none, over-is-none, is-one}
 use borrow.Author.Needs.{needs}

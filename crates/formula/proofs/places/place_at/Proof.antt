@@ -2,7 +2,8 @@
 use mathlib.Core.Path.{sym}
 use lib.IntN.{pos}
 use lib.ListN.{getD}
-use Rattle.formula.specs.Limits.{maxVariables, variables-are}
+use Rattle.formula.specs.Limits.{maxVariables}
+use Rattle.formula.specs.Laws.Limits.{variables-are}
 use borrow.Author.Needs.{needs, sfits-of}
 use Rattle.formula.proofs.Raised.{place-none, word-fits, sum-fits, sum-cast, sum-place}
 use Rattle.formula.proofs.places.place_at.Statement.{statement}

@@ -2,8 +2,9 @@
 use Prim.Native.Nat.{_+_}
 use mathlib.Core.Path.{ap}
 use native.Mathlib.Omega.{arith}
-use Rattle.formula.specs.Limits.{limits, variables-are}
-use Rattle.formula.specs.Accepted.{accepted, variables-most, prefix-within}
+use Rattle.formula.specs.Limits.{limits}
+use Rattle.formula.specs.Laws.Limits.{variables-are}
+use Rattle.formula.specs.Laws.Accepted.{accepted, variables-most, prefix-within}
 use Rattle.session.proofs.Lent.{opened}
 use Rattle.listing.proofs.Guards.{page-buffers, page-openings}
 use borrow.Author.Needs.{needs}

@@ -4,7 +4,7 @@ use mathlib.Core.Path.{_∙_, ap}
 use native.Mathlib.Omega.{arith}
 use lib.ListN.{length}
 use lib.Seq.{take-length}
-use Rattle.formula.specs.Places.{literalPlaces}
+use Rattle.formula.specs.Inner.Places.{literalPlaces}
 use Rattle.rules.proofs.Filled.{Filled, end}
 use Rattle.rules.proofs.Occurring.{occurs, occurring-begin, occurring-placed, occurring-turn, word-small}
 use Rattle.rules.proofs.by_literal.occurring.Statement.{statement}

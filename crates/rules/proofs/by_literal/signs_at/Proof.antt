@@ -1,7 +1,8 @@
 -- A variable's two places say with which signs it occurs.
 use mathlib.Core.Path.{refl, sym}
 use native.Mathlib.Omega.{arith}
-use Rattle.formula.specs.Limits.{maxVariables, variables-are}
+use Rattle.formula.specs.Limits.{maxVariables}
+use Rattle.formula.specs.Laws.Limits.{variables-are}
 use Rattle.rules.proofs.Occurring.{signs-plus, signs-minus, signs-both}
 use Rattle.rules.proofs.by_literal.signs_at.Statement.{statement}
 use Rattle.rules.proofs.by_literal.signs_at.Tie as tie

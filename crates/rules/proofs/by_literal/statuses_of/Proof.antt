@@ -3,7 +3,8 @@ use Prim.Native.Nat.{_+_, _-_}
 use mathlib.Core.Path.{sym}
 use borrow.Author.Needs.{needs}
 use native.Mathlib.Omega.{arith}
-use Rattle.formula.specs.Limits.{maxVariables, variables-are}
+use Rattle.formula.specs.Limits.{maxVariables}
+use Rattle.formula.specs.Laws.Limits.{variables-are}
 use Rattle.rules.proofs.Statuses.{Stated, stated-begin, stated-turn, stated-end}
 use Rattle.rules.proofs.by_literal.statuses_of.Statement.{statement}
 use Rattle.rules.proofs.by_literal.statuses_of.Tie as tie

@@ -3,7 +3,7 @@ use mathlib.Core.Path.{_≡_, sym, ap, _∙_}
 use lib.IntN.{pos, natAbs}
 use lib.ListN.{getD}
 use borrow.Author.Needs.{needs}
-use Rattle.words.specs.Words.{eqZ-ne, same-sign}
+use Rattle.words.specs.Laws.Words.{eqZ-ne, same-sign}
 use Rattle.rules.proofs.clauses.same_at.Statement.{statement}
 use Rattle.rules.proofs.clauses.same_at.Tie as tie
 

@@ -3,8 +3,8 @@ use mathlib.Core.Path.{ap}
 use native.Mathlib.Omega.{arith}
 use lib.IntN.{pos}
 use lib.ListN.{getD}
-use Rattle.formula.specs.Limits.{variables-are}
-use Rattle.formula.specs.Places.{place-within}
+use Rattle.formula.specs.Laws.Limits.{variables-are}
+use Rattle.formula.specs.Laws.Places.{place-within}
 use borrow.Author.Needs.{needs}
 use Rattle.rules.proofs.clauses.status_at.Statement.{statement}
 use Rattle.rules.proofs.clauses.status_at.Tie as tie

@@ -4,7 +4,7 @@ use native.Mathlib.Omega.{arith}
 use lib.Seq.{length-take-le}
 use borrow.Author.Needs.{needs}
 use Rattle.formula.specs.Limits.{limits}
-use Rattle.formula.specs.Named.{all-named, known-up}
+use Rattle.formula.specs.Laws.Named.{all-named, known-up}
 use Rattle.rules.proofs.Row12.{row-over, row-room, row-unnamed, row-twice, row-kinds}
 use Rattle.rules.proofs.record.bad_record.Statement.{statement}
 use Rattle.rules.proofs.record.bad_record.Tie as tie

@@ -4,8 +4,8 @@ use borrow.Author.Needs.{needs}
 use native.Mathlib.Omega.{arith}
 use lib.IntN.{pos}
 use lib.ListN.{length, getD, drop}
-use Rattle.formula.specs.Limits.{variables-are}
-use Rattle.formula.specs.Prefix.{change-few, fresh-at}
+use Rattle.formula.specs.Laws.Limits.{variables-are}
+use Rattle.formula.specs.Laws.Prefix.{change-few, fresh-at}
 use Rattle.rules.proofs.Filled.{placed, bound-named}
 use Rattle.rules.proofs.Levels.{Levelled, begin, turn, end}
 use Rattle.rules.proofs.tables.levels_of.Statement.{statement}

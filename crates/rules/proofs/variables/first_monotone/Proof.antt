@@ -5,7 +5,8 @@ use Prim.Native.Nat.{_-_, _≤_, _<_}
 use lib.ListN.{length}
 use borrow.Author.Needs.{needs}
 use native.Mathlib.Omega.{arith}
-use Rattle.formula.specs.Limits.{limits, variables-are}
+use Rattle.formula.specs.Limits.{limits}
+use Rattle.formula.specs.Laws.Limits.{variables-are}
 use Rattle.rules.specs.declared.Picked.the-variants.{Is}
 use Rattle.rules.proofs.Filled.{placed, bound-named}
 use Rattle.rules.proofs.Monotone.{Seeking, seeking-begin, seeking-end, seeking-plus, seeking-minus, seeking-mixed, seeking-assigned}

@@ -3,7 +3,7 @@ use Prim.Native.Nat.{_<_}
 use mathlib.Core.Path.{refl}
 use native.Mathlib.Omega.{arith}
 use lib.ListN.{length}
-use Rattle.formula.specs.Permuted.{all-bound, no-other}
+use Rattle.formula.specs.Laws.Permuted.{all-bound, no-other}
 use Rattle.rules.proofs.Filled.{enough}
 use Rattle.rules.proofs.Unassigned.{unassigned, is-assigned}
 use Rattle.rules.proofs.OpenLiteral.{open-unbound, open-assigned, open-by}

@@ -16,7 +16,7 @@ same-length-2 : tie.Need-same-length-2
 same-length-2 c = search needs
 
 returns : tie.Need-returns
-returns c = run-refused _ _ _ _ _ _ _ (c .before .of-session .ensures) (c .if1 .taken)
+returns c = run-refused _ _ _ _ _ _ (c .before .of-session .ensures) (c .if1 .taken)
 
 sub-most : tie.Need-sub-most
 sub-most c = search needs
@@ -33,12 +33,12 @@ same-length-4 c = search needs
 returns-2 : tie.Need-returns-2
 returns-2 c =
     let g = c .before .before in
-    run-over _ _ _ _ _ _ _ (g .before .of-session .ensures) (g .if1 .left) (c .before .wide .ensures) (omega (arith, c .if2 .taken))
+    run-over _ _ _ _ _ _ (g .before .of-session .ensures) (g .if1 .left) (c .before .wide .ensures) (omega (arith, c .if2 .taken))
 
 search-requires : tie.Need-search-requires
 search-requires c κs =
     let g = c .before .before .before .before in
-    checked _ _ _ _ _ (g .before .of-session .ensures) (g .if1 .left)
+    checked _ _ _ _ (g .before .of-session .ensures) (g .if1 .left)
 
 wide-requires-2 : tie.Need-wide-requires-2
 wide-requires-2 c κs = search needs
@@ -49,7 +49,7 @@ add-moved c =
     let v = f .before .before .before in
     let g = v .before .before in
     let start = g .before .before .before .before .before in
-    let on = checked (start .args .self) _ _ _ _ (g .before .of-session .ensures) (g .if1 .left) in
+    let on = checked (start .args .self) _ _ _ (g .before .of-session .ensures) (g .if1 .left) in
     let w = steps-within on (start .args .budget) (start .args .preferred .now) (f .search .ensures) in
     omega (arith, w, v .if2 .left, v .before .wide .ensures, c .wide2 .ensures, start .good)
 
@@ -68,7 +68,7 @@ returns-3 c =
     let v = f .before .before .before in
     let g = v .before .before in
     let start = g .before .before .before .before .before in
-    run-moves _ _ _ _ _ _ _ (g .before .of-session .ensures) (g .if1 .left) (v .before .wide .ensures) (omega (arith, start .good)) (omega (arith, v .if2 .left))
+    run-moves _ _ _ _ _ _ (g .before .of-session .ensures) (g .if1 .left) (v .before .wide .ensures) (omega (arith, start .good)) (omega (arith, v .if2 .left))
     _ _ _ _ (f .search .ensures) (c .before .wide2 .ensures) (c .moved .ensures)
 
 pub run-spec : {M : Type 1} → statement M

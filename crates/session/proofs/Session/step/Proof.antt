@@ -16,7 +16,7 @@ same-length-2 : tie.Need-same-length-2
 same-length-2 c = search needs
 
 returns : tie.Need-returns
-returns c = step-refused _ _ _ _ _ _ (c .before .of-session .ensures) (c .if1 .taken)
+returns c = step-refused _ _ _ _ _ (c .before .of-session .ensures) (c .if1 .taken)
 
 same-length-3 : tie.Need-same-length-3
 same-length-3 c = search needs
@@ -25,15 +25,15 @@ same-length-4 : tie.Need-same-length-4
 same-length-4 c = search needs
 
 returns-2 : tie.Need-returns-2
-returns-2 c = let g = c .before in step-last _ _ _ _ _ _ (g .before .of-session .ensures) (g .if1 .left) (omega (arith, c .if2 .taken))
+returns-2 c = let g = c .before in step-last _ _ _ _ _ (g .before .of-session .ensures) (g .if1 .left) (omega (arith, c .if2 .taken))
 
 due-requires : tie.Need-due-requires
-due-requires c κs = let g = c .before .before .before in checked _ _ _ _ _ (g .before .of-session .ensures) (g .if1 .left)
+due-requires c κs = let g = c .before .before .before in checked _ _ _ _ (g .before .of-session .ensures) (g .if1 .left)
 
 of-proposal-requires : tie.Need-of-proposal-requires
 of-proposal-requires c κs =
     let g = c .before .before .before .before .before in
-    held (checked _ _ _ _ _ (g .before .of-session .ensures) (g .if1 .left))
+    held (checked _ _ _ _ (g .before .of-session .ensures) (g .if1 .left))
 
 same-length-5 : tie.Need-same-length-5
 same-length-5 c = search needs
@@ -46,13 +46,13 @@ returns-3 c =
     let d = c .before .before .before in
     let v = d .before .before .before in
     let g = v .before in
-    step-improper _ _ _ _ _ _ (g .before .of-session .ensures) (g .if1 .left) (v .if2 .left) (d .due .ensures) (c .before .of-proposal .ensures) (c .if3 .taken)
+    step-improper _ _ _ _ _ (g .before .of-session .ensures) (g .if1 .left) (v .if2 .left) (d .due .ensures) (c .before .of-proposal .ensures) (c .if3 .taken)
 
 apply-requires : tie.Need-apply-requires
 apply-requires c κs =
     let d = c .before .before .before .before .before in
     let g = d .before .before .before .before in
-    (checked _ _ _ _ _ (g .before .of-session .ensures) (g .if1 .left), d .due .ensures)
+    (checked _ _ _ _ (g .before .of-session .ensures) (g .if1 .left), d .due .ensures)
 
 add-moved : tie.Need-add-moved
 add-moved c =
@@ -78,7 +78,7 @@ returns-4 c =
     let d = q .before .before .before in
     let v = d .before .before .before in
     let g = v .before in
-    step-moves _ _ _ _ _ _ (g .before .of-session .ensures) (g .if1 .left) (v .if2 .left) (d .due .ensures) (q .before .of-proposal .ensures) (q .if3 .left)
+    step-moves _ _ _ _ _ (g .before .of-session .ensures) (g .if1 .left) (v .if2 .left) (d .due .ensures) (q .before .of-proposal .ensures) (q .if3 .left)
     _ _ _ (a .apply .ensures) (c .moved .ensures)
 
 pub step-spec : {M : Type 1} → statement M

@@ -17,17 +17,17 @@ is-short-requires : tie.Need-is-short-requires
 is-short-requires c κs = search needs
 
 returns : tie.Need-returns
-returns c = block-refused _ _ _ (c .before .before .before .check .ensures) _ (c .before .number .given .1)
+returns c = block-refused _ _ (c .before .before .before .check .ensures) _ (c .before .number .given .1)
 
 returns-2 : tie.Need-returns-2
 returns-2 c =
     let a = c .before .before in
-    buffers-short _ _ _ (a .before .before .check .ensures) (a .enum-told .given .1) (c .before .is-short .ensures) (c .if1 .taken)
+    buffers-short _ _ (a .before .before .check .ensures) (a .enum-told .given .1) (c .before .is-short .ensures) (c .if1 .taken)
 
 returns-3 : tie.Need-returns-3
 returns-3 c =
     let a = c .before .before in
-    buffers-pass _ _ _ (a .before .before .check .ensures) (a .enum-told .given .1) (c .before .is-short .ensures) (c .if1 .left)
+    buffers-pass _ _ (a .before .before .check .ensures) (a .enum-told .given .1) (c .before .is-short .ensures) (c .if1 .left)
 
 pub of-buffers-spec : {M : Type 1} → statement M
 of-buffers-spec =

@@ -4,10 +4,11 @@ use mathlib.Core.Path.{_≡_}
 use native.Mathlib.Omega.{arith}
 use lib.ListN.{length}
 use borrow.Author.Needs.{needs}
-use Rattle.formula.specs.Limits.{limits, variables-are, clauses-are}
+use Rattle.formula.specs.Limits.{limits}
+use Rattle.formula.specs.Laws.Limits.{variables-are, clauses-are}
 use Rattle.formula.specs.Formula.{variablesOf, clauseCountOf}
-use Rattle.formula.specs.Layout.{prefix-lent, ends-lent, literals-lent}
-use Rattle.formula.specs.Accepted.{Accepted, accepted, variables-most, clauses-most, prefix-within, ends-within}
+use Rattle.formula.specs.Laws.Layout.{prefix-lent, ends-lent, literals-lent}
+use Rattle.formula.specs.Laws.Accepted.{Accepted, accepted, variables-most, clauses-most, prefix-within, ends-within}
 use Rattle.session.specs.Accepted.{accepted-ready, formula-is}
 use Rattle.session.proofs.parts.due.Statement.{statement}
 use Rattle.session.proofs.parts.due.Tie as tie

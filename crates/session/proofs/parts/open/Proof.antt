@@ -1,8 +1,8 @@
 -- The part that is lent is the prefix.
 use borrow.Author.Needs.{needs}
 use Rattle.formula.specs.Limits.{limits}
-use Rattle.formula.specs.Layout.{prefix-lent}
-use Rattle.formula.specs.Accepted.{accepted, prefix-within}
+use Rattle.formula.specs.Laws.Layout.{prefix-lent}
+use Rattle.formula.specs.Laws.Accepted.{accepted, prefix-within}
 use Rattle.session.proofs.parts.open.Statement.{statement}
 use Rattle.session.proofs.parts.open.Tie as tie
 

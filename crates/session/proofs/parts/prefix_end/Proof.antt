@@ -1,8 +1,9 @@
 -- There are at most as many variables as the limit says.
 use native.Mathlib.Omega.{arith}
 use borrow.Author.Needs.{needs}
-use Rattle.formula.specs.Limits.{limits, variables-are}
-use Rattle.formula.specs.Accepted.{accepted, variables-most}
+use Rattle.formula.specs.Limits.{limits}
+use Rattle.formula.specs.Laws.Limits.{variables-are}
+use Rattle.formula.specs.Laws.Accepted.{accepted, variables-most}
 use Rattle.session.proofs.parts.prefix_end.Statement.{statement}
 use Rattle.session.proofs.parts.prefix_end.Tie as tie
 

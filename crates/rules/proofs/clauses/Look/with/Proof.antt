@@ -6,7 +6,7 @@ use lib.IntN.{pos}
 use lib.ListN.{getD}
 use borrow.Author.Needs.{needs}
 use borrow.Author.Tests.{not-true, not-false}
-use Rattle.formula.specs.Limits.{variables-are}
+use Rattle.formula.specs.Laws.Limits.{variables-are}
 use Rattle.rules.specs.ByLiteral.{statusIn}
 use Rattle.rules.specs.Clauses.{levelBy, Shown}
 use Rattle.rules.proofs.Looks.{with-false, with-true, with-first, with-same, with-other, with-universal}

@@ -7,7 +7,7 @@ use native.Mathlib.Decide.{ℕ-discrete}
 use native.Mathlib.Omega.{arith}
 use lib.Dec.{eqb}
 use borrow.Author.Tests.{eq-eqb, ne-eqb}
-use Rattle.words.specs.Bools.{look}
+use Rattle.words.specs.Laws.Bools.{look}
 
 unfoldable pub count : (ℕ → Bool) → ℕ → ℕ
 count f zero = 0

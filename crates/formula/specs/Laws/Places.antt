@@ -1,5 +1,4 @@
--- The place of a literal in a table by literal: the word itself, raised by the number of variables. The word 0, which is no literal, has the
--- place in the middle, a positive literal one above it, and its opposite is as far below.
+-- A place has one word, a literal one place, and opposites are as far from one end of the table as from the other. By the cases of a word.
 use mathlib.Core.Path.{_≡_, refl}
 use mathlib.Core.Logic.{_⊎_, inl, inr}
 use mathlib.Core.Bool.{true, false}
@@ -8,21 +7,10 @@ use native.Mathlib.Omega.{arith}
 use lib.Dec.{ltb}
 use lib.IntN.{ℤ, pos, negsuc, negℤ, natAbs, subℕ, _+ℤ_}
 use borrow.Author.Tests.{lt-ltb, le-ltb, ltb-true, ltb-false}
-use Rattle.words.specs.Bools.{look}
-use Rattle.formula.specs.Limits.{limits, maxVariables}
+use Rattle.words.specs.Laws.Bools.{look}
+use Rattle.formula.specs.Limits.{limits}
+use Rattle.formula.specs.Inner.Places.{placeOf, wordAt}
 
-abbrev pub literalPlaces : ℕ
-literalPlaces = suc (2 * maxVariables)
-
-unfoldable pub placeOf : ℤ → ℕ
-placeOf (pos n) = limits .variables + n
-placeOf (negsuc n) = limits .variables - suc n
-
--- the word of a place
-unfoldable pub wordAt : ℕ → ℤ
-wordAt at = subℕ at (limits .variables)
-
--- ---- laws: a place has one word, and a literal one place
 pub place-word : (at : ℕ) → placeOf (wordAt at) ≡ at
 unfolding placeOf wordAt
 place-word at = go (look (ltb at (limits .variables)))

@@ -12,9 +12,11 @@ use lib.Dec.{eqb}
 use lib.IntN.{ℤ, pos, negsuc, negℤ, natAbs}
 use lib.ListN.{length, getD, take, drop}
 use lib.Seq.{split-at}
-use Rattle.words.specs.Bools.{clash, look, or-e, or-fl, or-fr, or-l, or-r, bool-eq, to-false, eqb-eq, eqb-same, eqb-i, eqb-ne, eqb-comm}
-use Rattle.words.specs.Lists.{In, here, there, any, any-i, any-e, any-append, in-at}
-use Rattle.words.specs.Words.{negative, mem, mem-i, mem-e, negneg, neg-swap, natAbs-neg, var-cases, own-opposite}
+use Rattle.words.specs.Laws.Bools.{clash, look, or-e, or-fl, or-fr, or-l, or-r, bool-eq, to-false, eqb-eq, eqb-same, eqb-i, eqb-ne, eqb-comm}
+use Rattle.words.specs.Lists.{In, here, there, any}
+use Rattle.words.specs.Laws.Lists.{any-i, any-e, any-append, in-at}
+use Rattle.words.specs.Words.{negative, mem}
+use Rattle.words.specs.Laws.Words.{mem-i, mem-e, negneg, neg-swap, natAbs-neg, var-cases, own-opposite}
 use Rattle.formula.specs.Formula.{Formula, existential, universal, change, levelOf, level}
 use Rattle.formula.specs.Block.{names, twice, bothSigns}
 use Rattle.formula.specs.Proper.{Proper}

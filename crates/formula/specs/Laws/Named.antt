@@ -9,17 +9,12 @@ use lib.IntN.{ℤ, pos, natAbs}
 use lib.ListN.{length, getD, take, drop, length-take, length-drop}
 use lib.Seq.{getD-take, getD-drop}
 use borrow.Author.Tests.{eqb-false, ne-eqb, ltb-false, le-ltb}
-use Rattle.words.specs.Bools.{or-fl, or-fr}
-use Rattle.words.specs.Lists.{In, any, any-f, any-none, in-at}
-use Rattle.formula.specs.Block.{noVariable}
-
-pub record Named (n : ℕ) (w : ℤ) : Type 0 where
-  pub some : 0 < natAbs w
-  pub most : natAbs w ≤ n
-
--- every word of a list does
-pub record AllNamed (n : ℕ) (ws : List ℤ) : Type 0 where
-  pub at : (i : ℕ) → i < length ws → Named n (getD ws i (pos 0))
+use Rattle.words.specs.Laws.Bools.{or-fl, or-fr}
+use Rattle.words.specs.Lists.{In, any}
+use Rattle.words.specs.Laws.Lists.{any-f, any-none, in-at}
+use Rattle.formula.specs.Block.{noVariable, twice}
+use Rattle.formula.specs.Inner.Tables.{repeated}
+use Rattle.formula.specs.Inner.Named.{Named, AllNamed}
 
 pub named : (n : ℕ) (w : ℤ) → noVariable n w ≡ false → Named n w
 named n w h =
@@ -51,3 +46,7 @@ module _ (n : ℕ) (ws : List ℤ) where
           let near : i < k = omega arith in
           let far : j + i < length ws = omega arith in
           rw (getD-take k (drop j ws) i (pos 0) near, getD-drop j ws i (pos 0)) (a .at (j + i) far)
+
+  -- words that name variables within n are too large for no table of n, so that `repeated` asks for a variable twice alone
+  pub repeated-is : any (noVariable n) ws ≡ false → repeated n ws ≡ twice ws
+  repeated-is h = let z = any-f (λ w. ltb n (natAbs w)) ws (λ w i. le-ltb n (natAbs w) (in-named h {w = w} i .most)) in rw z

@@ -5,8 +5,9 @@ use mathlib.Core.List.{List, [], _∷_}
 use Prim.Native.Nat.{ℕ, zero, suc, _+_, _<_}
 use lib.IntN.{ℤ, pos, negℤ, natAbs}
 use lib.ListN.{length, drop, getD}
-use Rattle.words.specs.Bools.{or-r}
-use Rattle.words.specs.Lists.{any, next}
+use Rattle.words.specs.Laws.Bools.{or-r}
+use Rattle.words.specs.Lists.{any}
+use Rattle.words.specs.Laws.Lists.{next}
 use Rattle.words.specs.Words.{mem}
 use Rattle.formula.specs.Block.{names, twice, bothSigns}
 

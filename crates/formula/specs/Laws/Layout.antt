@@ -8,8 +8,9 @@ use lib.IntN.{ℤ, pos, negsuc, natAbs}
 use lib.ListN.{length, getD, take, drop, length-drop}
 use lib.Seq.{length-take-le, getD-take, getD-drop}
 use borrow.Author.Tests.{ltb-false, not-false}
-use Rattle.words.specs.Bools.{clash, or-fl, or-fr}
-use Rattle.words.specs.Words.{eqZ, eqZ-eq}
+use Rattle.words.specs.Laws.Bools.{clash, or-fl, or-fr}
+use Rattle.words.specs.Words.{eqZ}
+use Rattle.words.specs.Laws.Words.{eqZ-eq}
 use Rattle.formula.specs.Limits.{Limits}
 use Rattle.formula.specs.Formula.{word, variablesOf, clauseCountOf, literalCountOf, prefixOf, endsOf, literalsOf}
 use Rattle.formula.specs.Block.{badCount, badCounts, isNot, badOffsets}

@@ -7,13 +7,14 @@ use Prim.Native.Nat.{ℕ, suc, _≤_, _<_}
 use native.Mathlib.Omega.{arith}
 use lib.IntN.{ℤ, pos, natAbs}
 use lib.ListN.{length}
-use Rattle.words.specs.Bools.{clash, or-fl, or-fr, look, to-false}
+use Rattle.words.specs.Laws.Bools.{clash, or-fl, or-fr, look, to-false}
 use Rattle.words.specs.Lists.{any}
-use Rattle.words.specs.Counts.{count, count-none, count-all, count-more}
+use Rattle.words.specs.Laws.Counts.{count, count-none, count-all, count-more}
 use Rattle.formula.specs.Formula.{existential, universal}
 use Rattle.formula.specs.Block.{noVariable, names, twice}
-use Rattle.formula.specs.Named.{Named, named, in-named}
-use Rattle.formula.specs.Prefix.{stands, stands-e, stands-bound, one-quantifier}
+use Rattle.formula.specs.Inner.Named.{Named}
+use Rattle.formula.specs.Laws.Named.{named, in-named}
+use Rattle.formula.specs.Laws.Prefix.{stands, stands-e, stands-bound, one-quantifier}
 
 -- as many numbers are named as there are words
 words-count : (n : ℕ) (p : List ℤ) → twice p ≡ false → any (noVariable n) p ≡ false → count (λ v. any (names v) p) n ≡ length p

@@ -1,29 +1,35 @@
 -- What the code's inner functions say to each other; a reader of `refusal` needs none of it.
 use mathlib.Core.Path.{_≡_}
-use mathlib.Core.Bool.{Bool}
+use mathlib.Core.Bool.{Bool, _||_}
 use mathlib.Core.List.{List, [], _∷_}
 use Prim.Native.Nat.{ℕ, _-_, _<_}
-use lib.IntN.{ℤ, pos}
+use lib.Dec.{ltb}
+use lib.IntN.{ℤ, pos, natAbs}
 use lib.ListN.{length, getD}
 use Rattle.words.specs.Lists.{any}
+use Rattle.words.specs.Rows.{Row, row}
 use Rattle.words.specs.Words.{negative}
 use Rattle.formula.specs.Formula.{clausesFrom}
 use Rattle.formula.specs.Block.{noVariable, twice, badEnds, bothSigns}
-use Rattle.formula.specs.Places.{literalPlaces}
+use Rattle.formula.specs.Inner.Places.{literalPlaces}
 
 -- rows 5 to 10 of the three parts: the prefix, the ends and the literals
 abbrev pub lastNegative : List ℤ → Bool
 lastNegative p = negative (getD p (length p - 1) (pos 0))
 
-abbrev pub partRows : List ℤ → List ℤ → List ℤ → List Bool
+abbrev pub partRows : List ℤ → List ℤ → List ℤ → List Row
 partRows p es ls =
-    any (noVariable (length p)) p
-    ∷ twice p
-    ∷ lastNegative p
-    ∷ badEnds (length ls) 0 es
-    ∷ any (noVariable (length p)) ls
-    ∷ any bothSigns (clausesFrom ls 0 es)
+    row 5 (any (noVariable (length p)) p)
+    ∷ row 6 (twice p)
+    ∷ row 7 (lastNegative p)
+    ∷ row 8 (badEnds (length ls) 0 es)
+    ∷ row 9 (any (noVariable (length p)) ls)
+    ∷ row 10 (any bothSigns (clausesFrom ls 0 es))
     ∷ []
+
+-- a word of size over n, or two of one size
+abbrev pub repeated : ℕ → List ℤ → Bool
+repeated n ws = any (λ w. ltb n (natAbs w)) ws || twice ws
 
 -- a table by literal, in which no mark has the stamp yet, nor a later one
 pub record Fresh (stamp : ℕ) (marks : List ℕ) : Type 0 where

@@ -1,26 +1,30 @@
 -- What an accepted block is, row by row and place by place: for whoever works on a block that was checked.
 use mathlib.Core.Path.{_≡_, refl, sym, _∙_, ap}
-use mathlib.Core.Bool.{Bool, true, false, not}
+use mathlib.Core.Bool.{true, false, not}
 use mathlib.Core.Logic.{_⊎_}
-use mathlib.Core.List.{List, [], _∷_}
-use Prim.Native.Nat.{ℕ, suc, _+_, _-_, _≤_, _<_}
+use mathlib.Core.List.{List}
+use Prim.Native.Nat.{ℕ, _+_, _-_, _≤_, _<_}
 use native.Mathlib.Omega.{arith}
 use lib.Dec.{eqb}
 use lib.IntN.{ℤ, pos, natAbs}
 use lib.ListN.{length, getD}
 use borrow.Author.Tests.{ltb-false, lt-ltb, eqb-true, not-false}
-use Rattle.words.specs.Bools.{to-false}
-use Rattle.words.specs.Lists.{In, any, any-e, in-at, at-in}
-use Rattle.words.specs.Words.{negative, mem, mem-e}
+use Rattle.words.specs.Laws.Bools.{to-false}
+use Rattle.words.specs.Lists.{In, any}
+use Rattle.words.specs.Laws.Lists.{any-e, in-at, at-in}
+use Rattle.words.specs.Laws.Rows.{passed}
+use Rattle.words.specs.Words.{negative, mem}
+use Rattle.words.specs.Laws.Words.{mem-e}
 use Rattle.formula.specs.Limits.{Limits}
 use Rattle.formula.specs.Formula.{word, variablesOf, clauseCountOf, literalCountOf, prefixOf, endsOf, literalsOf, clausesFrom, formulaOf, existential, universal}
-use Rattle.formula.specs.Block.{noVariable, names, twice, badEnds, bothSigns, first, rows, refusal}
-use Rattle.formula.specs.Named.{Named, AllNamed, named, in-named, all-named}
-use Rattle.formula.specs.Ends.{GoodEnd, startOf, good-at}
-use Rattle.formula.specs.Clauses.{clauses-in}
-use Rattle.formula.specs.Layout as layout
-use Rattle.formula.specs.Prefix.{once-at, existential-in}
-use Rattle.formula.specs.Permuted as bound
+use Rattle.formula.specs.Block.{noVariable, names, twice, badEnds, bothSigns, rows, refusal}
+use Rattle.formula.specs.Inner.Named.{Named, AllNamed}
+use Rattle.formula.specs.Laws.Named.{named, in-named, all-named}
+use Rattle.formula.specs.Laws.Ends.{GoodEnd, clauseStart, good-at}
+use Rattle.formula.specs.Laws.Clauses.{clauses-in}
+use Rattle.formula.specs.Laws.Layout as layout
+use Rattle.formula.specs.Laws.Prefix.{once-at, existential-in}
+use Rattle.formula.specs.Laws.Permuted as bound
 use Rattle.formula.specs.Proper.{Proper}
 
 pub record Accepted (L : Limits) (b : List ℤ) : Type 0 where
@@ -38,31 +42,21 @@ pub record Accepted (L : Limits) (b : List ℤ) : Type 0 where
   pub literals : any (noVariable (variablesOf b)) (literalsOf b) ≡ false
   pub plain : any bothSigns (clausesFrom (literalsOf b) 0 (endsOf b)) ≡ false
 
--- a number of tests, none of which holds
-abbrev None : List Bool → Type 0
-None [] = Unit {0}
-None (t ∷ ts) = (t ≡ false) × None ts
-
-none : (n : ℕ) (ts : List Bool) → first (suc n) ts ≡ 0 → None ts
-none n [] e = tt
-none n (false ∷ ts) e = (refl, none (suc n) ts e)
-none n (true ∷ ts) e = let z : suc n ≡ 0 = e in absurd (omega arith)
-
 pub accepted : (L : Limits) (b : List ℤ) → refusal L b ≡ 0 → Accepted L b
 unfolding refusal
 accepted L b e =
-    let p : None (rows L b) = none 0 (rows L b) e in
+    let p = passed (rows L b) refl e in
     record {
-      long = ltb-false (length b) 6 (p .0);
-      counts = layout.good-counts L b (p .1 .0);
-      offsets = layout.good-offsets b (p .1 .1 .0);
-      whole = eqb-true (length b) (6 + variablesOf b + clauseCountOf b + literalCountOf b) (not-false (eqb (length b) (6 + variablesOf b + clauseCountOf b + literalCountOf b)) (p .1 .1 .1 .0));
-      known = p .1 .1 .1 .1 .0;
-      once = p .1 .1 .1 .1 .1 .0;
-      last = λ h. rw (lt-ltb 0 (variablesOf b) h) at (p .1 .1 .1 .1 .1 .1 .0);
-      ends = p .1 .1 .1 .1 .1 .1 .1 .0;
-      literals = p .1 .1 .1 .1 .1 .1 .1 .1 .0;
-      plain = p .1 .1 .1 .1 .1 .1 .1 .1 .1 .0;
+      long = ltb-false (length b) 6 (p 1);
+      counts = layout.good-counts L b (p 2);
+      offsets = layout.good-offsets b (p 3);
+      whole = eqb-true (length b) (6 + variablesOf b + clauseCountOf b + literalCountOf b) (not-false (eqb (length b) (6 + variablesOf b + clauseCountOf b + literalCountOf b)) (p 4));
+      known = p 5;
+      once = p 6;
+      last = λ h. rw (lt-ltb 0 (variablesOf b) h) at (p 7);
+      ends = p 8;
+      literals = p 9;
+      plain = p 10;
     }
 
 module _ {L : Limits} {b : List ℤ} (a : Accepted L b) where
@@ -132,7 +126,7 @@ module _ {L : Limits} {b : List ℤ} (a : Accepted L b) where
   last-existential h = ap negative (layout.prefix-last b h) ∙ a .last h
 
   -- each clause lies within the literals
-  pub clause-within : (c : ℕ) → c < clauseCountOf b → GoodEnd (literalCountOf b) (startOf (endsOf b) c) (endsOf b) c
+  pub clause-within : (c : ℕ) → c < clauseCountOf b → GoodEnd (literalCountOf b) (clauseStart (endsOf b) c) (endsOf b) c
   clause-within c h = good-at (literalCountOf b) (endsOf b) (a .ends) c (rw ends-length h)
 
   -- what the theory of the rules asks

@@ -9,8 +9,8 @@ use lib.Dec.{eqb, ltb}
 use lib.IntN.{ℤ, pos, natAbs}
 use lib.ListN.{length, drop, getD}
 use borrow.Author.Tests.{ltb-false, not-false, eqb-true}
-use Rattle.words.specs.Bools.{or-fl, or-fr}
-use Rattle.words.specs.Lists.{next, ended}
+use Rattle.words.specs.Laws.Bools.{or-fl, or-fr}
+use Rattle.words.specs.Laws.Lists.{next, ended}
 use Rattle.words.specs.Words.{negative}
 use Rattle.formula.specs.Block.{badEnds}
 
@@ -60,20 +60,20 @@ module _ (total from : ℕ) (es : List ℤ) (i : ℕ) (good : badEnds total from
   good-last h = eqb-true from total (not-false (eqb from total) (sym (ends-ended total from es i h) ∙ good))
 
 -- where the c-th clause begins: at the end of the one before it
-unfoldable pub startOf : List ℤ → ℕ → ℕ
-startOf es zero = 0
-startOf es (suc c) = natAbs (getD es c (pos 0))
+unfoldable pub clauseStart : List ℤ → ℕ → ℕ
+clauseStart es zero = 0
+clauseStart es (suc c) = natAbs (getD es c (pos 0))
 
-pub start-next : (es : List ℤ) (c : ℕ) → startOf es (c + 1) ≡ natAbs (getD es c (pos 0))
-unfolding startOf
+pub start-next : (es : List ℤ) (c : ℕ) → clauseStart es (c + 1) ≡ natAbs (getD es c (pos 0))
+unfolding clauseStart
 start-next es c = rw add-one
 
 -- so a loop over clauses needs to know only where it stands
 module _ (total : ℕ) (es : List ℤ) (good : badEnds total 0 es ≡ false) where
-  pub good-from : (c : ℕ) → c ≤ length es → badEnds total (startOf es c) (drop c es) ≡ false
-  unfolding startOf
+  pub good-from : (c : ℕ) → c ≤ length es → badEnds total (clauseStart es c) (drop c es) ≡ false
+  unfolding clauseStart
   good-from zero h = good
-  good-from (suc c) h = rw add-one at (good-end total (startOf es c) es c (good-from c (omega arith)) h .rest)
+  good-from (suc c) h = rw add-one at (good-end total (clauseStart es c) es c (good-from c (omega arith)) h .rest)
 
-  pub good-at : (c : ℕ) → c < length es → GoodEnd total (startOf es c) es c
-  good-at c h = good-end total (startOf es c) es c (good-from c (omega arith)) h
+  pub good-at : (c : ℕ) → c < length es → GoodEnd total (clauseStart es c) es c
+  good-at c h = good-end total (clauseStart es c) es c (good-from c (omega arith)) h

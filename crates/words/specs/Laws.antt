@@ -1,0 +1,6 @@
+-- Laws for the proofs of every room.
+pub mod Bools
+pub mod Lists
+pub mod Words
+pub mod Counts
+pub mod Rows
