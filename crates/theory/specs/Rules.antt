@@ -1,5 +1,4 @@
--- The rules as one relation: "in each open state any applicable rule may be taken with any permitted literal". A solver's own order picks one
--- of them in each state, and may have a Monotone of its own.
+-- The rules as one relation [order.rules]: what may be done in an open state. A solver's own order picks one of its cases in each state.
 use mathlib.Core.Path.{_≡_}
 use mathlib.Core.Bool.{Bool, true, false}
 use mathlib.Core.List.{List, [], _∷_, _++_}
@@ -31,17 +30,16 @@ module _ (F : Formula) where
   abbrev pub Full : Record → Type 0
   Full r = allAssigned (F .prefix) (trueIn r) ≡ true
 
--- a test of Monotone: of a prefix, clauses, what is true, and a literal that the rule may append
+-- [order.monotone] A test of Monotone: of a prefix, clauses, what is true, and a literal that the rule may append.
 abbrev pub Monotone : Type 0
 Monotone = List ℤ → List (List ℤ) → Assignment → ℤ → Bool
 
--- it passes no literal but those of the widest that is sound
+-- [order.monotone] It passes no literal but those of the widest that is sound.
 pub record Within (μ : Monotone) : Type 0 where
   pub wide : (p : List ℤ) (m : List (List ℤ)) (ρ : Assignment) (l : ℤ) → μ p m ρ l ≡ true → monotoneWide p m ρ l ≡ true
 
 module _ (μ : Monotone) (F : Formula) where
-  -- "Backtrack-exists and Fail only in conflict, Backtrack-forall and Succeed only with everything assigned and no conflict, the other three
-  -- only without conflict"
+  -- [order.rules] A constructor for each rule: when it applies, with which literal, and what it makes of the record.
   pub data StepBy : Record → State → Type 0 where
     -- "Cut the record at its last kind 1 entry and put the opposite there, kind 0."
     backtrack-exists : {r : Record} → Conflict F r → (a b : Record) (l : ℤ) → r ≡ a ++ entry 1 l ∷ b → without 1 b ≡ true → StepBy r (going (a ++ entry 0 (negℤ l) ∷ []))

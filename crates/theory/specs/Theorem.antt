@@ -29,17 +29,18 @@ use Rattle.theory.specs.Laws.Value.{value-under, under-none}
 use Rattle.theory.specs.Laws.Tested.{open-e}
 use Rattle.theory.specs.Laws.Monotone.{open-within, whole-within}
 use Rattle.theory.specs.Laws.Invariant.{invariant-start, holds-path}
-use Rattle.theory.specs.Laws.Moves.{good-none, path-append}
+use Rattle.theory.specs.Laws.Moves.{good-none, path-append, path-snoc}
 use Rattle.theory.specs.Laws.Work.{free, good-taken, nodes-up, work, forced-owed, step-less, path-work}
 use Rattle.theory.specs.Laws.First.{Last, last, First, first, first-open}
 
--- what is claimed of the paths from a start: fewer than `limit` rules, and the answer is `answer`
+-- [order] What is claimed of the paths from a start: fewer than `limit` rules, and the answer is `answer`.
 pub record AnyOrder (μ : Monotone) (F : Formula) (start : Record) (limit : ℕ) (answer : Bool) : Type 0 where
-  -- "Every such path .. is finite"
+  -- [order.ends] Every such path is finite, and has fewer rules still while it is open.
   pub short : {n : ℕ} {s : State} → PathBy μ F n (going start) s → n < limit
-  -- "its end agrees with the truth of the formula": if it ended valid the answer is true, if unsat false
+  pub fewer : {n : ℕ} {r : Record} → PathBy μ F n (going start) (going r) → suc n < limit
+  -- [order.right] Its end agrees with the truth: if it ended valid the answer is true, if unsat false.
   pub right : (b : Bool) {n : ℕ} → PathBy μ F n (going start) (verdict b) → answer ≡ b
-  -- and it can be continued until it ends
+  -- [order.ends] And it can be continued until it ends.
   pub goes-on : {n : ℕ} {s : State} → PathBy μ F n (going start) s → (m : ℕ) × PathBy μ F m s (verdict answer)
 
 -- ---- finite: a path from k forced entries of distinct variables of the prefix has at most 2^(V+1-k) - 1 rules
@@ -95,10 +96,11 @@ answered {μ} within F ok s = go (suc (work F s)) s (omega arith)
 
 -- ---- all together, for any test of Monotone within the widest
 module _ {μ : Monotone} (within : Within μ) (F : Formula) (ok : Proper F) where
-  -- from a good record of forced entries, as the openings of a listing are: the answer is the truth of the rest
+  -- [order.start] From a good record of forced entries, as the openings of a listing are: the answer is the truth of the rest.
   pub any-order-from : (r : Record) → Good F r → forced r ≡ true → AnyOrder μ F r (2 ^ (suc (length (F .prefix)) - length r)) (trueUnder F r)
   any-order-from r g f = record {
     short = finite within F r g f;
+    fewer = λ p. finite within F r g f (path-snoc F p (never-stuck F ok _ .1));
     right = sound within F ok r f;
     goes-on = λ {n} {s} p. let (b, m, q) = answered within F ok s in (m, rw (sym (sound within F ok r f b (path-append F p q .1))) at q);
   }
@@ -110,11 +112,11 @@ module _ {μ : Monotone} (within : Within μ) (F : Formula) (ok : Proper F) wher
       let e : suc (length (F .prefix)) - 0 ≡ suc (length (F .prefix)) = omega arith in
       rw (e, under-none F) at (any-order-from [] (good-none F) refl)
 
--- the rules as the specification has them
+-- [order.ends] [order.right] The rules as the specification has them.
 pub any-order : (F : Formula) → Proper F → AnyOrder monotoneOpen F [] (2 ^ suc (length (F .prefix))) (true? F)
 any-order = any-order-by open-within
 
--- as document 01 had them, with Monotone "over the whole matrix"
+-- the same with a Monotone that counts all clauses
 pub any-order-whole : (F : Formula) → Proper F → AnyOrder monotone F [] (2 ^ suc (length (F .prefix))) (true? F)
 any-order-whole = any-order-by whole-within
 

@@ -1,5 +1,5 @@
--- Which Monotone rules the theory covers: `monotoneWide` is the widest, and both the one that counts every clause and the one that counts
--- only clauses with no true literal are cases of it, since a sign that does not occur in the counted clauses is absent from those that count.
+-- Two tests of Monotone that are within the widest: the one that counts only clauses with no true literal, and the one that counts all. A sign
+-- that does not occur in the counted clauses is absent from those that lack a true literal.
 use mathlib.Core.Path.{_≡_}
 use mathlib.Core.Logic.{_⊎_, inl, inr}
 use mathlib.Core.Bool.{Bool, true, false, not, cond, _&&_, _||_}
@@ -49,6 +49,6 @@ pub open-within : Within monotoneOpen
 unfolding monotoneOpen
 open-within = record { wide = λ p m ρ l. counted-wide m (untrueOf ρ m) ρ (λ C i e. untrue-i ρ i e) p l }
 
--- "over the whole matrix"
+-- over all clauses
 pub whole-within : Within monotone
 whole-within = record { wide = λ p m ρ l. counted-wide m m ρ (λ C i e. i) p l }
