@@ -8,8 +8,8 @@ use lib.IntN.{ℤ, pos}
 use lib.ListN.{length, getD, drop}
 use Rattle.words.specs.Laws.Lists.{next, ended}
 use Rattle.rules.specs.Due.{lowest}
-use Rattle.rules.specs.Clauses.{byStatus, conflictBy}
-use Rattle.rules.specs.declared.Found.the-variants.{At, Nothing}
+use Rattle.rules.specs.Inner.Clauses.{byStatus, conflictBy}
+use Rattle.rules.specs.declared.found.Found.the-variants.{At, Nothing}
 
 by-closed : (s : ℕ) (b : Bool) → (s ≡ 1 → ⊥) → (s ≡ 2 → ⊥) → byStatus s b false false b ≡ b
 by-closed zero b m n = refl

@@ -11,8 +11,8 @@ use Rattle.words.specs.Laws.Lists.{take-more, blank}
 use Rattle.formula.specs.Limits.{limits}
 use Rattle.formula.specs.Laws.Limits.{variables-are}
 use Rattle.formula.specs.Laws.Named.{all-named, known-up}
-use Rattle.rules.specs.Ready.{Bound}
-use Rattle.rules.specs.Tables.{places, Known}
+use Rattle.rules.specs.Inner.Ready.{Bound}
+use Rattle.rules.specs.Inner.Tables.{places, Known}
 
 -- a variable's number is a place of a table
 pub enough : limits .variables < places

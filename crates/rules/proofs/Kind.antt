@@ -1,6 +1,6 @@
 -- A variable is universal exactly if a word of its size in the prefix is negative: no word there is 0.
 use mathlib.Core.Path.{_≡_, refl, sym, _∙_, ap}
-use mathlib.Core.Bool.{true, false}
+use mathlib.Core.Bool.{true, false, cond}
 use mathlib.Core.List.{List}
 use Prim.Native.Nat.{ℕ, _+_, _≤_, _<_}
 use native.Mathlib.Omega.{arith}
@@ -12,9 +12,8 @@ use Rattle.words.specs.Words.{negative, eqZ, mem}
 use Rattle.words.specs.Laws.Words.{natAbs-neg, eqZ-refl, other-word}
 use Rattle.formula.specs.Formula.{universal}
 use Rattle.formula.specs.Laws.Named.{all-named}
-use Rattle.rules.specs.Due.{pick}
 use Rattle.rules.specs.Apply.{kindOf}
-use Rattle.rules.specs.Ready.{Bound}
+use Rattle.rules.specs.Inner.Ready.{Bound}
 use Rattle.rules.proofs.Universals.{plus-word}
 
 -- ---- one word q of the prefix, against the universal word of the variable v
@@ -34,7 +33,7 @@ pub looking-begin : (p : List ℤ) (v : ℕ) → Looking p v 0
 looking-begin p v = record { at = omega arith; same = refl }
 
 -- the kind of a literal is that of its variable
-kind-of : (p : List ℤ) (v : ℕ) (l : ℤ) → v ≡ natAbs l → pick (universal p (pos v)) 2 1 ≡ kindOf p l
+kind-of : (p : List ℤ) (v : ℕ) (l : ℤ) → v ≡ natAbs l → cond (universal p (pos v)) 2 1 ≡ kindOf p l
 unfolding universal
 kind-of p v l is = rw is
 
@@ -43,13 +42,13 @@ module _ (p : List ℤ) (v i : ℕ) (k : Looking p v i) (l : ℤ) (is : v ≡ na
   unfolding universal mem
   looking-end h =
       let e : universal p (pos v) ≡ false = sym (k .same) ∙ rw (ended p i h) in
-      sym (ap (λ b. pick b 2 1) e) ∙ kind-of p v l is
+      sym (ap (λ b. cond b 2 1) e) ∙ kind-of p v l is
 
   pub looking-found : i < length p → natAbs (getD p i (pos 0)) ≡ v → negative (getD p i (pos 0)) ≡ true → 2 ≡ kindOf p l
   unfolding universal mem
   looking-found h e g =
       let t : universal p (pos v) ≡ true = sym (k .same) ∙ rw (next p i (pos 0) h, word-minus (getD p i (pos 0)) v e g) in
-      sym (ap (λ b. pick b 2 1) t) ∙ kind-of p v l is
+      sym (ap (λ b. cond b 2 1) t) ∙ kind-of p v l is
 
 module _ (p : List ℤ) (v i : ℕ) (k : Looking p v i) (h : i < length p) where
   past : eqZ (negℤ (pos v)) (getD p i (pos 0)) ≡ false → Looking p v (i + 1)

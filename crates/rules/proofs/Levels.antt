@@ -17,7 +17,7 @@ use Rattle.words.specs.Words.{negative}
 use Rattle.formula.specs.Formula.{change, levelOf}
 use Rattle.formula.specs.Block.{names}
 use Rattle.formula.specs.Laws.Prefix.{change-few}
-use Rattle.rules.specs.Tables.{places}
+use Rattle.rules.specs.Inner.Tables.{places}
 
 -- ---- the change after a word
 pub change-last : (q : ℤ) (p : List ℤ) (i : ℕ) → length p ≤ i + 1 → change q (drop (i + 1) p) ≡ 0

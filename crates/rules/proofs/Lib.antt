@@ -6,12 +6,10 @@ pub mod Occurring
 pub mod Statuses
 pub mod Levels
 pub mod Unassigned
-pub mod Occurs
 pub mod Lowest
 pub mod OpenLiteral
 pub mod Monotone
 pub mod Kind
-pub mod Kept
 pub mod Places
 pub mod Exits
 pub mod Row12

@@ -1,7 +1,7 @@
 -- What one literal more does to the look at a clause, and what the look says at the clause's end: each by the literal's status.
 use Prim.Native.Nat.{ℕ, zero, suc, _+_, _-_, _≤_, _<_, min}
 use mathlib.Core.Path.{_≡_, refl, sym, _∙_}
-use mathlib.Core.Bool.{Bool, true, false, _&&_}
+use mathlib.Core.Bool.{Bool, true, false, _&&_, cond}
 use mathlib.Core.List.{List, [], _∷_}
 use native.Mathlib.Numerals.{add-one}
 use native.Mathlib.Omega.{arith}
@@ -12,14 +12,14 @@ use borrow.Author.Tests.{lt-ltb, le-ltb, le-leb, leb-true}
 use Rattle.words.specs.declared.Literal.{Literal}
 use Rattle.words.specs.Laws.Bools.{clash, and-l, and-r}
 use Rattle.words.specs.Words.{eqZ}
-use Rattle.rules.specs.Due.{pick, literal}
-use Rattle.rules.specs.Clauses.{levelBy, staysUnit, unitFrom, unitAfter, unitWith, Shown, decidedBy, lowestUnitBy}
+use Rattle.rules.specs.Due.{literal}
+use Rattle.rules.specs.Inner.Clauses.{levelBy, staysUnit, unitFrom, unitAfter, unitWith, Shown, decidedBy, lowestUnitBy}
 use Rattle.rules.specs.declared.clauses.Look.{Look}
-use Rattle.rules.specs.declared.Picked.{Picked}
-use Rattle.rules.specs.declared.Picked.the-variants.{Is, NoLiteral}
-use Rattle.rules.specs.declared.UnitFound.the-variants.{On, NoUnit}
+use Rattle.rules.specs.declared.found.Picked.{Picked}
+use Rattle.rules.specs.declared.found.Picked.the-variants.{Is, NoLiteral}
+use Rattle.rules.specs.declared.found.UnitFound.the-variants.{On, NoUnit}
 use Rattle.rules.proofs.Walk.{part-next, part-ended}
-use Rattle.rules.specs.Tables.{places}
+use Rattle.rules.specs.Inner.Tables.{places}
 
 -- none of the three lower ones
 above-two : (s : ℕ) → (s ≡ 0 → ⊥) → (s ≡ 1 → ⊥) → (s ≡ 2 → ⊥) → (n : ℕ) × (s ≡ suc (suc (suc n)))
@@ -39,7 +39,7 @@ module _ (st lev : ℤ → ℕ) (ls : List ℤ) (end place above : ℕ) (x : ℤ
   with-true true h = refl
   with-true false h = rw h (either (ltb place end))
     where
-      either : (b : Bool) → NoLiteral ≡ pick b (pick false (Is (literal (getD ls place (pos 0)))) NoLiteral) NoLiteral
+      either : (b : Bool) → NoLiteral ≡ cond b (cond false (Is (literal (getD ls place (pos 0)))) NoLiteral) NoLiteral
       either true = refl
       either false = refl
 
@@ -85,7 +85,7 @@ module _ (st : ℤ → ℕ) (levels : List ℕ) (ls : List ℤ) (j end : ℕ) (k
   unfolding unitAfter staysUnit unitFrom decidedBy
   not-decided l h = go (ltb (k .place) end) below (rw (le-leb end j l) at h)
     where
-      go : (a b : Bool) → (a && b) ≡ false → pick a (pick b (Is (literal (getD ls (k .place) (pos 0)))) NoLiteral) NoLiteral ≡ NoLiteral
+      go : (a b : Bool) → (a && b) ≡ false → cond a (cond b (Is (literal (getD ls (k .place) (pos 0)))) NoLiteral) NoLiteral ≡ NoLiteral
       go true true h = clash refl h
       go true false h = refl
       go false b h = refl

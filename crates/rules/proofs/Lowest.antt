@@ -17,7 +17,7 @@ use Rattle.formula.specs.Limits.{limits}
 use Rattle.formula.specs.Formula.{level}
 use Rattle.formula.specs.Block.{names}
 use Rattle.theory.specs.Record.{Assignment, assigned}
-use Rattle.rules.specs.Tables.{Values, Levels, Lowest, places}
+use Rattle.rules.specs.Inner.Tables.{Values, Levels, Lowest, places}
 use Rattle.rules.proofs.Filled.{enough}
 use Rattle.rules.proofs.Unassigned.{unassigned, is-assigned}
 

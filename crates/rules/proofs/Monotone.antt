@@ -1,7 +1,7 @@
 -- A variable of the prefix is monotone by the signs with which it occurs: 1 where the prefix's own word is to be taken, 2 where
 -- that word's opposite is.
 use mathlib.Core.Path.{_≡_, refl, _∙_, ap}
-use mathlib.Core.Bool.{Bool, true, false, not, _&&_, _||_, or-false, or-comm}
+use mathlib.Core.Bool.{Bool, true, false, not, _&&_, _||_, or-false, or-comm, cond}
 use mathlib.Core.List.{List}
 use Prim.Native.Nat.{ℕ, zero, suc, _+_, _≤_, _<_}
 use native.Mathlib.Omega.{arith}
@@ -21,23 +21,23 @@ use Rattle.formula.specs.Laws.Named.{all-named, in-named}
 use Rattle.formula.specs.Laws.Prefix.{one-sign}
 use Rattle.theory.specs.Record.{Assignment, assigned}
 use Rattle.theory.specs.Tests.{unassignedE, unassignedU, oneSign, monotone}
-use Rattle.rules.specs.declared.Picked.{Picked}
-use Rattle.rules.specs.declared.Picked.the-variants.{Is, NoLiteral}
-use Rattle.rules.specs.Due.{literal, pick, firstMonotone}
-use Rattle.rules.specs.Ready.{Bound}
-use Rattle.rules.specs.Tables.{Values, signsOf, Spread}
-use Rattle.rules.specs.ByLiteral.{Occurring}
+use Rattle.rules.specs.declared.found.Picked.{Picked}
+use Rattle.rules.specs.declared.found.Picked.the-variants.{Is, NoLiteral}
+use Rattle.rules.specs.Due.{literal, firstMonotone}
+use Rattle.rules.specs.Inner.Ready.{Bound}
+use Rattle.rules.specs.Inner.Tables.{Values, signsOf, Spread}
+use Rattle.rules.specs.Inner.ByLiteral.{Occurring}
 use Rattle.rules.proofs.Filled.{bound-named}
 use Rattle.rules.proofs.Unassigned.{unassigned, is-assigned}
 
 -- ---- signs
-one-plus : (a b : Bool) → (a && not b) ≡ eqb (pick a (pick b 3 1) (pick b 2 0)) 1
+one-plus : (a b : Bool) → (a && not b) ≡ eqb (cond a (cond b 3 1) (cond b 2 0)) 1
 one-plus true true = refl
 one-plus true false = refl
 one-plus false true = refl
 one-plus false false = refl
 
-one-minus : (a b : Bool) → (b && not a) ≡ eqb (pick a (pick b 3 1) (pick b 2 0)) 2
+one-minus : (a b : Bool) → (b && not a) ≡ eqb (cond a (cond b 3 1) (cond b 2 0)) 2
 one-minus true true = refl
 one-minus true false = refl
 one-minus false true = refl

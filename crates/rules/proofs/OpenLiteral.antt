@@ -16,7 +16,7 @@ use Rattle.formula.specs.Laws.Prefix.{stands, binds, level-few}
 use Rattle.theory.specs.Record.{Assignment, assigned}
 use Rattle.theory.specs.Tests.{unassignedE, unassignedU, isOpen}
 use Rattle.rules.specs.Preferred.{firstOpen}
-use Rattle.rules.specs.Tables.{Levels, Lowest}
+use Rattle.rules.specs.Inner.Tables.{Levels, Lowest}
 
 both-under : (a b c : Bool) → ((a && c) || (b && c)) ≡ ((a || b) && c)
 both-under true true true = refl

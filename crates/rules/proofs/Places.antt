@@ -1,19 +1,16 @@
 -- Laws for the loops over the two buffers' places: one turn, and the end.
 use Prim.Native.Nat.{ℕ, zero, suc, _+_, _-_, _≤_, _<_}
-use mathlib.Core.Path.{_≡_, sym, _∙_}
+use mathlib.Core.Path.{_≡_, refl, sym, _∙_}
 use mathlib.Core.List.{List}
 use native.Mathlib.Nat.{not-suc-le-zero}
-use native.Mathlib.Numerals.{add-one, sub-one}
+use native.Mathlib.Numerals.{sub-one}
 use native.Mathlib.Omega.{arith}
 use borrow.Author.Tests.{eq-eqb, ne-eqb}
-use lib.IntN.{ℤ, pos}
 use lib.ListN.{length, getD, set, length-set}
-use Rattle.words.specs.Words.{opposite}
-use Rattle.words.specs.Laws.Words.{opposite-is}
-use Rattle.rules.specs.Apply.{wiped, search, turn}
-use Rattle.rules.specs.Buffers.{Wiped, Cuttable, lastKind}
-use Rattle.rules.specs.declared.State.the-variants.{Open}
-use Rattle.rules.specs.declared.Found.the-variants.{At, Nothing}
+use Rattle.rules.specs.Trail.{wiped}
+use Rattle.rules.specs.Inner.Buffers.{lastKind}
+use Rattle.rules.specs.Laws.Wiped.{wiped-next, wiped-none, wiped-past}
+use Rattle.rules.specs.declared.found.Found.the-variants.{At, Nothing}
 
 -- going backward: the place found, one passed, and the first
 module _ (ks : List ℕ) (k : ℕ) where
@@ -31,42 +28,21 @@ module _ (ks : List ℕ) (k : ℕ) where
   unfolding lastKind
   last-end i h = let z : i ≡ 0 = omega arith in rw z
 
-module _ {A : Type 0} (z : A) (l : List A) (i to : ℕ) where
-  pub wiped-more : i < to → wiped z (set l i z) (i + 1) to ≡ wiped z l i to
-  unfolding wiped
-  wiped-more h = let e : to - i ≡ suc (to - suc i) = omega arith in rw (add-one, e)
+-- the places from .. to of l₀ are being set to z, and i is next
+pub record Wiping {A : Type 0} (z : A) (from to : ℕ) (l₀ : List A) (i : ℕ) (l : List A) : Type 0 where
+  pub long : length l ≡ length l₀
+  pub same : wiped z l i to ≡ wiped z l₀ from to
 
-  pub wiped-end : to ≤ i → wiped z l i to ≡ l
-  unfolding wiped
-  wiped-end h = let e : to - i ≡ 0 = omega arith in rw e
+module _ {A : Type 0} {z : A} {from to : ℕ} {l₀ : List A} where
+  pub wiping-begin : Wiping z from to l₀ from l₀
+  wiping-begin = record { long = refl; same = refl }
 
--- the places from .. to are being set to 0, and i is next
-pub record Wiping (from to : ℕ) (ls : List ℤ) (ks : List ℕ) (i : ℕ) (ls′ : List ℤ) (ks′ : List ℕ) : Type 0 where
-  pub lits-long : length ls′ ≡ length ls
-  pub kinds-long : length ks′ ≡ length ks
-  pub lits : wiped (pos 0) ls′ i to ≡ wiped (pos 0) ls from to
-  pub kinds : wiped 0 ks′ i to ≡ wiped 0 ks from to
+  module _ {i : ℕ} {l : List A} (w : Wiping z from to l₀ i l) where
+    pub wiping-more : i < to → Wiping z from to l₀ (i + 1) (set l i z)
+    wiping-more h = record { long = length-set l i z ∙ w .long; same = sym (wiped-next z l i to h) ∙ w .same }
 
-module _ {from to i : ℕ} {ls ls′ : List ℤ} {ks ks′ : List ℕ} (w : Wiping from to ls ks i ls′ ks′) where
-  pub wiping-more : i < to → Wiping from to ls ks (i + 1) (set ls′ i (pos 0)) (set ks′ i 0)
-  wiping-more h =
-      record {
-        lits-long = length-set ls′ i (pos 0) ∙ w .lits-long;
-        kinds-long = length-set ks′ i 0 ∙ w .kinds-long;
-        lits = wiped-more (pos 0) ls′ i to h ∙ w .lits;
-        kinds = wiped-more 0 ks′ i to h ∙ w .kinds;
-      }
+    pub wiping-end : to ≤ i → l ≡ wiped z l₀ from to
+    wiping-end h = sym (wiped-none z l i to h) ∙ w .same
 
-  pub wiping-end : to ≤ i → Wiped from to ls ks ls′ ks′
-  wiping-end h =
-      record { lits = sym (wiped-end (pos 0) ls′ i to h) ∙ w .lits; kinds = sym (wiped-end 0 ks′ i to h) ∙ w .kinds }
-
--- a cut: the rest is set to 0, and the opposite x stands at its place
-pub turned :
-    (i n : ℕ) (ls : List ℤ) (ks : List ℕ)
-    → Cuttable i n ls ks
-    → (ls′ : List ℤ) (ks′ : List ℕ) (x : ℤ)
-    → Wiped (i + 1) n ls ks ls′ ks′
-    → x ≡ opposite (getD ls i (pos 0))
-    → search (set ls′ i x) (set ks′ i 0) (i + 1) Open ≡ turn i (search ls ks n Open)
-turned i n ls ks h ls′ ks′ x w e = rw (w .lits, w .kinds, e, opposite-is (getD ls i (pos 0)) (h .small))
+    pub wiping-past : length l ≤ i → l ≡ wiped z l₀ from to
+    wiping-past h = sym (wiped-past z l i to h) ∙ w .same

@@ -1,8 +1,8 @@
 -- Row 12 in the words of the code: the kinds, by the signs in the prefix, and the ways out.
 use mathlib.Core.Path.{_≡_, refl, sym, _∙_}
-use mathlib.Core.Bool.{Bool, true, false, _||_, or-false}
+use mathlib.Core.Bool.{Bool, true, false, cond, _||_, or-false}
 use mathlib.Core.List.{List}
-use Prim.Native.Nat.{ℕ, _+_, _-_, _≤_, _<_}
+use Prim.Native.Nat.{ℕ, _+_, _≤_, _<_}
 use native.Mathlib.Omega.{arith}
 use lib.Dec.{eqb, ltb}
 use lib.IntN.{ℤ, pos, negℤ, natAbs}
@@ -10,6 +10,7 @@ use lib.ListN.{length, getD, take, drop}
 use lib.Seq.{getD-take, length-take-le}
 use borrow.Author.Tests.{ne-eqb, lt-ltb, le-ltb}
 use Rattle.words.specs.Lists.{any}
+use Rattle.words.specs.Laws.Lists.{any-found, any-past, any-ended}
 use Rattle.words.specs.Words.{mem}
 use Rattle.words.specs.Laws.Words.{mem-e}
 use Rattle.formula.specs.Formula.{existential, universal}
@@ -19,13 +20,12 @@ use Rattle.formula.specs.Inner.Named.{Named}
 use Rattle.formula.specs.Laws.Named.{in-named, all-named}
 use Rattle.formula.specs.Laws.Prefix.{one-sign}
 use Rattle.theory.specs.Record.{entry}
-use Rattle.rules.specs.Due.{pick}
-use Rattle.rules.specs.Apply.{recordOf}
+use Rattle.rules.specs.Trail.{Trail, recordOf}
 use Rattle.rules.specs.Check.{badKind, badEntries, badRecord}
-use Rattle.rules.specs.Ready.{Bound}
-use Rattle.rules.specs.Tables.{signsOf}
-use Rattle.rules.specs.Buffers.{Room, KindsLent, wrongKind}
-use Rattle.rules.specs.Records.{room-less, record-literals, record-next, record-ended, entryAt}
+use Rattle.rules.specs.Inner.Ready.{Bound, Room}
+use Rattle.rules.specs.Inner.Tables.{signsOf}
+use Rattle.rules.specs.Inner.Buffers.{KindsLent, wrongKind}
+use Rattle.rules.specs.Laws.Records.{noEntry, room-less, record-length, record-get, record-literals}
 
 -- ---- kinds
 -- no variable has both signs in a prefix
@@ -40,7 +40,7 @@ module _ (p : List ℤ) (l : ℤ) (h : Bound p) where
   unfolding universal
   sign-universal = go (mem (pos (natAbs l)) p) (mem (negℤ (pos (natAbs l))) p) (not-both p (natAbs l) h)
     where
-      go : (a b : Bool) → (a ≡ true → b ≡ false) → eqb (pick a (pick b 3 1) (pick b 2 0)) 2 ≡ b
+      go : (a b : Bool) → (a ≡ true → b ≡ false) → eqb (cond a (cond b 3 1) (cond b 2 0)) 2 ≡ b
       go true b f = rw (f refl)
       go false true f = refl
       go false false f = refl
@@ -49,12 +49,12 @@ module _ (p : List ℤ) (l : ℤ) (h : Bound p) where
   unfolding existential
   sign-existential = go (mem (pos (natAbs l)) p) (mem (negℤ (pos (natAbs l))) p) (not-both p (natAbs l) h)
     where
-      go : (a b : Bool) → (a ≡ true → b ≡ false) → eqb (pick a (pick b 3 1) (pick b 2 0)) 1 ≡ a
+      go : (a b : Bool) → (a ≡ true → b ≡ false) → eqb (cond a (cond b 3 1) (cond b 2 0)) 1 ≡ a
       go true b f = rw (f refl)
       go false true f = refl
       go false false f = refl
 
-  pub kind-test : (k : ℕ) → wrongKind k (signsOf p (natAbs l)) ≡ badKind p (entry k l)
+  kind-test : (k : ℕ) → wrongKind k (signsOf p (natAbs l)) ≡ badKind p (entry k l)
   kind-test k = rw (sign-universal, sign-existential)
 
 -- the test in the order of the code
@@ -69,63 +69,56 @@ module _ (k s : ℕ) where
   kind-else f g = rw (ne-eqb k 1 f, ne-eqb k 2 g) (sym (or-false (ltb 2 k || false) ∙ or-false (ltb 2 k)))
 
 -- the entries from i on have a bad kind among them exactly if all have
-pub record Looked (p ls : List ℤ) (ks : List ℕ) (n i : ℕ) : Type 0 where
+pub record Looked (p : List ℤ) (t : Trail) (n i : ℕ) : Type 0 where
   pub at : i ≤ n
-  pub same : any (badKind p) (recordOf (drop i ls) (drop i ks) (n - i)) ≡ any (badKind p) (recordOf ls ks n)
+  pub same : any (badKind p) (drop i (recordOf t n)) ≡ any (badKind p) (recordOf t n)
 
-module _ (p ls : List ℤ) (ks : List ℕ) (n : ℕ) (q : KindsLent p ls ks n) where
-  pub kinds-begin : Looked p ls ks n 0
-  kinds-begin = let z : n - 0 ≡ n = omega arith in record { at = omega arith; same = rw z }
+module _ (p : List ℤ) (t : Trail) (n : ℕ) (q : KindsLent p t n) where
+  pub kinds-begin : Looked p t n 0
+  kinds-begin = record { at = omega arith; same = refl }
 
   module _ (i : ℕ) (h : i < n) where
-    name : Named (length p) (getD ls i (pos 0))
+    name : Named (length p) (getD (t .lits) i (pos 0))
     name =
-        let l : i < length (take n ls) = rw (length-take-le n ls (q .room .lits)) h in
-        rw (getD-take n ls i (pos 0) h) at (all-named (length p) (take n ls) (q .named) .at i l)
+        let l : i < length (take n (t .lits)) = rw (length-take-le n (t .lits) (q .room .lits)) h in
+        rw (getD-take n (t .lits) i (pos 0) h) at (all-named (length p) (take n (t .lits)) (q .named) .at i l)
 
-    pub kinds-small : (v : ℕ) → v ≡ natAbs (getD ls i (pos 0)) → v ≤ limits .variables
+    pub kinds-small : (v : ℕ) → v ≡ natAbs (getD (t .lits) i (pos 0)) → v ≤ limits .variables
     kinds-small v e = omega (arith, name .most, q .prefix .room)
 
-    module _ (v : ℕ) (e : v ≡ natAbs (getD ls i (pos 0))) (signs : ℕ) (told : signs ≡ signsOf p v) (b : Bool) (is : b ≡ wrongKind (getD ks i 0) signs) where
-      tested : badKind p (entryAt ls ks i) ≡ b
-      tested = sym (is ∙ rw (told, e) (kind-test p (getD ls i (pos 0)) (q .prefix) (getD ks i 0)))
+    module _ (v : ℕ) (e : v ≡ natAbs (getD (t .lits) i (pos 0))) (signs : ℕ) (told : signs ≡ signsOf p v) (b : Bool) (is : b ≡ wrongKind (getD (t .kinds) i 0) signs) (k : Looked p t n i) where
+      within : i < length (recordOf t n)
+      within = rw (record-length t n (q .room)) h
 
-      pub kinds-hit : Looked p ls ks n i → b ≡ true → true ≡ any (badKind p) (recordOf ls ks n)
-      unfolding any
-      kinds-hit k u = rw (record-next ls ks n i h (q .room), tested, u) at (k .same)
+      tested : badKind p (getD (recordOf t n) i noEntry) ≡ b
+      tested = rw (record-get t n (q .room) i h) (sym (is ∙ rw (told, e) (kind-test p (getD (t .lits) i (pos 0)) (q .prefix) (getD (t .kinds) i 0))))
 
-      pub kinds-more : Looked p ls ks n i → b ≡ false → Looked p ls ks n (i + 1)
-      unfolding any
-      kinds-more k u =
-          record {
-            at = omega arith;
-            same = rw (record-next ls ks n i h (q .room), tested, u) at (k .same);
-          }
+      pub kinds-hit : b ≡ true → true ≡ any (badKind p) (recordOf t n)
+      kinds-hit u = sym (any-found (badKind p) (recordOf t n) i noEntry within (tested ∙ u)) ∙ k .same
 
-  pub kinds-end : (i : ℕ) → Looked p ls ks n i → n ≤ i → false ≡ any (badKind p) (recordOf ls ks n)
-  unfolding any
-  kinds-end i k h = rw (record-ended ls ks n i h) at (k .same)
+      pub kinds-more : b ≡ false → Looked p t n (i + 1)
+      kinds-more u = record { at = omega arith; same = any-past (badKind p) (recordOf t n) i noEntry within (tested ∙ u) ∙ k .same }
+
+  pub kinds-end : (i : ℕ) → Looked p t n i → n ≤ i → false ≡ any (badKind p) (recordOf t n)
+  kinds-end i k h = sym (any-ended (badKind p) (recordOf t n) i (rw (record-length t n (q .room)) h)) ∙ k .same
 
 -- ---- the ways out
-module _ (p ls : List ℤ) (ks : List ℕ) (n : ℕ) where
-  pub row-over : length p < n → true ≡ badRecord p ls ks n
+module _ (p : List ℤ) (t : Trail) (n : ℕ) where
+  pub row-over : length p < n → true ≡ badRecord p t n
   unfolding badRecord
   row-over h = rw (lt-ltb (length p) n h)
 
-  module _ (few : n ≤ length p) (room : Room (length p) ls ks) where
-    pub row-room : Room n ls ks
-    row-room = room-less few room
-
-    row : badRecord p ls ks n ≡ (any (noVariable (length p)) (take n ls) || twice (take n ls) || any (badKind p) (recordOf ls ks n))
+  module _ (few : n ≤ length p) (room : Room (length p) t) where
+    row : badRecord p t n ≡ (any (noVariable (length p)) (take n (t .lits)) || twice (take n (t .lits)) || any (badKind p) (recordOf t n))
     unfolding badRecord badEntries
-    row = rw (le-ltb (length p) n few, record-literals ls ks n row-room)
+    row = rw (le-ltb (length p) n few, record-literals t n (room-less few room))
 
-    pub row-unnamed : any (noVariable (length p)) (take n ls) ≡ true → true ≡ badRecord p ls ks n
+    pub row-unnamed : any (noVariable (length p)) (take n (t .lits)) ≡ true → true ≡ badRecord p t n
     row-unnamed a = rw (row, a)
 
-    module _ (a : any (noVariable (length p)) (take n ls) ≡ false) where
-      pub row-twice : twice (take n ls) ≡ true → true ≡ badRecord p ls ks n
+    module _ (a : any (noVariable (length p)) (take n (t .lits)) ≡ false) where
+      pub row-twice : twice (take n (t .lits)) ≡ true → true ≡ badRecord p t n
       row-twice b = rw (row, a, b)
 
-      pub row-kinds : twice (take n ls) ≡ false → (c : Bool) → c ≡ any (badKind p) (recordOf ls ks n) → c ≡ badRecord p ls ks n
+      pub row-kinds : twice (take n (t .lits)) ≡ false → (c : Bool) → c ≡ any (badKind p) (recordOf t n) → c ≡ badRecord p t n
       row-kinds b c e = rw (row, a, b) e

@@ -10,7 +10,7 @@ use lib.Seq.{getD-set-same, getD-set-other}
 use Rattle.formula.specs.Limits.{limits}
 use Rattle.formula.specs.Laws.Limits.{variables-are}
 use Rattle.formula.specs.Inner.Places.{literalPlaces, placeOf}
-use Rattle.rules.specs.ByLiteral.{statusOf, statusBy, statusIn, Statuses}
+use Rattle.rules.specs.Inner.ByLiteral.{statusOf, statusBy, statusIn, Statuses}
 
 -- the variables below v are written
 pub record Stated (n : ℕ) (values universals : List ℕ) (t : List ℕ) (v : ℕ) : Type 0 where

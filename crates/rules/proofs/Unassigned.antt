@@ -1,6 +1,6 @@
 -- The first unassigned variable, by the table of values: a variable is unassigned exactly if its place holds 0.
 use mathlib.Core.Path.{_≡_, refl, sym, _∙_, ap}
-use mathlib.Core.Bool.{Bool, true, false, not, _||_}
+use mathlib.Core.Bool.{Bool, true, false, not, _||_, cond}
 use mathlib.Core.List.{List}
 use Prim.Native.Nat.{ℕ, suc, _+_, _≤_, _<_}
 use native.Mathlib.Nat.{le-trans}
@@ -16,17 +16,17 @@ use Rattle.formula.specs.Limits.{limits}
 use Rattle.formula.specs.Laws.Limits.{variables-small}
 use Rattle.formula.specs.Laws.Named.{all-named}
 use Rattle.theory.specs.Record.{Assignment, assigned}
-use Rattle.rules.specs.declared.Picked.the-variants.{Is, NoLiteral}
-use Rattle.rules.specs.Due.{literal, pick, firstUnassigned}
-use Rattle.rules.specs.Tables.{valueOf, Values, Known}
+use Rattle.rules.specs.declared.found.Picked.the-variants.{Is, NoLiteral}
+use Rattle.rules.specs.Due.{literal, firstUnassigned}
+use Rattle.rules.specs.Inner.Tables.{valueOf, Values, Known}
 
 -- ---- a variable's place in the table of values
-plus-zero : (a b : Bool) → eqb (pick a 1 (pick b 2 0)) 0 ≡ not (a || b)
+plus-zero : (a b : Bool) → eqb (cond a 1 (cond b 2 0)) 0 ≡ not (a || b)
 plus-zero true b = refl
 plus-zero false true = refl
 plus-zero false false = refl
 
-minus-zero : (a b : Bool) → eqb (pick a 1 (pick b 2 0)) 0 ≡ not (b || a)
+minus-zero : (a b : Bool) → eqb (cond a 1 (cond b 2 0)) 0 ≡ not (b || a)
 minus-zero true true = refl
 minus-zero true false = refl
 minus-zero false true = refl
@@ -48,7 +48,7 @@ module _ (ρ : Assignment) (t : List ℕ) (said : Values ρ t) (q : ℤ) (s : �
   is-assigned k = not-false (assigned ρ q) (sym zero-there ∙ ne-eqb (getD t s 0) 0 k)
 
 -- ---- a variable made true
-pub true-word : (w : ℤ) → natAbs w ≤ limits .variables → pick (negative w) (opposite w) w ≡ pos (natAbs w)
+pub true-word : (w : ℤ) → natAbs w ≤ limits .variables → cond (negative w) (opposite w) w ≡ pos (natAbs w)
 true-word (pos n) h = refl
 true-word (negsuc n) h = opposite-is (negsuc n) (le-trans h variables-small)
 
@@ -59,7 +59,7 @@ module _ (ρ : Assignment) (p : List ℤ) (i : ℕ) where
   none-left h = rw (ended p i h)
 
   module _ (named : Known p) (t : List ℕ) (said : Values ρ t) (h : i < length p) (s : ℕ) (is : s ≡ natAbs (getD p i (pos 0))) where
-    pub found : getD t s 0 ≡ 0 → Is (literal (pick (negative (getD p i (pos 0))) (opposite (getD p i (pos 0))) (getD p i (pos 0)))) ≡ firstUnassigned ρ (drop i p)
+    pub found : getD t s 0 ≡ 0 → Is (literal (cond (negative (getD p i (pos 0))) (opposite (getD p i (pos 0))) (getD p i (pos 0)))) ≡ firstUnassigned ρ (drop i p)
     unfolding firstUnassigned
     found e =
         rw (next p i (pos 0) h, unassigned ρ t said (getD p i (pos 0)) s is e)

@@ -1,6 +1,6 @@
 -- The table of universal variables: a negative word of the prefix marks its variable, another word none.
 use mathlib.Core.Path.{_≡_, refl, sym, _∙_}
-use mathlib.Core.Bool.{true, false}
+use mathlib.Core.Bool.{true, false, cond}
 use mathlib.Core.List.{List, [], _∷_, _++_}
 use Prim.Native.Nat.{ℕ, zero, suc, _+_, _<_}
 use native.Mathlib.Nat.{le-refl}
@@ -14,13 +14,12 @@ use Rattle.words.specs.Laws.Words.{mem-here, mem-other, minus-other}
 use Rattle.formula.specs.Limits.{limits}
 use Rattle.formula.specs.Formula.{universal}
 use Rattle.formula.specs.Laws.Named.{all-named}
-use Rattle.rules.specs.Due.{pick}
-use Rattle.rules.specs.Tables.{Known, places}
+use Rattle.rules.specs.Inner.Tables.{Known, places}
 use Rattle.rules.proofs.Filled.{Filled, begin, turn, pass, placed}
 
 -- what the words say of a variable
 abbrev pub universally : List ℤ → ℕ → ℕ
-universally xs v = pick (universal xs (pos v)) 1 0
+universally xs v = cond (universal xs (pos v)) 1 0
 
 pub universal-other : (xs : List ℤ) (w : ℤ) (v : ℕ) → (v ≡ natAbs w → ⊥) → universally (xs ++ w ∷ []) v ≡ universally xs v
 unfolding universal

@@ -17,7 +17,7 @@ use Rattle.formula.specs.Inner.Named.{Named}
 use Rattle.formula.specs.Laws.Named.{all-named}
 use Rattle.formula.specs.Laws.Prefix.{fresh-word, fresh-at}
 use Rattle.theory.specs.Record.{among}
-use Rattle.rules.specs.Tables.{signOf, valueOf, Written, places}
+use Rattle.rules.specs.Inner.Tables.{signOf, valueOf, Written, places}
 use Rattle.rules.proofs.Filled.{Filled, begin, turn, placed}
 
 pub sign-minus : (w : ℤ) → negative w ≡ true → 2 ≡ signOf w

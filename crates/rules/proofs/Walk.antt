@@ -18,7 +18,7 @@ use Rattle.formula.specs.Formula.{clausesFrom}
 use Rattle.formula.specs.Block.{badEnds}
 use Rattle.formula.specs.Laws.Ends.{good-end}
 use Rattle.formula.specs.Laws.Clauses.{clauses-at, clauses-ended}
-use Rattle.rules.specs.Clauses.{Placed, Clauses}
+use Rattle.rules.specs.Inner.Clauses.{Placed, Clauses}
 
 -- the clause that begins at `from` and is number c, when it ends at e
 pub record Turn (es ls : List ℤ) (from c e : ℕ) : Type 0 where

@@ -6,14 +6,14 @@ use Rattle.formula.specs.Formula.{Formula}
 use Rattle.theory.specs.Record.{Record, trueIn}
 use Rattle.theory.specs.Tests.{inConflict}
 use Rattle.rules.specs.Due.{last, lowest, lowestUnit, firstMonotone, firstUnassigned, dueConflict, dueUnit, dueMonotone, dueDecide, due}
-use Rattle.rules.specs.declared.Found.{Found}
-use Rattle.rules.specs.declared.Found.the-variants.{At, Nothing}
-use Rattle.rules.specs.declared.Picked.{Picked}
-use Rattle.rules.specs.declared.Picked.the-variants.{Is, NoLiteral}
-use Rattle.rules.specs.declared.UnitFound.{UnitFound}
-use Rattle.rules.specs.declared.UnitFound.the-variants.{On, NoUnit}
-use Rattle.rules.specs.declared.Rule.{Rule}
-use Rattle.rules.specs.declared.Rule.the-variants.{BacktrackExists, Fail, Unit, Monotone, Decide, BacktrackForall, Succeed}
+use Rattle.rules.specs.declared.found.Found.{Found}
+use Rattle.rules.specs.declared.found.Found.the-variants.{At, Nothing}
+use Rattle.rules.specs.declared.found.Picked.{Picked}
+use Rattle.rules.specs.declared.found.Picked.the-variants.{Is, NoLiteral}
+use Rattle.rules.specs.declared.found.UnitFound.{UnitFound}
+use Rattle.rules.specs.declared.found.UnitFound.the-variants.{On, NoUnit}
+use Rattle.rules.specs.declared.rule.Rule.{Rule}
+use Rattle.rules.specs.declared.rule.Rule.the-variants.{BacktrackExists, Fail, Unit, Monotone, Decide, BacktrackForall, Succeed}
 
 module _ (F : Formula) (r : Record) where
   pub in-conflict : {f : Found} {c : ℕ} {x : Rule} → f ≡ lowest (inConflict (F .prefix) (trueIn r)) 0 (F .clauses) → f ≡ At c → x ≡ dueConflict F r c → x ≡ due F r

@@ -10,7 +10,7 @@ use Rattle.words.specs.Lists.{any}
 use Rattle.formula.specs.Formula.{existential, universal}
 use Rattle.formula.specs.Block.{noVariable, twice}
 use Rattle.theory.specs.Record.{Entry, Record, literals}
-use Rattle.rules.specs.Apply.{recordOf}
+use Rattle.rules.specs.Trail.{Trail, recordOf}
 
 abbrev pub badKind : List ℤ → Entry → Bool
 badKind p e =
@@ -21,5 +21,5 @@ badKind p e =
 unfoldable pub badEntries : List ℤ → Record → Bool
 badEntries p r = any (noVariable (length p)) (literals r) || twice (literals r) || any (badKind p) r
 
-unfoldable pub badRecord : List ℤ → List ℤ → List ℕ → ℕ → Bool
-badRecord p ls ks n = ltb (length p) n || badEntries p (recordOf ls ks n)
+unfoldable pub badRecord : List ℤ → Trail → ℕ → Bool
+badRecord p t n = ltb (length p) n || badEntries p (recordOf t n)

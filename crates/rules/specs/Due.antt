@@ -1,6 +1,6 @@
 -- "The due rule is the first that applies."
 use Prim.Native.Nat.{ℕ, suc}
-use mathlib.Core.Bool.{Bool, true, false}
+use mathlib.Core.Bool.{Bool, cond}
 use mathlib.Core.List.{List, [], _∷_}
 use lib.Dec.{eqb}
 use lib.IntN.{ℤ, pos, negℤ, natAbs}
@@ -9,23 +9,19 @@ use Rattle.words.specs.declared.Literal.{Literal}
 use Rattle.formula.specs.Formula.{Formula}
 use Rattle.theory.specs.Record.{Record, Assignment, trueIn, assigned}
 use Rattle.theory.specs.Tests.{unassignedE, inConflict, unitOn, monotone}
-use Rattle.rules.specs.declared.Rule.{Rule}
-use Rattle.rules.specs.declared.Rule.the-variants.{BacktrackExists, Fail, Unit, Monotone, Decide, BacktrackForall, Succeed}
-use Rattle.rules.specs.declared.Found.{Found}
-use Rattle.rules.specs.declared.Found.the-variants.{At, Nothing}
-use Rattle.rules.specs.declared.Picked.{Picked}
-use Rattle.rules.specs.declared.Picked.the-variants.{Is, NoLiteral}
-use Rattle.rules.specs.declared.UnitFound.{UnitFound}
-use Rattle.rules.specs.declared.UnitFound.the-variants.{On, NoUnit}
+use Rattle.rules.specs.declared.rule.Rule.{Rule}
+use Rattle.rules.specs.declared.rule.Rule.the-variants.{BacktrackExists, Fail, Unit, Monotone, Decide, BacktrackForall, Succeed}
+use Rattle.rules.specs.declared.found.Found.{Found}
+use Rattle.rules.specs.declared.found.Found.the-variants.{At, Nothing}
+use Rattle.rules.specs.declared.found.Picked.{Picked}
+use Rattle.rules.specs.declared.found.Picked.the-variants.{Is, NoLiteral}
+use Rattle.rules.specs.declared.found.UnitFound.{UnitFound}
+use Rattle.rules.specs.declared.found.UnitFound.the-variants.{On, NoUnit}
 
 abbrev pub literal : ℤ → Literal
 literal l = record { 0 = l }
 
 module _ {A : Type 0} where
-  abbrev pub pick : Bool → A → A → A
-  pick true a b = a
-  pick false a b = b
-
   -- what follows a search
   abbrev pub onFound : Found → (ℕ → A) → A → A
   onFound (At i) f b = f i
@@ -43,17 +39,17 @@ module _ {A : Type 0} where
 module _ {A : Type 0} where
   unfoldable pub lowest : (A → Bool) → ℕ → List A → Found
   lowest f n [] = Nothing
-  lowest f n (x ∷ xs) = pick (f x) (At n) (lowest f (suc n) xs)
+  lowest f n (x ∷ xs) = cond (f x) (At n) (lowest f (suc n) xs)
 
 -- the place of the last entry of kind k, the first being at n
 unfoldable pub last : ℕ → ℕ → Record → Found
 last k n [] = Nothing
-last k n (e ∷ r) = onFound (last k (suc n) r) At (pick (eqb (e .kind) k) (At n) Nothing)
+last k n (e ∷ r) = onFound (last k (suc n) r) At (cond (eqb (e .kind) k) (At n) Nothing)
 
 -- the first unassigned existential literal of a clause, 0 if there is none
 unfoldable pub candidate : List ℤ → Assignment → List ℤ → ℤ
 candidate p ρ [] = pos 0
-candidate p ρ (x ∷ C) = pick (unassignedE p ρ x) x (candidate p ρ C)
+candidate p ρ (x ∷ C) = cond (unassignedE p ρ x) x (candidate p ρ C)
 
 -- a clause that Unit may take, on its one unassigned existential literal
 abbrev pub isUnit : List ℤ → Assignment → List ℤ → Bool
@@ -67,13 +63,13 @@ lowestUnit p ρ m = onFound (lowest (isUnit p ρ) 0 m) (λ c. On (literal (candi
 unfoldable pub firstMonotone : List ℤ → List (List ℤ) → Assignment → List ℤ → Picked
 firstMonotone p m ρ [] = NoLiteral
 firstMonotone p m ρ (q ∷ qs) =
-    pick (monotone p m ρ q) (Is (literal q))
-    (pick (monotone p m ρ (negℤ q)) (Is (literal (negℤ q))) (firstMonotone p m ρ qs))
+    cond (monotone p m ρ q) (Is (literal q))
+    (cond (monotone p m ρ (negℤ q)) (Is (literal (negℤ q))) (firstMonotone p m ρ qs))
 
 -- "the first unassigned variable in prefix order, true"
 unfoldable pub firstUnassigned : Assignment → List ℤ → Picked
 firstUnassigned ρ [] = NoLiteral
-firstUnassigned ρ (q ∷ qs) = pick (assigned ρ q) (firstUnassigned ρ qs) (Is (literal (pos (natAbs q))))
+firstUnassigned ρ (q ∷ qs) = cond (assigned ρ q) (firstUnassigned ρ qs) (Is (literal (pos (natAbs q))))
 
 module _ (F : Formula) (r : Record) where
   -- 5: "All assigned: Backtrack-forall, cutting at the last kind 2 entry .. With none: Succeed"

@@ -1,19 +1,13 @@
--- The due rule, and what one rule does to the lent buffers.
+-- The due rule, and what one rule does to the lent buffers. To be read in this order.
+
+-- the record and the search; the due rule; what a run proposes; one rule applied; row 12
+pub mod Trail
+pub mod Search
 pub mod Due
 pub mod Preferred
 pub mod Apply
 pub mod Check
-pub mod Ready
-pub mod Tables
-pub mod ByLiteral
-pub mod Buffers
-pub mod Records
-pub mod Searches
-pub mod Passed
-pub mod Reasons
-pub mod Steps
-pub mod Written
-pub mod Clauses
-pub mod ClausesMean
-pub mod ClausesReady
-pub mod Told
+-- what functions say to each other
+pub mod Inner
+-- what is proved about the definitions, for use in proofs
+pub mod Laws

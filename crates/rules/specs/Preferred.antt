@@ -1,10 +1,25 @@
 -- "At Decide it proposes the first open one in the list, else 0."
+use mathlib.Core.Bool.{Bool, true, false, cond}
 use mathlib.Core.List.{List, [], _∷_}
 use lib.IntN.{ℤ, pos}
 use Rattle.theory.specs.Record.{Assignment}
 use Rattle.theory.specs.Tests.{isOpen}
-use Rattle.rules.specs.Due.{pick}
+use Rattle.rules.specs.declared.rule.Rule.{Rule}
+use Rattle.rules.specs.declared.rule.Rule.the-variants.{BacktrackExists, Fail, Unit, Monotone, Decide, BacktrackForall, Succeed}
+
+abbrev pub decides : Rule → Bool
+decides (BacktrackExists i c) = false
+decides (Fail c) = false
+decides (Unit l c) = false
+decides (Monotone l) = false
+decides (Decide l) = true
+decides (BacktrackForall i) = false
+decides Succeed = false
 
 unfoldable pub firstOpen : List ℤ → Assignment → List ℤ → ℤ
 firstOpen p ρ [] = pos 0
-firstOpen p ρ (l ∷ ls) = pick (isOpen p ρ l) l (firstOpen p ρ ls)
+firstOpen p ρ (l ∷ ls) = cond (isOpen p ρ l) l (firstOpen p ρ ls)
+
+-- what a run proposes, where a rule is due
+abbrev pub proposalOf : List ℤ → Assignment → List ℤ → Rule → ℤ
+proposalOf p ρ preferred rule = cond (decides rule) (firstOpen p ρ preferred) (pos 0)

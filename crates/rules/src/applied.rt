@@ -2,16 +2,17 @@
 ghost use mathlib.Core.Path.{_≡_};
 ghost use Prim.Native.Nat.{_<_};
 ghost use lib.ListN.{length};
+ghost use Rattle.rules.specs.Trail.{trail};
+ghost use Rattle.rules.specs.Search.{search, reached};
+ghost use Rattle.rules.specs.Inner.Ready.{Kept, Fitting};
+ghost use Rattle.rules.specs.declared.rule.State.the-variants.{Open};
+ghost use Rattle.rules.specs.declared.rule.Rule.the-variants.{Decide};
 ghost use Rattle.rules.specs.Apply as spec;
-ghost use Rattle.rules.specs.Apply.{search, reached};
-ghost use Rattle.rules.specs.Ready.{Kept, Fitting};
-ghost use Rattle.rules.specs.declared.State.the-variants.{Open};
-ghost use Rattle.rules.specs.declared.Rule.the-variants.{Decide};
-use crate::Reached;
-use crate::Rule;
-use crate::State;
 use crate::buffers::append;
-use crate::buffers::turn;
+use crate::buffers::flip;
+use crate::rule::Reached;
+use crate::rule::Rule;
+use crate::rule::State;
 use crate::variables::kind_of;
 use words::Literal;
 
@@ -35,9 +36,9 @@ fn decide(
     first: Literal,
     proposal: Literal,
 ) -> Reached
-    requires { ⌜ Kept (now prefix) (now lits) (now kinds) count ⌝ }
+    requires { ⌜ Kept (now prefix) (trail (now lits) (now kinds)) count ⌝ }
     requires { ⌜ count < length (now prefix) ⌝ }
-    ensures { λ r. ⌜ reached r (now (lits .exit)) (now (kinds .exit)) ≡ spec.apply (now (prefix .entry)) (Decide first) (proposal .0) (search (now (lits .entry)) (now (kinds .entry)) count Open) ⌝ }
+    ensures { λ r. ⌜ reached r (trail (now (lits .exit)) (now (kinds .exit))) ≡ spec.apply (now (prefix .entry)) (Decide first) (proposal .0) (search (trail (now (lits .entry)) (now (kinds .entry))) count Open) ⌝ }
 {
     let literal = chosen(proposal, first);
     let kind = kind_of(prefix, literal);
@@ -45,7 +46,7 @@ fn decide(
 }
 
 // One rule, with the proposal that Decide is to take.
-pub fn apply(
+pub(crate) fn apply(
     prefix: &[i32],
     lits: &mut [i32],
     kinds: &mut [u8],
@@ -53,12 +54,12 @@ pub fn apply(
     rule: Rule,
     proposal: Literal,
 ) -> Reached
-    requires { ⌜ Kept (now prefix) (now lits) (now kinds) count ⌝ }
+    requires { ⌜ Kept (now prefix) (trail (now lits) (now kinds)) count ⌝ }
     requires { ⌜ Fitting (now prefix) count rule ⌝ }
-    ensures { λ r. ⌜ reached r (now (lits .exit)) (now (kinds .exit)) ≡ spec.apply (now (prefix .entry)) rule (proposal .0) (search (now (lits .entry)) (now (kinds .entry)) count Open) ⌝ }
+    ensures { λ r. ⌜ reached r (trail (now (lits .exit)) (now (kinds .exit))) ≡ spec.apply (now (prefix .entry)) rule (proposal .0) (search (trail (now (lits .entry)) (now (kinds .entry))) count Open) ⌝ }
 {
     match rule {
-        Rule::BacktrackExists { at, clause: _ } => turn(lits, kinds, count, at),
+        Rule::BacktrackExists { at, clause: _ } => flip(lits, kinds, count, at),
         Rule::Fail { clause: _ } => Reached {
             count: count,
             state: State::Unsat,
@@ -66,7 +67,7 @@ pub fn apply(
         Rule::Unit { literal, clause: _ } => append(lits, kinds, count, 0, literal),
         Rule::Monotone { literal } => append(lits, kinds, count, 0, literal),
         Rule::Decide { first } => decide(prefix, lits, kinds, count, first, proposal),
-        Rule::BacktrackForall { at } => turn(lits, kinds, count, at),
+        Rule::BacktrackForall { at } => flip(lits, kinds, count, at),
         Rule::Succeed => Reached {
             count: count,
             state: State::Valid,

@@ -1,14 +1,17 @@
 // The record's two buffers: the last entry of a kind, the cut, and the entry more.
 ghost use mathlib.Core.Path.{_≡_};
 ghost use Prim.Native.Nat.{_+_, _≤_};
+ghost use lib.IntN.{pos};
 ghost use lib.ListN.{length};
+ghost use Rattle.rules.specs.Search.{search, reached};
+ghost use Rattle.rules.specs.Inner.Ready.{Room};
+ghost use Rattle.rules.specs.Trail.{trail, wiped, wipedTrail};
+ghost use Rattle.rules.specs.Inner.Buffers.{Cuttable, lastKind};
+ghost use Rattle.rules.specs.declared.rule.State.the-variants.{Open};
 ghost use Rattle.rules.specs.Apply as spec;
-ghost use Rattle.rules.specs.Apply.{search, reached};
-ghost use Rattle.rules.specs.Buffers.{Room, Wiped, Cuttable, lastKind};
-ghost use Rattle.rules.specs.declared.State.the-variants.{Open};
-use crate::Found;
-use crate::Reached;
-use crate::State;
+use crate::found::Found;
+use crate::rule::Reached;
+use crate::rule::State;
 use words::Literal;
 
 // The place of the last entry of a kind.
@@ -26,31 +29,51 @@ pub(crate) fn last_kind(kinds: &[u8], count: usize, kind: u8) -> Found
     Found::Nothing
 }
 
-// Sets the places from .. to of both buffers to 0.
-pub(crate) fn wipe(lits: &mut [i32], kinds: &mut [u8], from: usize, to: usize)
-    requires { ⌜ Room to (now lits) (now kinds) ⌝ }
-    ensures { λ r. ⌜ Wiped from to (now (lits .entry)) (now (kinds .entry)) (now (lits .exit)) (now (kinds .exit)) ⌝ }
+// Sets the places from .. to to 0, as far as there are such places: the words, the kinds, and both.
+fn wipe_lits(lits: &mut [i32], from: usize, to: usize)
+    ensures { λ r. ⌜ now (lits .exit) ≡ wiped (pos 0) (now (lits .entry)) from to ⌝ }
 {
     let mut i = from;
     while i < to {
+        if lits.len() <= i {
+            return;
+        }
         lits[i] = 0;
+        i += 1;
+    }
+}
+
+fn wipe_kinds(kinds: &mut [u8], from: usize, to: usize)
+    ensures { λ r. ⌜ now (kinds .exit) ≡ wiped 0 (now (kinds .entry)) from to ⌝ }
+{
+    let mut i = from;
+    while i < to {
+        if kinds.len() <= i {
+            return;
+        }
         kinds[i] = 0;
         i += 1;
     }
 }
 
+fn wipe(lits: &mut [i32], kinds: &mut [u8], from: usize, to: usize)
+    ensures { λ r. ⌜ trail (now (lits .exit)) (now (kinds .exit)) ≡ wipedTrail (trail (now (lits .entry)) (now (kinds .entry))) from to ⌝ }
+{
+    wipe_lits(lits, from, to);
+    wipe_kinds(kinds, from, to)
+}
+
 // Sets the first n places of both buffers to 0.
 pub fn clear(lits: &mut [i32], kinds: &mut [u8], n: usize)
-    requires { ⌜ Room n (now lits) (now kinds) ⌝ }
-    ensures { λ r. ⌜ Wiped 0 n (now (lits .entry)) (now (kinds .entry)) (now (lits .exit)) (now (kinds .exit)) ⌝ }
+    ensures { λ r. ⌜ trail (now (lits .exit)) (now (kinds .exit)) ≡ wipedTrail (trail (now (lits .entry)) (now (kinds .entry))) 0 n ⌝ }
 {
     wipe(lits, kinds, 0, n)
 }
 
 // Cuts the record at a place and puts the opposite there, kind 0.
-pub(crate) fn turn(lits: &mut [i32], kinds: &mut [u8], count: usize, at: usize) -> Reached
-    requires { ⌜ Cuttable at count (now lits) (now kinds) ⌝ }
-    ensures { λ r. ⌜ reached r (now (lits .exit)) (now (kinds .exit)) ≡ spec.turn at (search (now (lits .entry)) (now (kinds .entry)) count Open) ⌝ }
+pub(crate) fn flip(lits: &mut [i32], kinds: &mut [u8], count: usize, at: usize) -> Reached
+    requires { ⌜ Cuttable at count (trail (now lits) (now kinds)) ⌝ }
+    ensures { λ r. ⌜ reached r (trail (now (lits .exit)) (now (kinds .exit))) ≡ spec.flip at (search (trail (now (lits .entry)) (now (kinds .entry))) count Open) ⌝ }
 {
     let opposite = words::opposite(lits[at]);
     wipe(lits, kinds, at + 1, count);
@@ -70,8 +93,8 @@ pub(crate) fn append(
     kind: u8,
     literal: Literal,
 ) -> Reached
-    requires { ⌜ Room (count + 1) (now lits) (now kinds) ⌝ }
-    ensures { λ r. ⌜ reached r (now (lits .exit)) (now (kinds .exit)) ≡ spec.append kind (literal .0) (search (now (lits .entry)) (now (kinds .entry)) count Open) ⌝ }
+    requires { ⌜ Room (count + 1) (trail (now lits) (now kinds)) ⌝ }
+    ensures { λ r. ⌜ reached r (trail (now (lits .exit)) (now (kinds .exit))) ≡ spec.append kind (literal .0) (search (trail (now (lits .entry)) (now (kinds .entry))) count Open) ⌝ }
 {
     let word = literal.0;
     lits[count] = word;

@@ -1,6 +1,6 @@
 // The clauses in conflict, and the unit clauses. Clause c has the literal words from the end before it to its own.
-use crate::Found;
-use crate::UnitFound;
+use crate::found::Found;
+use crate::found::UnitFound;
 use crate::tables::NO_LEVEL;
 use crate::tables::PLACES;
 use crate::variables::literal_at;
@@ -14,8 +14,8 @@ ghost use Rattle.words.specs.Words.{eqZ};
 ghost use Rattle.formula.specs.Limits.{limits};
 ghost use Rattle.formula.specs.Formula.{clausesFrom};
 ghost use Rattle.rules.specs.Due.{lowest};
-ghost use Rattle.rules.specs.ByLiteral.{statusIn};
-ghost use Rattle.rules.specs.Clauses.{Placed, Clauses, levelBy, conflictBy, Shown, decidedBy, lowestUnitBy};
+ghost use Rattle.rules.specs.Inner.ByLiteral.{statusIn};
+ghost use Rattle.rules.specs.Inner.Clauses.{Placed, Clauses, levelBy, conflictBy, Shown, decidedBy, lowestUnitBy};
 
 // What the literal at an index is to its clause: 0 false, 1 true, 2 unassigned existential, 3 unassigned universal.
 fn status_at(ws: &[i32], i: usize, statuses: &[u8; LITERAL_PLACES]) -> u8

@@ -1,12 +1,12 @@
 // The due rule is the first that applies: conflict, Unit, Monotone, Decide, all assigned.
-use crate::Found;
-use crate::Picked;
-use crate::Rule;
-use crate::UnitFound;
 use crate::buffers;
 use crate::by_literal;
 use crate::by_literal::LITERAL_PLACES;
 use crate::clauses;
+use crate::found::Found;
+use crate::found::Picked;
+use crate::found::UnitFound;
+use crate::rule::Rule;
 use crate::tables;
 use crate::tables::PLACES;
 use crate::variables;
@@ -18,14 +18,13 @@ ghost use lib.ListN.{length};
 ghost use Rattle.formula.specs.Formula.{Formula};
 ghost use Rattle.theory.specs.Record.{Record, trueIn};
 ghost use Rattle.rules.specs.Due.{dueConflict, dueUnit, dueMonotone, dueDecide};
+ghost use Rattle.rules.specs.Trail.{trail, recordOf};
+ghost use Rattle.rules.specs.Inner.Ready.{formula, Bound, Ready, Kept};
+ghost use Rattle.rules.specs.Inner.Tabled.{Sorts, Tabled};
 ghost use Rattle.rules.specs.Due as spec;
-ghost use Rattle.rules.specs.Apply.{recordOf};
-ghost use Rattle.rules.specs.Ready.{formula, Bound, Ready, Kept};
-ghost use Rattle.rules.specs.ClausesReady.{Sorts};
-ghost use Rattle.rules.specs.Told.{Told};
 
 // The due rule of a record.
-pub fn due(
+pub(crate) fn due(
     prefix: &[i32],
     ends: &[i32],
     literals: &[i32],
@@ -34,8 +33,8 @@ pub fn due(
     count: usize,
 ) -> Rule
     requires { ⌜ Ready (now prefix) (now ends) (now literals) ⌝ }
-    requires { ⌜ Kept (now prefix) (now lits) (now kinds) count ⌝ }
-    ensures { λ r. ⌜ r ≡ spec.due (formula (now (prefix .entry)) (now (ends .entry)) (now (literals .entry))) (recordOf (now (lits .entry)) (now (kinds .entry)) count) ⌝ }
+    requires { ⌜ Kept (now prefix) (trail (now lits) (now kinds)) count ⌝ }
+    ensures { λ r. ⌜ r ≡ spec.due (formula (now (prefix .entry)) (now (ends .entry)) (now (literals .entry))) (recordOf (trail (now (lits .entry)) (now (kinds .entry))) count) ⌝ }
 {
     let values = tables::values_of(lits, count);
     let universals = tables::universals_of(prefix);
@@ -49,7 +48,7 @@ pub fn due(
 // In conflict: Backtrack-exists, or Fail.
 fn due_conflict(kinds: &[u8], count: usize, clause: usize) -> Rule
     requires { ⌜ count ≤ length (now kinds) ⌝ }
-    ensures { λ r. ⌜ ((F : Formula) (R : Record) (table : List ℕ) → Told R table (now (kinds .entry)) count → r ≡ dueConflict F R clause) ⌝ }
+    ensures { λ r. ⌜ ((F : Formula) (R : Record) (table : List ℕ) → Tabled R table (now (kinds .entry)) count → r ≡ dueConflict F R clause) ⌝ }
 {
     match buffers::last_kind(kinds, count, 1) {
         Found::At(at) => Rule::BacktrackExists {
@@ -72,7 +71,7 @@ fn due_unit(
 ) -> Rule
     requires { ⌜ Ready (now prefix) (now ends) (now literals) ⌝ }
     requires { ⌜ count ≤ length (now kinds) ⌝ }
-    ensures { λ r. ⌜ ((R : Record) → Told R (now (values .entry)) (now (kinds .entry)) count → Sorts (now (prefix .entry)) (trueIn R) (now (statuses .entry)) → r ≡ dueUnit (formula (now (prefix .entry)) (now (ends .entry)) (now (literals .entry))) R) ⌝ }
+    ensures { λ r. ⌜ ((R : Record) → Tabled R (now (values .entry)) (now (kinds .entry)) count → Sorts (now (prefix .entry)) (trueIn R) (now (statuses .entry)) → r ≡ dueUnit (formula (now (prefix .entry)) (now (ends .entry)) (now (literals .entry))) R) ⌝ }
 {
     let levels = tables::levels_of(prefix);
     match clauses::lowest_unit(ends, literals, statuses, &levels) {
@@ -95,7 +94,7 @@ fn due_monotone(
 ) -> Rule
     requires { ⌜ Ready (now prefix) (now ends) (now literals) ⌝ }
     requires { ⌜ count ≤ length (now kinds) ⌝ }
-    ensures { λ r. ⌜ ((R : Record) → Told R (now (values .entry)) (now (kinds .entry)) count → r ≡ dueMonotone (formula (now (prefix .entry)) (now (ends .entry)) (now (literals .entry))) R) ⌝ }
+    ensures { λ r. ⌜ ((R : Record) → Tabled R (now (values .entry)) (now (kinds .entry)) count → r ≡ dueMonotone (formula (now (prefix .entry)) (now (ends .entry)) (now (literals .entry))) R) ⌝ }
 {
     let occurs = by_literal::occurring(literals);
     match variables::first_monotone(prefix, values, &occurs) {
@@ -108,7 +107,7 @@ fn due_monotone(
 fn due_decide(prefix: &[i32], kinds: &[u8], count: usize, values: &[u8; PLACES]) -> Rule
     requires { ⌜ Bound (now prefix) ⌝ }
     requires { ⌜ count ≤ length (now kinds) ⌝ }
-    ensures { λ r. ⌜ ((m : List (List ℤ)) (R : Record) → Told R (now (values .entry)) (now (kinds .entry)) count → r ≡ dueDecide (record { prefix = now (prefix .entry); clauses = m }) R) ⌝ }
+    ensures { λ r. ⌜ ((m : List (List ℤ)) (R : Record) → Tabled R (now (values .entry)) (now (kinds .entry)) count → r ≡ dueDecide (record { prefix = now (prefix .entry); clauses = m }) R) ⌝ }
 {
     match variables::first_unassigned(prefix, values) {
         Picked::Is(first) => Rule::Decide { first: first },

@@ -1,9 +1,9 @@
 // Row 12, over the whole record: linear in the record and the prefix.
 ghost use mathlib.Core.Path.{_≡_};
 ghost use Rattle.words.specs.Lists.{any};
-ghost use Rattle.rules.specs.Apply.{recordOf};
+ghost use Rattle.rules.specs.Trail.{trail, recordOf};
 ghost use Rattle.rules.specs.Check.{badKind, badRecord};
-ghost use Rattle.rules.specs.Buffers.{Lent, KindsLent, wrongKind};
+ghost use Rattle.rules.specs.Inner.Buffers.{Lent, KindsLent, wrongKind};
 use crate::by_literal::occurring;
 use crate::by_literal::signs_at;
 
@@ -22,8 +22,8 @@ fn wrong_kind(kind: u8, sign: u8) -> bool
 
 // Whether some entry has a wrong kind.
 fn bad_kinds(prefix: &[i32], lits: &[i32], kinds: &[u8], count: usize) -> bool
-    requires { ⌜ KindsLent (now prefix) (now lits) (now kinds) count ⌝ }
-    ensures { λ r. ⌜ r ≡ any (badKind (now (prefix .entry))) (recordOf (now (lits .entry)) (now (kinds .entry)) count) ⌝ }
+    requires { ⌜ KindsLent (now prefix) (trail (now lits) (now kinds)) count ⌝ }
+    ensures { λ r. ⌜ r ≡ any (badKind (now (prefix .entry))) (recordOf (trail (now (lits .entry)) (now (kinds .entry))) count) ⌝ }
 {
     let occurs = occurring(prefix);
     let mut i = 0;
@@ -39,18 +39,19 @@ fn bad_kinds(prefix: &[i32], lits: &[i32], kinds: &[u8], count: usize) -> bool
 }
 
 // Whether the record is turned away.
-pub fn bad_record(prefix: &[i32], lits: &[i32], kinds: &[u8], count: usize) -> bool
-    requires { ⌜ Lent (now prefix) (now lits) (now kinds) ⌝ }
-    ensures { λ r. ⌜ r ≡ badRecord (now (prefix .entry)) (now (lits .entry)) (now (kinds .entry)) count ⌝ }
+pub(crate) fn bad_record(prefix: &[i32], lits: &[i32], kinds: &[u8], count: usize) -> bool
+    requires { ⌜ Lent (now prefix) (trail (now lits) (now kinds)) ⌝ }
+    ensures { λ r. ⌜ r ≡ badRecord (now (prefix .entry)) (trail (now (lits .entry)) (now (kinds .entry))) count ⌝ }
 {
     let n = prefix.len();
     if n < count {
         return true;
     }
-    if formula::some_stranger(&lits[..count], n) {
+    let written = words::take(lits, count);
+    if formula::some_stranger(written, n) {
         return true;
     }
-    if formula::variable_twice(&lits[..count]) {
+    if formula::variable_twice(written) {
         return true;
     }
     bad_kinds(prefix, lits, kinds, count)

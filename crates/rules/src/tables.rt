@@ -5,8 +5,8 @@ ghost use lib.IntN.{pos};
 ghost use lib.ListN.{length, getD, take, drop};
 ghost use Rattle.formula.specs.Formula.{change};
 ghost use Rattle.theory.specs.Record.{among};
-ghost use Rattle.rules.specs.Ready.{Bound};
-ghost use Rattle.rules.specs.Tables.{signOf, Values, Universals, Levels, Written};
+ghost use Rattle.rules.specs.Inner.Ready.{Bound};
+ghost use Rattle.rules.specs.Inner.Tables.{signOf, Values, Universals, Levels, Written};
 
 // A place for each variable, and place 0, which is no variable's.
 pub(crate) const PLACES: usize = formula::MAX_VARIABLES + 1;

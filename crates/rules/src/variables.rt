@@ -1,23 +1,24 @@
 // The first unassigned and the first monotone variable, and the open literals.
-use crate::Picked;
 use crate::by_literal::LITERAL_PLACES;
 use crate::by_literal::signs_at;
+use crate::found::Picked;
 use crate::tables::NO_LEVEL;
 use crate::tables::PLACES;
 use words::Literal;
+ghost use mathlib.Core.Bool.{cond};
 ghost use mathlib.Core.Path.{_≡_};
 ghost use mathlib.Core.List.{List};
 ghost use lib.IntN.{ℤ, pos, natAbs};
 ghost use lib.ListN.{getD};
-ghost use Rattle.words.specs.Words as words;
 ghost use Rattle.theory.specs.Record.{Assignment};
 ghost use Rattle.theory.specs.Tests.{isOpen};
-ghost use Rattle.rules.specs.Due.{literal, pick, firstUnassigned, firstMonotone};
+ghost use Rattle.rules.specs.Due.{literal, firstUnassigned, firstMonotone};
 ghost use Rattle.rules.specs.Apply.{kindOf};
 ghost use Rattle.rules.specs.Preferred.{firstOpen};
-ghost use Rattle.rules.specs.Ready.{Bound};
-ghost use Rattle.rules.specs.Tables.{Values, Levels, Spread, Lowest};
-ghost use Rattle.rules.specs.ByLiteral.{Occurring};
+ghost use Rattle.rules.specs.Inner.Ready.{Bound};
+ghost use Rattle.rules.specs.Inner.Tables.{Values, Levels, Spread, Lowest};
+ghost use Rattle.rules.specs.Inner.ByLiteral.{Occurring};
+ghost use Rattle.words.specs.Words as words;
 
 // The literal at an index, its opposite, and its variable made true. Past the end there is the word 0.
 pub(crate) fn literal_at(ws: &[i32], i: usize) -> Literal
@@ -39,7 +40,7 @@ fn opposite_at(ws: &[i32], i: usize) -> Literal
 }
 
 fn true_at(ws: &[i32], i: usize) -> Literal
-    ensures { λ r. ⌜ r ≡ literal (pick (words.negative (getD (now (ws .entry)) i (pos 0))) (words.opposite (getD (now (ws .entry)) i (pos 0))) (getD (now (ws .entry)) i (pos 0))) ⌝ }
+    ensures { λ r. ⌜ r ≡ literal (cond (words.negative (getD (now (ws .entry)) i (pos 0))) (words.opposite (getD (now (ws .entry)) i (pos 0))) (getD (now (ws .entry)) i (pos 0))) ⌝ }
 {
     if words::negative_at(ws, i) {
         opposite_at(ws, i)

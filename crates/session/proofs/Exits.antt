@@ -37,7 +37,7 @@ module _ (b : List ℤ) (m : Memory) (rev : Revision) {r : ℕ} (e : r ≡ openR
   unfolding openOutcome
   open-refused f = rw (← e) (unless-number Refused r m _ f)
 
-  pub open-clears : r ≡ 0 → {n : ℕ} → n ≡ variablesOf b → {ls′ : List ℤ} {ks′ : List ℕ} → Wiped 0 n (m .lits) (m .kinds) ls′ ks′ → outcome (To (session 0 (rev .0) Open)) (memory ls′ ks′) ≡ openOutcome b m rev
+  pub open-clears : r ≡ 0 → {n : ℕ} → n ≡ variablesOf b → {ls′ : List ℤ} {ks′ : List ℕ} → Wiped 0 n (m .trail .lits) (m .trail .kinds) ls′ ks′ → outcome (To (session 0 (rev .0) Open)) (memory ls′ ks′) ≡ openOutcome b m rev
   unfolding openOutcome
   open-clears z is w = rw (← e, z, ← is, ← w .lits, ← w .kinds)
 
@@ -58,21 +58,21 @@ module _ (s : Session) (b : List ℤ) (m : Memory) (seen : Revision) (l : Litera
 
     module _
         (below : s .revision .0 ≡ lastRevision → ⊥)
-        {rule : Rule} (is : rule ≡ due (formulaOf b) (recordOf (m .lits) (m .kinds) (s .length)))
-        {q : ℕ} (proper : q ≡ proposalRefusal (prefixOf b) (among (take (s .length) (m .lits))) rule l)
+        {rule : Rule} (is : rule ≡ due (formulaOf b) (recordOf (m .trail) (s .length)))
+        {q : ℕ} (proper : q ≡ proposalRefusal (prefixOf b) (among (take (s .length) (m .trail .lits))) rule l)
       where
         step-from-16 : stepRefusal s b m seen l ≡ q
         unfolding proposalRefusal formulaOf
         step-from-16 =
             let g = passed s b m seen e z in
-            rw (step-from-15, ne-eqb (s .revision .0) lastRevision below, kept-true (prefixOf b) (m .lits) (m .kinds) (s .length) (g .kept), ← is, proper)
+            rw (step-from-15, ne-eqb (s .revision .0) lastRevision below, kept-true (prefixOf b) (m .trail .lits) (m .trail .kinds) (s .length) (g .kept), ← is, proper)
 
         pub step-improper : (q ≡ 0 → ⊥) → outcome (Refused q) m ≡ stepOutcome s b m seen l
         unfolding stepOutcome
         step-improper f = rw step-from-16 (unless-number Refused q m _ f)
 
         pub step-moves : q ≡ 0 → (t : Reached) (ls′ : List ℤ) (ks′ : List ℕ)
-            → reached t ls′ ks′ ≡ apply (prefixOf b) rule (l .0) (search (m .lits) (m .kinds) (s .length) Open)
+            → reached t ls′ ks′ ≡ apply (prefixOf b) rule (l .0) (search (m .trail) (s .length) Open)
             → {s′ : Session} → s′ ≡ session (t .count) (s .revision .0 + 1) (t .state)
             → outcome (To s′) (memory ls′ ks′) ≡ stepOutcome s b m seen l
         unfolding stepOutcome
@@ -96,7 +96,7 @@ module _ (s : Session) (b : List ℤ) (m : Memory) (seen : Revision) (budget : �
     run-over h = rw (run-from-15, lt-ltb lastRevision (s .revision .0 + budget) (omega arith))
 
     pub run-moves : s .revision .0 ≤ lastRevision → w ≤ lastRevision - s .revision .0
-        → (t : Reached) (steps : ℕ) (ls′ : List ℤ) (ks′ : List ℕ) → trip (reached t ls′ ks′) steps ≡ runFrom (formulaOf b) preferred budget (search (m .lits) (m .kinds) (s .length) Open) 0
+        → (t : Reached) (steps : ℕ) (ls′ : List ℤ) (ks′ : List ℕ) → trip (reached t ls′ ks′) steps ≡ runFrom (formulaOf b) preferred budget (search (m .trail) (s .length) Open) 0
         → {v : ℕ} → v ≡ steps → {s′ : Session} → s′ ≡ session (t .count) (s .revision .0 + v) (t .state)
         → outcome (Until s′ steps) (memory ls′ ks′) ≡ runOf s b m seen budget preferred
     unfolding runOf
@@ -106,8 +106,8 @@ module _ (s : Session) (b : List ℤ) (m : Memory) (seen : Revision) (budget : �
 
 -- a run's steps are at most its budget
 pub steps-within : {b : List ℤ} {m : Memory} {n : ℕ} → OnBlock b m n → (budget : ℕ) (preferred : List ℤ) {t : Search} {steps : ℕ}
-    → trip t steps ≡ runFrom (formulaOf b) preferred budget (search (m .lits) (m .kinds) n Open) 0 → steps ≤ budget
+    → trip t steps ≡ runFrom (formulaOf b) preferred budget (search (m .trail) n Open) 0 → steps ≤ budget
 unfolding formulaOf
 steps-within {b} {m} {n} o budget preferred e =
-    let w = travelled (formulaOf b) preferred budget (search (m .lits) (m .kinds) n Open) (o .kept) .within in
+    let w = travelled (formulaOf b) preferred budget (search (m .trail) n Open) (o .kept) .within in
     rw (← e) at w

@@ -59,7 +59,7 @@ module _ (s : Session) (b : List ℤ) (m : Memory) (seen : Revision) {r : ℕ} (
     unfolding openRefusal sessionRefusal
     from-12 = goes-on (openRows b m) (ofSession s b m seen) refl (sym e ∙ z)
 
-    module _ {t : Bool} (bad : t ≡ badRecord (prefixOf b) (m .lits) (m .kinds) (s .length)) where
+    module _ {t : Bool} (bad : t ≡ badRecord (prefixOf b) (m .trail) (s .length)) where
       pub session-record : t ≡ true → 12 ≡ sessionRefusal s b m seen
       session-record x = rw (from-12, ← bad, x)
 

@@ -12,7 +12,7 @@ use Rattle.formula.specs.Formula.{Formula, formulaOf, prefixOf}
 use Rattle.formula.specs.Block.{refusal}
 use Rattle.theory.specs.Record.{Record, Assignment, trueIn}
 use Rattle.rules.specs.declared.State.the-variants.{Open}
-use Rattle.rules.specs.Due.{literal, pick, due}
+use Rattle.rules.specs.Due.{literal, cond, due}
 use Rattle.rules.specs.Preferred.{firstOpen}
 use Rattle.rules.specs.Apply.{Search, recordOf}
 use Rattle.rules.specs.Searches.{first-open}
@@ -35,12 +35,12 @@ use Rattle.session.specs.Follows.{accepted-is}
 
 -- "At Decide it proposes the first open one in the list, else 0."
 abbrev pub proposalAt : Formula → Record → List ℤ → ℤ
-proposalAt F r preferred = proposalOf (F .prefix) (trueIn r) preferred (due F r)
+proposalOf (F .prefix) (trueIn r) preferred (due F r) = proposalOf (F .prefix) (trueIn r) preferred (due F r)
 
 -- one step by hand with that proposal, at the revision of the moment; and n of them
 unfoldable pub handed : List ℤ → List ℤ → Desk → Desk
 handed b preferred d =
-    let r = recordOf (d .memory .lits) (d .memory .kinds) (d .latest .length) in
+    let r = recordIn (searchAt d) in
     call b d (step (d .latest .revision) (literal (proposalAt (formulaOf b) r preferred)))
 
 unfoldable pub byHand : List ℤ → List ℤ → ℕ → Desk → Desk
@@ -48,11 +48,11 @@ byHand b preferred zero d = d
 byHand b preferred (suc n) d = byHand b preferred n (handed b preferred d)
 
 -- ---- the proposal is one that a step accepts
-proposal-due : (rule : Bool) (x : ℤ) → (natAbs (pick rule x (pos 0)) ≡ 0) ⊎ (rule ≡ true)
+proposal-due : (rule : Bool) (x : ℤ) → (natAbs (cond rule x (pos 0)) ≡ 0) ⊎ (rule ≡ true)
 proposal-due true x = inr refl
 proposal-due false x = inl refl
 
-proposal-permitted : (p : List ℤ) (ρ : Assignment) (rule : Bool) (x : ℤ) → Permitted p ρ x → Permitted p ρ (pick rule x (pos 0))
+proposal-permitted : (p : List ℤ) (ρ : Assignment) (rule : Bool) (x : ℤ) → Permitted p ρ x → Permitted p ρ (cond rule x (pos 0))
 proposal-permitted p ρ true x a = a
 proposal-permitted p ρ false x a = inl refl
 
@@ -72,7 +72,7 @@ module _ (b : List ℤ) (block : refusal limits b ≡ 0) (preferred : List ℤ) 
       let r = recordIn (searchAt d) in
       let F = formulaOf b in
       let x = firstOpen (F .prefix) (trueIn r) preferred in
-      let l = literal (proposalAt F r preferred) in
+      let l = literal (proposalOf (F .prefix) (trueIn r) preferred (due F r)) in
       let g : Guarded (d .latest) b (d .memory) (d .latest .revision) = record { block = block; kept = k; live = o; current = refl } in
       let below : d .latest .revision .0 ≡ lastRevision → ⊥ = λ e. omega arith in
       let e = step-passes (d .latest) b (d .memory) (d .latest .revision) g below l (proposal-due (decides (due F r)) x) (proposal-permitted (F .prefix) (trueIn r) (decides (due F r)) x (first-open (F .prefix) (trueIn r) preferred)) in

@@ -12,8 +12,8 @@ use Rattle.theory.specs.Rules.{Step}
 use Rattle.rules.specs.declared.State.the-variants.{Open}
 use Rattle.rules.specs.Due.{due}
 use Rattle.rules.specs.Apply.{Search, recordOf, apply}
-use Rattle.rules.specs.Steps.{stateOf, KeptIn, apply-lengths, due-step, due-keeps}
-use Rattle.rules.specs.Written.{Aside, apply-untouched, apply-zeros, apply-ended}
+use Rattle.rules.specs.Steps.{standingOf, KeptIn, apply-lengths, due-step, due-keeps}
+use Rattle.rules.specs.Written.{Elsewhere, apply-untouched, apply-zeros, apply-ended}
 use Rattle.session.specs.declared.Revision.{Revision}
 use Rattle.session.specs.declared.Session.{Session}
 use Rattle.session.specs.declared.Answer.the-variants.{To}
@@ -26,23 +26,23 @@ use Rattle.session.specs.Outcome.{moved, searchOf, stepped, stepOutcome}
 -- from a session s and its buffers to the next, by an accepted step with the proposal l
 pub record Follows (b : List ℤ) (l : ℤ) (s s′ : Session) (m m′ : Memory) : Type 0 where
   -- it is the due rule, and a rule of the theory
-  pub rule : searchOf s′ m′ ≡ apply (prefixOf b) (due (formulaOf b) (recordOf (m .lits) (m .kinds) (s .length))) l (searchOf s m)
-  pub step : Step (formulaOf b) (recordOf (m .lits) (m .kinds) (s .length)) (stateOf (searchOf s′ m′))
+  pub rule : searchOf s′ m′ ≡ apply (prefixOf b) (due (formulaOf b) (recordOf (m .trail) (s .length))) l (searchOf s m)
+  pub step : Step (formulaOf b) (recordOf (m .trail) (s .length)) (standingOf (searchOf s′ m′))
   -- "An accepted step adds one to the revision."
   pub revision : s′ .revision .0 ≡ s .revision .0 + 1
   -- "A cut sets the places from the new to the old length to 0 in both buffers."
-  pub zeros : (j : ℕ) → s′ .length ≤ j → j < s .length → (getD (m′ .lits) j (pos 0) ≡ pos 0) × (getD (m′ .kinds) j 0 ≡ 0)
+  pub zeros : (j : ℕ) → s′ .length ≤ j → j < s .length → (getD (m′ .trail .lits) j (pos 0) ≡ pos 0) × (getD (m′ .trail .kinds) j 0 ≡ 0)
   -- "No other place is written": but for the last entry and those, all are as they were
-  pub untouched : (j : ℕ) → Aside j (s .length) (s′ .length) → (getD (m′ .lits) j (pos 0) ≡ getD (m .lits) j (pos 0)) × (getD (m′ .kinds) j 0 ≡ getD (m .kinds) j 0)
-  pub lengths : (length (m′ .lits) ≡ length (m .lits)) × (length (m′ .kinds) ≡ length (m .kinds))
+  pub untouched : (j : ℕ) → Elsewhere j (s .length) (s′ .length) → (getD (m′ .trail .lits) j (pos 0) ≡ getD (m .trail .lits) j (pos 0)) × (getD (m′ .trail .kinds) j 0 ≡ getD (m .trail .kinds) j 0)
+  pub lengths : (length (m′ .trail .lits) ≡ length (m .trail .lits)) × (length (m′ .trail .kinds) ≡ length (m .trail .kinds))
   -- "Fail and Succeed leave the record."
-  pub ended : (s′ .state ≡ Open → ⊥) → ((m′ .lits) ≡ (m .lits)) × ((m′ .kinds) ≡ (m .kinds)) × (s′ .length ≡ s .length)
+  pub ended : (s′ .state ≡ Open → ⊥) → ((m′ .trail .lits) ≡ (m .trail .lits)) × ((m′ .trail .kinds) ≡ (m .trail .kinds)) × (s′ .length ≡ s .length)
   -- rows 11 and 12 would pass again
   pub kept : KeptIn (prefixOf b) (searchOf s′ m′)
 
 module _ (s : Session) (b : List ℤ) (m : Memory) (seen : Revision) (l : Literal) where
   next : Search
-  next = apply (prefixOf b) (due (formulaOf b) (recordOf (m .lits) (m .kinds) (s .length))) (l .0) (searchOf s m)
+  next = apply (prefixOf b) (due (formulaOf b) (recordOf (m .trail) (s .length))) (l .0) (searchOf s m)
 
   -- a step that breaks no row
   pub accepted-is : stepRefusal s b m seen l ≡ 0 → stepOutcome s b m seen l ≡ stepped s b l (searchOf s m)
@@ -54,7 +54,7 @@ module _ (s : Session) (b : List ℤ) (m : Memory) (seen : Revision) (l : Litera
   follows-next e =
       let g = step-guarded s b m seen l e in
       let t = searchOf s m in
-      let rule = due (formulaOf b) (recordOf (m .lits) (m .kinds) (s .length)) in
+      let rule = due (formulaOf b) (recordOf (m .trail) (s .length)) in
       record {
         rule = refl;
         step = due-step (formulaOf b) t (g .guard .kept) (l .0) (g .permitted);

@@ -22,7 +22,7 @@ use Rattle.rules.specs.Due.{literal}
 use Rattle.rules.specs.Apply.{recordOf, wiped}
 use Rattle.rules.specs.Records.{wiped-length}
 use Rattle.rules.specs.Passed.{good-kept}
-use Rattle.rules.specs.Steps.{stateOf, recordIn, KeptIn}
+use Rattle.rules.specs.Steps.{standingOf, recordIn, KeptIn}
 use Rattle.session.specs.declared.Revision.{Revision}
 use Rattle.session.specs.declared.Session.{Session}
 use Rattle.session.specs.declared.Answer.{Answer}
@@ -54,7 +54,7 @@ pub record Demand (b : List ℤ) (first : ℕ) (d : Desk) : Type 0 where
 
 -- ---- what every call keeps
 record Reached (b : List ℤ) (first : ℕ) (d : Desk) : Type 0 where
-  path : Path (formulaOf b) (d .steps) (going []) (stateOf (searchAt d))
+  path : Path (formulaOf b) (d .steps) (going []) (standingOf (searchAt d))
   kept : KeptIn (prefixOf b) (searchAt d)
   revision : d .latest .revision .0 ≡ first + d .steps
 
@@ -125,7 +125,7 @@ module _ (b : List ℤ) (block : refusal limits b ≡ 0) (first : ℕ) where
 -- ---- a fresh desk
 module _ (b : List ℤ) (m : Memory) (rev : Revision) where
   opened : Desk
-  opened = desk (session 0 (rev .0) Open) (memory (wiped (pos 0) (m .lits) 0 (variablesOf b)) (wiped 0 (m .kinds) 0 (variablesOf b))) 0
+  opened = desk (session 0 (rev .0) Open) (memory (wiped (pos 0) (m .trail .lits) 0 (variablesOf b)) (wiped 0 (m .trail .kinds) 0 (variablesOf b))) 0
 
   open-reached : openRefusal b m ≡ 0 → Reached b (rev .0) opened
   unfolding opened formulaOf recordOf
@@ -139,7 +139,7 @@ module _ (b : List ℤ) (m : Memory) (rev : Revision) where
           prefix = o .prefix;
           lits-room = rw wiped-length (o .room .lits);
           kinds-room = rw wiped-length (o .room .kinds);
-          good = good-kept F (wiped (pos 0) (m .lits) 0 V′) (wiped 0 (m .kinds) 0 V′) 0 (o .prefix) (omega arith) (good-none F);
+          good = good-kept F (wiped (pos 0) (m .trail .lits) 0 V′) (wiped 0 (m .trail .kinds) 0 V′) 0 (o .prefix) (omega arith) (good-none F);
         };
         revision = omega arith;
       }

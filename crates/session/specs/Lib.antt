@@ -1,17 +1,23 @@
--- Open, step and run: what each answers and leaves, for every input.
+-- Open, step and run: what each answers and leaves, for every input. To be read in this order.
+
+-- what is lent; when a call is refused; what it answers and leaves
 pub mod Memory
+pub mod States
 pub mod Refusals
-pub mod Rows
 pub mod Outcome
 pub mod Run
-pub mod Checked
-pub mod Play
-pub mod Advance
-pub mod Trips
-pub mod Accepted
+-- what each function promises, and that it leaves one result
+pub mod Promises
+-- which number a refused call is given, and what it leaves
+pub mod Rows
 pub mod Refused
+-- an accepted opening, an accepted step, a run as steps by hand
 pub mod Opened
 pub mod Follows
+pub mod Play
 pub mod ByHand
+-- any history of calls
 pub mod History
-pub mod Only
+-- what functions say to each other; what is proved of all these
+pub mod Inner
+pub mod Laws

@@ -20,9 +20,9 @@ use Rattle.session.specs.Outcome.{session, openOutcome}
 pub record Opens (b : List ℤ) (rev : Revision) (s : Session) (m m′ : Memory) : Type 0 where
   -- "The opener gives the first revision."
   pub fresh : s ≡ session 0 (rev .0) Open
-  pub zeros : (j : ℕ) → j < variablesOf b → (getD (m′ .lits) j (pos 0) ≡ pos 0) × (getD (m′ .kinds) j 0 ≡ 0)
-  pub untouched : (j : ℕ) → variablesOf b ≤ j → (getD (m′ .lits) j (pos 0) ≡ getD (m .lits) j (pos 0)) × (getD (m′ .kinds) j 0 ≡ getD (m .kinds) j 0)
-  pub lengths : (length (m′ .lits) ≡ length (m .lits)) × (length (m′ .kinds) ≡ length (m .kinds))
+  pub zeros : (j : ℕ) → j < variablesOf b → (getD (m′ .trail .lits) j (pos 0) ≡ pos 0) × (getD (m′ .trail .kinds) j 0 ≡ 0)
+  pub untouched : (j : ℕ) → variablesOf b ≤ j → (getD (m′ .trail .lits) j (pos 0) ≡ getD (m .trail .lits) j (pos 0)) × (getD (m′ .trail .kinds) j 0 ≡ getD (m .trail .kinds) j 0)
+  pub lengths : (length (m′ .trail .lits) ≡ length (m .trail .lits)) × (length (m′ .trail .kinds) ≡ length (m .trail .kinds))
 
 pub accepted-open : (b : List ℤ) (m : Memory) (rev : Revision) (s : Session) → let o = openOutcome b m rev in
     o .answer ≡ To s → Opens b rev s m (o .memory)
@@ -33,7 +33,7 @@ accepted-open b m rev s a =
     rw e
     (record {
       fresh = cc;
-      zeros = λ j h. (wiped-inside (pos 0) (m .lits) 0 (variablesOf b) j zero-le h, wiped-inside 0 (m .kinds) 0 (variablesOf b) j zero-le h);
-      untouched = λ j h. (wiped-outside (pos 0) (m .lits) 0 (variablesOf b) j (pos 0) (inr h), wiped-outside 0 (m .kinds) 0 (variablesOf b) j 0 (inr h));
-      lengths = (wiped-length (pos 0) (m .lits) 0 (variablesOf b), wiped-length 0 (m .kinds) 0 (variablesOf b));
+      zeros = λ j h. (wiped-inside (pos 0) (m .trail .lits) 0 (variablesOf b) j zero-le h, wiped-inside 0 (m .trail .kinds) 0 (variablesOf b) j zero-le h);
+      untouched = λ j h. (wiped-outside (pos 0) (m .trail .lits) 0 (variablesOf b) j (pos 0) (inr h), wiped-outside 0 (m .trail .kinds) 0 (variablesOf b) j 0 (inr h));
+      lengths = (wiped-length (pos 0) (m .trail .lits) 0 (variablesOf b), wiped-length 0 (m .trail .kinds) 0 (variablesOf b));
     })

@@ -8,7 +8,9 @@ use Rattle.formula.specs.Formula.{formulaOf, variablesOf, prefixOf}
 use Rattle.rules.specs.declared.State.{State}
 use Rattle.rules.specs.declared.State.the-variants.{Open}
 use Rattle.rules.specs.Due.{due}
-use Rattle.rules.specs.Apply.{Search, search, recordOf, wiped, apply}
+use Rattle.rules.specs.Trail.{wipedTrail}
+use Rattle.rules.specs.Search.{Search, search, recordIn}
+use Rattle.rules.specs.Apply.{apply}
 use Rattle.session.specs.declared.Revision.{Revision}
 use Rattle.session.specs.declared.Session.{Session}
 use Rattle.session.specs.declared.Answer.{Answer}
@@ -23,7 +25,7 @@ session n rev st = record { length = n; revision = record { 0 = rev }; state = s
 unfoldable pub openOutcome : List ℤ → Memory → Revision → Outcome Memory Answer
 openOutcome b m rev =
     unless Refused (openRefusal b m) m
-    (outcome (To (session 0 (rev .0) Open)) (memory (wiped (pos 0) (m .lits) 0 (variablesOf b)) (wiped 0 (m .kinds) 0 (variablesOf b))))
+    (outcome (To (session 0 (rev .0) Open)) (record { trail = wipedTrail (m .trail) 0 (variablesOf b) }))
 
 -- a session whose search has gone on by some accepted steps: "An accepted step adds one to the revision."
 abbrev pub moved : Session → ℕ → Search → Session
@@ -31,12 +33,12 @@ moved s steps t = session (t .count) (s .revision .0 + steps) (t .state)
 
 -- where a session's search stands
 abbrev pub searchOf : Session → Memory → Search
-searchOf s m = search (m .lits) (m .kinds) (s .length) (s .state)
+searchOf s m = search (m .trail) (s .length) (s .state)
 
 -- "Every accepted step is the one due rule."
 abbrev pub stepped : Session → List ℤ → Literal → Search → Outcome Memory Answer
 stepped s b l t =
-    let u = apply (prefixOf b) (due (formulaOf b) (recordOf (t .lits) (t .kinds) (t .count))) (l .0) t in
+    let u = apply (prefixOf b) (due (formulaOf b) (recordIn t)) (l .0) t in
     outcome (To (moved s 1 u)) (memoryOf u)
 
 unfoldable pub stepOutcome : Session → List ℤ → Memory → Revision → Literal → Outcome Memory Answer

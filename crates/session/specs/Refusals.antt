@@ -16,8 +16,9 @@ use Rattle.rules.specs.declared.State.{State}
 use Rattle.rules.specs.declared.State.the-variants.{Open, Valid, Unsat}
 use Rattle.rules.specs.declared.Rule.{Rule}
 use Rattle.rules.specs.declared.Rule.the-variants.{BacktrackExists, Fail, Unit, Monotone, Decide, BacktrackForall, Succeed}
+use Rattle.rules.specs.Trail.{recordOf}
 use Rattle.rules.specs.Due.{due}
-use Rattle.rules.specs.Apply.{recordOf}
+use Rattle.rules.specs.Preferred.{decides}
 use Rattle.rules.specs.Check.{badRecord}
 use Rattle.session.specs.declared.Revision.{Revision}
 use Rattle.session.specs.declared.Session.{Session}
@@ -29,7 +30,7 @@ lastRevision = 18446744073709551615
 
 -- 11: "a record buffer shorter than V"
 abbrev pub short : List ℤ → Memory → Bool
-short b m = ltb (length (m .lits)) (variablesOf b) || ltb (length (m .kinds)) (variablesOf b)
+short b m = ltb (length (m .trail .lits)) (variablesOf b) || ltb (length (m .trail .kinds)) (variablesOf b)
 
 -- 13: "session already ended"
 abbrev pub over : State → Bool
@@ -42,15 +43,6 @@ abbrev pub stale : Session → Revision → Bool
 stale s seen = not (eqb (seen .0) (s .revision .0))
 
 -- 16: "proposal not 0 and Decide not due"
-abbrev pub decides : Rule → Bool
-decides (BacktrackExists i c) = false
-decides (Fail c) = false
-decides (Unit l c) = false
-decides (Monotone l) = false
-decides (Decide l) = true
-decides (BacktrackForall i) = false
-decides Succeed = false
-
 abbrev pub proposed : Literal → Bool
 proposed l = not (eqb (natAbs (l .0)) 0)
 
@@ -75,7 +67,7 @@ module _ (s : Session) (b : List ℤ) (m : Memory) (seen : Revision) where
   -- what a step and a run share
   abbrev pub ofSession : List Row
   ofSession =
-      row 12 (badRecord (prefixOf b) (m .lits) (m .kinds) (s .length))
+      row 12 (badRecord (prefixOf b) (m .trail) (s .length))
       ∷ row 13 (over (s .state))
       ∷ row 14 (stale s seen)
       ∷ []
@@ -86,7 +78,7 @@ module _ (s : Session) (b : List ℤ) (m : Memory) (seen : Revision) where
   abbrev pub ofStep : Literal → List Row
   ofStep l =
       let F = formulaOf b in
-      let r = recordOf (m .lits) (m .kinds) (s .length) in
+      let r = recordOf (m .trail) (s .length) in
       row 15 (eqb (s .revision .0) lastRevision)
       ∷ ofProposal (F .prefix) (trueIn r) (due F r) l
 

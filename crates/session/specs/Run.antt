@@ -9,8 +9,9 @@ use Rattle.theory.specs.Record.{trueIn}
 use Rattle.rules.specs.declared.State.{State}
 use Rattle.rules.specs.declared.State.the-variants.{Open, Valid, Unsat}
 use Rattle.rules.specs.Due.{due}
-use Rattle.rules.specs.Preferred.{firstOpen}
-use Rattle.rules.specs.Apply.{Search, recordOf, apply}
+use Rattle.rules.specs.Search.{Search, recordIn}
+use Rattle.rules.specs.Preferred.{proposalOf}
+use Rattle.rules.specs.Apply.{apply}
 use Rattle.session.specs.declared.Revision.{Revision}
 use Rattle.session.specs.declared.Session.{Session}
 use Rattle.session.specs.declared.Ran.{Ran}
@@ -36,8 +37,8 @@ module _ (F : Formula) (preferred : List ℤ) where
   -- one accepted step, with the proposal that the preferences give
   unfoldable pub advance : Search → Search
   advance t =
-      let r = recordOf (t .lits) (t .kinds) (t .count) in
-      apply (F .prefix) (due F r) (firstOpen (F .prefix) (trueIn r) preferred) t
+      let r = recordIn t in
+      apply (F .prefix) (due F r) (proposalOf (F .prefix) (trueIn r) preferred (due F r)) t
 
   -- at most n steps, `steps` being done
   unfoldable pub runFrom : ℕ → Search → ℕ → Trip

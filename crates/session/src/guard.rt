@@ -4,11 +4,13 @@ ghost use lib.ListN.{take};
 ghost use Rattle.formula.specs.Formula.{prefixOf};
 ghost use Rattle.theory.specs.Record.{among};
 ghost use Rattle.session.specs.Memory.{memory};
-ghost use Rattle.session.specs.Refusals.{short, over, decides, openRefusal};
-ghost use Rattle.session.specs.Checked.{sessionRefusal, proposalRefusal, HeldOn};
+ghost use Rattle.rules.specs.Preferred.{decides};
+ghost use Rattle.rules.specs.Inner.Ready.{HeldOn};
+ghost use Rattle.session.specs.Refusals.{short, over};
+ghost use Rattle.session.specs.Promises.{OpenRefusalPromise};
+ghost use Rattle.session.specs.Inner.Guards.{sessionRefusal, proposalRefusal};
 use crate::Revision;
 use crate::Session;
-use crate::parts;
 use formula::Checked;
 use rules::Rule;
 use rules::State;
@@ -26,8 +28,8 @@ fn is_short(block: &[i32], lits: &[i32], kinds: &[u8]) -> bool
 }
 
 // Rows 1 to 11: the number of the first that applies, 0 if none does. A page asks them too.
-pub fn of_buffers(block: &[i32], lits: &[i32], kinds: &[u8]) -> u32
-    ensures { λ r. ⌜ r ≡ openRefusal (now (block .entry)) (memory (now (lits .entry)) (now (kinds .entry))) ⌝ }
+pub fn open_refusal(block: &[i32], lits: &[i32], kinds: &[u8]) -> u32
+    ensures { λ r. ⌜ OpenRefusalPromise (now (block .entry)) (memory (now (lits .entry)) (now (kinds .entry))) r ⌝ }
 {
     match formula::check(block) {
         Checked::Refused(number) => number,
@@ -65,7 +67,7 @@ pub(crate) fn is_decide(rule: Rule) -> bool
 }
 
 // Rows 1 to 14, which a step and a run share.
-pub(crate) fn of_session(
+pub(crate) fn session_refusal(
     session: Session,
     block: &[i32],
     lits: &[i32],
@@ -74,12 +76,12 @@ pub(crate) fn of_session(
 ) -> u32
     ensures { λ r. ⌜ r ≡ sessionRefusal session (now (block .entry)) (memory (now (lits .entry)) (now (kinds .entry))) seen ⌝ }
 {
-    let refused = of_buffers(block, lits, kinds);
+    let refused = open_refusal(block, lits, kinds);
     if refused != 0 {
         return refused;
     }
     let count = session.length;
-    if parts::bad_record(block, lits, kinds, count) {
+    if rules::bad_record(block, lits, kinds, count) {
         return 12;
     }
     let state = session.state;
@@ -94,7 +96,7 @@ pub(crate) fn of_session(
 }
 
 // Rows 16 and 17, where a rule is due.
-pub(crate) fn of_proposal(
+pub(crate) fn proposal_refusal(
     block: &[i32],
     lits: &[i32],
     count: usize,
@@ -110,7 +112,7 @@ pub(crate) fn of_proposal(
     if !is_decide(rule) {
         return 16;
     }
-    if !parts::open(block, lits, count, proposal) {
+    if !rules::is_open(block, lits, count, proposal) {
         return 17;
     }
     0

@@ -1,22 +1,23 @@
 // A session that goes step by step, and the run with a budget.
 ghost use mathlib.Core.Path.{_≡_};
-ghost use Rattle.words.specs.Outcomes.{outcome};
 ghost use Rattle.session.specs.Memory.{memory};
-ghost use Rattle.session.specs.Outcome.{session, openOutcome, stepOutcome};
-ghost use Rattle.session.specs.Run.{runOf};
+ghost use Rattle.session.specs.Outcome.{session};
+ghost use Rattle.session.specs.Promises.{OpenPromise, StepPromise, RunPromise};
 
 mod guard; // which row of the table turns a call away, but for row 15
-mod parts; // the block's parts, lent to the rules
 mod searches; // rule after rule
+mod states; // a state as a number
 
-pub use guard::of_buffers;
+pub use guard::open_refusal;
 use rules::Reached;
 use rules::State;
 pub use searches::Searched;
 pub use searches::search;
+pub use states::number_of;
+pub use states::state_of;
 use words::Literal;
 
-// "A revision and a literal are numbers of different types and can't be mixed up."
+// A revision and a literal are numbers of different types: neither can stand for the other.
 pub struct Revision(pub u64);
 
 // 2^64 - 1: no step goes past it.
@@ -42,14 +43,14 @@ pub enum Ran {
 }
 
 // A fresh session at the given revision. The first V places of the record are set to 0.
-pub fn open(block: &[i32], literals: &mut [i32], kinds: &mut [u8], first: Revision) -> Answer
-    ensures { λ r. ⌜ outcome r (memory (now (literals .exit)) (now (kinds .exit))) ≡ openOutcome (now (block .entry)) (memory (now (literals .entry)) (now (kinds .entry))) first ⌝ }
+pub fn open(block: &[i32], lits: &mut [i32], kinds: &mut [u8], first: Revision) -> Answer
+    ensures { λ r. ⌜ OpenPromise (now (block .entry)) (memory (now (lits .entry)) (now (kinds .entry))) first r (memory (now (lits .exit)) (now (kinds .exit))) ⌝ }
 {
-    let refused = guard::of_buffers(block, literals, kinds);
+    let refused = open_refusal(block, lits, kinds);
     if refused != 0 {
         return Answer::Refused(refused);
     }
-    rules::clear(literals, kinds, words::size_at(block, 0));
+    rules::clear(lits, kinds, words::size_at(block, 0));
     Answer::To(Session {
         length: 0,
         revision: first,
@@ -62,14 +63,14 @@ impl Session {
     pub fn step(
         self,
         block: &[i32],
-        literals: &mut [i32],
+        lits: &mut [i32],
         kinds: &mut [u8],
         seen: Revision,
         proposal: Literal,
     ) -> Answer
-        ensures { λ r. ⌜ outcome r (memory (now (literals .exit)) (now (kinds .exit))) ≡ stepOutcome self (now (block .entry)) (memory (now (literals .entry)) (now (kinds .entry))) seen proposal ⌝ }
+        ensures { λ r. ⌜ StepPromise self (now (block .entry)) (memory (now (lits .entry)) (now (kinds .entry))) seen proposal r (memory (now (lits .exit)) (now (kinds .exit))) ⌝ }
     {
-        let refused = guard::of_session(self, block, literals, kinds, seen);
+        let refused = guard::session_refusal(self, block, lits, kinds, seen);
         if refused != 0 {
             return Answer::Refused(refused);
         }
@@ -78,12 +79,12 @@ impl Session {
             return Answer::Refused(15);
         }
         let count = self.length;
-        let rule = parts::due(block, literals, kinds, count);
-        let improper = guard::of_proposal(block, literals, count, rule, proposal);
+        let rule = rules::due(block, lits, kinds, count);
+        let improper = guard::proposal_refusal(block, lits, count, rule, proposal);
         if improper != 0 {
             return Answer::Refused(improper);
         }
-        let reached = parts::apply(block, literals, kinds, count, rule, proposal);
+        let reached = rules::apply(block, lits, kinds, count, rule, proposal);
         Answer::To(moved(reached, revision + 1))
     }
 
@@ -91,15 +92,15 @@ impl Session {
     pub fn run(
         self,
         block: &[i32],
-        literals: &mut [i32],
+        lits: &mut [i32],
         kinds: &mut [u8],
         seen: Revision,
         budget: u32,
         preferred: &[i32],
     ) -> Ran
-        ensures { λ r. ⌜ outcome r (memory (now (literals .exit)) (now (kinds .exit))) ≡ runOf self (now (block .entry)) (memory (now (literals .entry)) (now (kinds .entry))) seen budget (now (preferred .entry)) ⌝ }
+        ensures { λ r. ⌜ RunPromise self (now (block .entry)) (memory (now (lits .entry)) (now (kinds .entry))) seen budget (now (preferred .entry)) r (memory (now (lits .exit)) (now (kinds .exit))) ⌝ }
     {
-        let refused = guard::of_session(self, block, literals, kinds, seen);
+        let refused = guard::session_refusal(self, block, lits, kinds, seen);
         if refused != 0 {
             return Ran::Stopped(refused);
         }
@@ -109,7 +110,7 @@ impl Session {
             return Ran::Stopped(15);
         }
         let count = self.length;
-        let found = search(block, literals, kinds, count, budget, preferred);
+        let found = search(block, lits, kinds, count, budget, preferred);
         let reached = found.reached;
         let steps = found.steps;
         Ran::Until {

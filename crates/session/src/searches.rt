@@ -4,13 +4,14 @@ ghost use lib.ListN.{take};
 ghost use Rattle.formula.specs.Formula.{prefixOf, formulaOf};
 ghost use Rattle.theory.specs.Record.{among};
 ghost use Rattle.rules.specs.Due.{literal};
-ghost use Rattle.rules.specs.Apply as rules;
+ghost use Rattle.rules.specs.Trail.{trail};
+ghost use Rattle.rules.specs.Search as rules;
+ghost use Rattle.rules.specs.Preferred.{proposalOf};
+ghost use Rattle.rules.specs.Inner.Ready.{OnBlock, HeldOn};
 ghost use Rattle.rules.specs.declared.State.the-variants.{Open};
-ghost use Rattle.session.specs.Memory.{memory};
-ghost use Rattle.session.specs.Checked.{OnBlock, HeldOn, proposalOf};
-ghost use Rattle.session.specs.Run as spec;
+ghost use Rattle.session.specs.Run.{advance};
+ghost use Rattle.session.specs.Promises.{SearchPromise};
 use crate::guard;
-use crate::parts;
 use rules::Reached;
 use rules::Rule;
 use rules::State;
@@ -28,7 +29,7 @@ fn proposal(block: &[i32], lits: &[i32], count: usize, rule: Rule, preferred: &[
     ensures { λ r. ⌜ r ≡ literal (proposalOf (prefixOf (now (block .entry))) (among (take count (now (lits .entry)))) (now (preferred .entry)) rule) ⌝ }
 {
     if guard::is_decide(rule) {
-        parts::preferred(block, lits, count, preferred)
+        rules::first_open(block, lits, count, preferred)
     } else {
         Literal(0)
     }
@@ -42,12 +43,12 @@ fn advance(
     count: usize,
     preferred: &[i32],
 ) -> Reached
-    requires { ⌜ OnBlock (now block) (memory (now lits) (now kinds)) count ⌝ }
-    ensures { λ r. ⌜ rules.reached r (now (lits .exit)) (now (kinds .exit)) ≡ spec.advance (formulaOf (now (block .entry))) (now (preferred .entry)) (rules.search (now (lits .entry)) (now (kinds .entry)) count Open) ⌝ }
+    requires { ⌜ OnBlock (now block) (trail (now lits) (now kinds)) count ⌝ }
+    ensures { λ r. ⌜ rules.reached r (trail (now (lits .exit)) (now (kinds .exit))) ≡ advance (formulaOf (now (block .entry))) (now (preferred .entry)) (rules.search (trail (now (lits .entry)) (now (kinds .entry))) count Open) ⌝ }
 {
-    let rule = parts::due(block, lits, kinds, count);
+    let rule = rules::due(block, lits, kinds, count);
     let literal = proposal(block, lits, count, rule, preferred);
-    parts::apply(block, lits, kinds, count, rule, literal)
+    rules::apply(block, lits, kinds, count, rule, literal)
 }
 
 // At most `budget` steps from an open search. A page asks it for each opening.
@@ -59,8 +60,8 @@ pub fn search(
     budget: u32,
     preferred: &[i32],
 ) -> Searched
-    requires { ⌜ OnBlock (now block) (memory (now lits) (now kinds)) count ⌝ }
-    ensures { λ r. ⌜ spec.trip (rules.reached (r .reached) (now (lits .exit)) (now (kinds .exit))) (r .steps) ≡ spec.runFrom (formulaOf (now (block .entry))) (now (preferred .entry)) budget (rules.search (now (lits .entry)) (now (kinds .entry)) count Open) 0 ⌝ }
+    requires { ⌜ OnBlock (now block) (trail (now lits) (now kinds)) count ⌝ }
+    ensures { λ r. ⌜ SearchPromise (now (block .entry)) (trail (now (lits .entry)) (now (kinds .entry))) count budget (now (preferred .entry)) r (trail (now (lits .exit)) (now (kinds .exit))) ⌝ }
 {
     let mut at = Reached {
         count: count,

@@ -1,7 +1,7 @@
 -- Each arm does what `apply` says of its constructor; a cut's literal is small, since row 12 has passed.
 use borrow.Author.Needs.{needs}
 use Rattle.rules.specs.Apply.{apply}
-use Rattle.rules.specs.Records.{kept-more}
+use Rattle.rules.specs.Laws.Records.{kept-more}
 use Rattle.rules.proofs.Exits.{cuttable}
 use Rattle.rules.proofs.applied.apply.Statement.{statement}
 use Rattle.rules.proofs.applied.apply.Tie as tie
@@ -9,8 +9,8 @@ use Rattle.rules.proofs.applied.apply.Tie as tie
 enum-known-rule : tie.Need-enum-known-rule
 enum-known-rule c = search needs
 
-turn-requires : tie.Need-turn-requires
-turn-requires c κs =
+flip-requires : tie.Need-flip-requires
+flip-requires c κs =
     let start = c .before .before .before .before .before .before in
     cuttable (start .pre .0) (rw (c .before .before .before .rule .given .1) at (start .pre .1))
 
@@ -44,8 +44,8 @@ decide-requires c κs =
 enum-known-rule-5 : tie.Need-enum-known-rule-5
 enum-known-rule-5 c = search needs
 
-turn-requires-2 : tie.Need-turn-requires-2
-turn-requires-2 c κs =
+flip-requires-2 : tie.Need-flip-requires-2
+flip-requires-2 c κs =
     let start = c .before .before .before .before .before .before in
     cuttable (start .pre .0) (rw (c .before .before .before .rule5 .given .1) at (start .pre .1))
 
@@ -60,7 +60,7 @@ same-length-2 c = search needs
 
 returns : tie.Need-returns
 unfolding apply
-returns c = rw (c .before .before .before .before .before .before .before .rule .given .1) (c .before .before .before .turn .ensures)
+returns c = rw (c .before .before .before .before .before .before .before .rule .given .1) (c .before .before .before .flip .ensures)
 
 returns-2 : tie.Need-returns-2
 unfolding apply
@@ -104,7 +104,7 @@ same-length-10 c = search needs
 
 returns-6 : tie.Need-returns-6
 unfolding apply
-returns-6 c = rw (c .before .before .before .before .before .before .before .rule5 .given .1) (c .before .before .before .turn2 .ensures)
+returns-6 c = rw (c .before .before .before .before .before .before .before .rule5 .given .1) (c .before .before .before .flip2 .ensures)
 
 returns-7 : tie.Need-returns-7
 unfolding apply
@@ -115,7 +115,7 @@ apply-spec =
     tie.close
     (tie.spec
     enum-known-rule
-    turn-requires
+    flip-requires
     enum-told
     enum-known-rule-2
     append-requires
@@ -124,7 +124,7 @@ apply-spec =
     enum-known-rule-4
     decide-requires
     enum-known-rule-5
-    turn-requires-2
+    flip-requires-2
     enum-told-2
     same-length
     same-length-2

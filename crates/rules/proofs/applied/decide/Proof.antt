@@ -1,6 +1,6 @@
 -- The literal is the chosen one, and its kind is that of its variable.
 use borrow.Author.Needs.{needs}
-use Rattle.rules.specs.Records.{kept-more}
+use Rattle.rules.specs.Laws.Records.{kept-more}
 use Rattle.rules.proofs.Exits.{decided}
 use Rattle.rules.proofs.applied.decide.Statement.{statement}
 use Rattle.rules.proofs.applied.decide.Tie as tie

@@ -3,7 +3,7 @@ use Prim.Native.Nat.{_≤_}
 use mathlib.Core.Path.{_≡_, sym, _∙_}
 use native.Mathlib.Omega.{arith}
 use borrow.Author.Needs.{needs}
-use Rattle.rules.specs.Buffers.{lastKind}
+use Rattle.rules.specs.Inner.Buffers.{lastKind}
 use Rattle.rules.proofs.Places.{last-here, last-past, last-end}
 use Rattle.rules.proofs.buffers.last_kind.Statement.{statement}
 use Rattle.rules.proofs.buffers.last_kind.Tie as tie

@@ -4,8 +4,8 @@ use mathlib.Core.Path.{_≡_, refl, sym, _∙_}
 use native.Mathlib.Omega.{arith}
 use lib.ListN.{length, drop}
 use borrow.Author.Needs.{needs}
-use Rattle.rules.specs.ByLiteral.{statusIn}
-use Rattle.rules.specs.Clauses.{conflictBy}
+use Rattle.rules.specs.Inner.ByLiteral.{statusIn}
+use Rattle.rules.specs.Inner.Clauses.{conflictBy}
 use Rattle.rules.proofs.Conflict.{open-true, open-existential, closed, all-closed}
 use Rattle.rules.proofs.clauses.in_conflict.Statement.{statement}
 use Rattle.rules.proofs.clauses.in_conflict.Tie as tie

@@ -5,8 +5,8 @@ use native.Mathlib.Omega.{arith}
 use lib.ListN.{length}
 use borrow.Author.Needs.{needs}
 use Rattle.rules.specs.Due.{lowest}
-use Rattle.rules.specs.ByLiteral.{statusIn}
-use Rattle.rules.specs.Clauses.{conflictBy}
+use Rattle.rules.specs.Inner.ByLiteral.{statusIn}
+use Rattle.rules.specs.Inner.Clauses.{conflictBy}
 use Rattle.rules.proofs.Walk.{Turn, turn, placed-part, Walk, walk-start, walk-on, walk-stop, walk-end}
 use Rattle.rules.proofs.Conflict.{lowest-hit, lowest-miss, lowest-none}
 use Rattle.rules.proofs.clauses.lowest_conflict.Statement.{statement}

@@ -6,14 +6,14 @@ use mathlib.Core.Logic.{⊎-elim}
 use native.Mathlib.Omega.{arith}
 use lib.ListN.{length, take, drop}
 use borrow.Author.Needs.{needs}
-use Rattle.rules.specs.ByLiteral.{statusIn}
-use Rattle.rules.specs.Clauses.{levelBy, unitFrom, unitWith, lowestUnitBy}
-use Rattle.rules.specs.declared.UnitFound.the-variants.{On, NoUnit}
+use Rattle.rules.specs.Inner.ByLiteral.{statusIn}
+use Rattle.rules.specs.Inner.Clauses.{levelBy, unitFrom, unitWith, lowestUnitBy}
+use Rattle.rules.specs.declared.found.UnitFound.the-variants.{On, NoUnit}
 use Rattle.rules.proofs.Walk.{Turn, turn, Walk, walk-start, walk-on, walk-stop, walk-end}
 use Rattle.rules.proofs.Looks.{look-start, clause-unit, clause-none, clause-next, clause-over, unit-hit, unit-miss, unit-none}
 use Rattle.rules.proofs.clauses.lowest_unit.Statement.{statement}
+use Rattle.rules.specs.Inner.Tables.{places}
 use Rattle.rules.proofs.clauses.lowest_unit.Tie as tie
-use Rattle.rules.specs.Tables.{places}
 
 abbrev Inv-loop : tie.InvT-loop
 Inv-loop ends literals statuses levels found₀ from c end look₀ j₀ found look j =

@@ -1,19 +1,19 @@
 -- The lowest clause in conflict, or none, picks the case; the tables are those of the checked record.
 use mathlib.Core.Path.{_∙_}
 use Rattle.theory.specs.Record.{Record, trueIn}
-use Rattle.rules.specs.Apply.{recordOf}
-use Rattle.rules.specs.Ready.{formula}
-use Rattle.rules.specs.Told.{Told}
-use Rattle.rules.specs.Records.{kept-room}
-use Rattle.rules.specs.ClausesReady.{ready-clauses, conflict-ready, Sorts, sorts}
-use Rattle.rules.proofs.Kept.{kept-written, kept-told}
-use Rattle.rules.proofs.Ways as out
+use Rattle.rules.specs.Trail.{trail, recordOf}
+use Rattle.rules.specs.Inner.Ready.{formula}
+use Rattle.rules.specs.Inner.Tabled.{Tabled, Sorts}
+use Rattle.rules.specs.Laws.Records.{kept-room}
+use Rattle.rules.specs.Laws.ClausesReady.{ready-clauses, conflict-ready, sorts}
+use Rattle.rules.specs.Laws.Kept.{kept-written, kept-tabled}
 use borrow.Author.Needs.{needs}
 use Rattle.rules.proofs.ordered.due.Statement.{statement}
+use Rattle.rules.proofs.Ways as out
 use Rattle.rules.proofs.ordered.due.Tie as tie
 
 values-of-requires : tie.Need-values-of-requires
-values-of-requires c κs = kept-written _ _ _ _ (c .before .pre .1)
+values-of-requires c κs = kept-written _ _ _ (c .before .pre .1)
 
 universals-of-requires : tie.Need-universals-of-requires
 universals-of-requires c κs = search needs
@@ -33,10 +33,10 @@ module _ (c : tie.After-statuses) where
   start = c .before .before .before .before .before .before .before
 
   abbrev record·of : Record
-  record·of = recordOf (start .args .lits .now) (start .args .kinds .now) (start .args .count)
+  record·of = recordOf (trail (start .args .lits .now) (start .args .kinds .now)) (start .args .count)
 
-  told : Told record·of (c .before .before .before .before .before .values-of .result) (start .args .kinds .now) (start .args .count)
-  told = kept-told _ _ _ _ (start .pre .1) _ (c .before .before .before .before .before .values-of .ensures)
+  told : Tabled record·of (c .before .before .before .before .before .values-of .result) (start .args .kinds .now) (start .args .count)
+  told = kept-tabled _ _ _ (start .pre .1) _ (c .before .before .before .before .before .values-of .ensures)
 
   sorting : Sorts (start .args .prefix .now) (trueIn record·of) (c .before .statuses-of .result)
   sorting = sorts _ (start .pre .0 .prefix) _ _ (c .before .before .before .before .universals-of .result) (c .before .statuses-of .result) (told .values) (c .before .before .before .before .universals-of .ensures) (told .consistent) (c .before .statuses-of .ensures)

@@ -1,8 +1,8 @@
 -- The last kind 1 entry, or none, picks the case.
 use mathlib.Core.Path.{_∙_}
-use Rattle.rules.proofs.Ways as out
 use borrow.Author.Needs.{needs}
 use Rattle.rules.proofs.ordered.due_conflict.Statement.{statement}
+use Rattle.rules.proofs.Ways as out
 use Rattle.rules.proofs.ordered.due_conflict.Tie as tie
 
 last-kind-requires : tie.Need-last-kind-requires

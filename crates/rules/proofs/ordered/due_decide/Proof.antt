@@ -1,9 +1,9 @@
 -- The first unassigned variable, or none and the last kind 2 entry, picks the case.
 use mathlib.Core.Path.{_∙_}
 use denote.Ref.{now}
-use Rattle.rules.proofs.Ways as out
 use borrow.Author.Needs.{needs}
 use Rattle.rules.proofs.ordered.due_decide.Statement.{statement}
+use Rattle.rules.proofs.Ways as out
 use Rattle.rules.proofs.ordered.due_decide.Tie as tie
 
 first-unassigned-requires : tie.Need-first-unassigned-requires

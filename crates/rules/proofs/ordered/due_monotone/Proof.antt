@@ -1,10 +1,10 @@
 -- The first monotone variable, or none, picks the case; the literals that occur are those of all clauses.
-use Rattle.rules.proofs.Kept.{ready-named, ready-spread}
+use Rattle.rules.specs.Laws.Occurs.{ready-named, ready-spread}
 use denote.Ref.{now}
 use Rattle.formula.specs.Formula.{clausesFrom}
-use Rattle.rules.proofs.Ways as out
 use borrow.Author.Needs.{needs}
 use Rattle.rules.proofs.ordered.due_monotone.Statement.{statement}
+use Rattle.rules.proofs.Ways as out
 use Rattle.rules.proofs.ordered.due_monotone.Tie as tie
 
 occurring-requires : tie.Need-occurring-requires

@@ -1,9 +1,9 @@
 -- The lowest unit clause, or none, picks the case; over checked input the tables say what the definitions do.
 use mathlib.Core.Path.{_∙_}
-use Rattle.rules.specs.ClausesReady.{ready-clauses, unit-ready}
-use Rattle.rules.proofs.Ways as out
+use Rattle.rules.specs.Laws.ClausesReady.{ready-clauses, unit-ready}
 use borrow.Author.Needs.{needs}
 use Rattle.rules.proofs.ordered.due_unit.Statement.{statement}
+use Rattle.rules.proofs.Ways as out
 use Rattle.rules.proofs.ordered.due_unit.Tie as tie
 
 levels-of-requires : tie.Need-levels-of-requires

@@ -6,7 +6,7 @@ use borrow.Author.Needs.{needs}
 use native.Mathlib.Omega.{arith}
 use lib.ListN.{length}
 use lib.Seq.{take-length}
-use Rattle.rules.specs.Tables.{places}
+use Rattle.rules.specs.Inner.Tables.{places}
 use Rattle.rules.proofs.Filled.{Filled, end, placed, bound-named}
 use Rattle.rules.proofs.Universals.{universally, universals-begin, universals-turn, universals-pass}
 use Rattle.rules.proofs.tables.universals_of.Statement.{statement}

@@ -2,7 +2,7 @@
 use Prim.Native.Nat.{_-_}
 use borrow.Author.Needs.{needs}
 use native.Mathlib.Omega.{arith}
-use Rattle.rules.specs.Tables.{places}
+use Rattle.rules.specs.Inner.Tables.{places}
 use Rattle.rules.proofs.Filled.{Filled, end}
 use Rattle.rules.proofs.Values.{valued, values-begin, written-placed, values-turn}
 use Rattle.rules.proofs.tables.values_of.Statement.{statement}

@@ -7,12 +7,12 @@ use borrow.Author.Needs.{needs}
 use native.Mathlib.Omega.{arith}
 use Rattle.formula.specs.Limits.{limits}
 use Rattle.formula.specs.Laws.Limits.{variables-are}
-use Rattle.rules.specs.declared.Picked.the-variants.{Is}
+use Rattle.rules.specs.declared.found.Picked.the-variants.{Is}
 use Rattle.rules.proofs.Filled.{placed, bound-named}
 use Rattle.rules.proofs.Monotone.{Seeking, seeking-begin, seeking-end, seeking-plus, seeking-minus, seeking-mixed, seeking-assigned}
 use Rattle.rules.proofs.variables.first_monotone.Statement.{statement}
+use Rattle.rules.specs.Inner.Tables.{places}
 use Rattle.rules.proofs.variables.first_monotone.Tie as tie
-use Rattle.rules.specs.Tables.{places}
 
 abbrev Inv-loop : tie.InvT-loop
 Inv-loop prefix values signs i₀ i = Seeking prefix values signs i

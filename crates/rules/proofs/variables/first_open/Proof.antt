@@ -9,7 +9,7 @@ use Rattle.theory.specs.Record.{Assignment}
 use Rattle.theory.specs.Tests.{isOpen}
 use Rattle.rules.specs.Due.{literal}
 use Rattle.rules.specs.Preferred.{firstOpen}
-use Rattle.rules.specs.Tables.{Values}
+use Rattle.rules.specs.Inner.Tables.{Values}
 use Rattle.rules.proofs.OpenLiteral.{open-none, open-here, open-past}
 use Rattle.rules.proofs.variables.first_open.Statement.{statement}
 use Rattle.rules.proofs.variables.first_open.Tie as tie

@@ -5,9 +5,9 @@ use lib.ListN.{length, drop}
 use borrow.Author.Needs.{needs}
 use native.Mathlib.Omega.{arith}
 use Rattle.theory.specs.Record.{Assignment}
-use Rattle.rules.specs.declared.Picked.the-variants.{Is}
+use Rattle.rules.specs.declared.found.Picked.the-variants.{Is}
 use Rattle.rules.specs.Due.{firstUnassigned}
-use Rattle.rules.specs.Tables.{Values}
+use Rattle.rules.specs.Inner.Tables.{Values}
 use Rattle.rules.proofs.Filled.{placed, bound-named}
 use Rattle.rules.proofs.Unassigned.{none-left, found, passed}
 use Rattle.rules.proofs.variables.first_unassigned.Statement.{statement}

@@ -7,8 +7,8 @@ use native.Mathlib.Omega.{arith}
 use Rattle.rules.proofs.Filled.{placed, bound-named}
 use Rattle.rules.proofs.Lowest.{Lowering, lowering-begin, lowering-end, lowering-past, lowering-down, lowering-stays}
 use Rattle.rules.proofs.variables.lowest_unassigned.Statement.{statement}
+use Rattle.rules.specs.Inner.Tables.{places}
 use Rattle.rules.proofs.variables.lowest_unassigned.Tie as tie
-use Rattle.rules.specs.Tables.{places}
 
 abbrev Inv-loop : tie.InvT-loop
 Inv-loop prefix values levels lowest₀ i₀ lowest i = Lowering prefix values lowest i

@@ -8,8 +8,8 @@ use Rattle.rules.proofs.Filled.{enough}
 use Rattle.rules.proofs.Unassigned.{unassigned, is-assigned}
 use Rattle.rules.proofs.OpenLiteral.{open-unbound, open-assigned, open-by}
 use Rattle.rules.proofs.variables.open_variable.Statement.{statement}
+use Rattle.rules.specs.Inner.Tables.{places}
 use Rattle.rules.proofs.variables.open_variable.Tie as tie
-use Rattle.rules.specs.Tables.{places}
 
 returns : tie.Need-returns
 returns c ρ said lowest l is =

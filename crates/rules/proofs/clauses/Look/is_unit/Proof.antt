@@ -3,7 +3,7 @@ use native.Mathlib.Omega.{arith}
 use borrow.Author.Needs.{needs}
 use borrow.Author.Tests.{le-leb, lt-leb, lt-ltb, le-ltb}
 use Rattle.formula.specs.Laws.Limits.{variables-are}
-use Rattle.rules.specs.Clauses.{decidedBy}
+use Rattle.rules.specs.Inner.Clauses.{decidedBy}
 use Rattle.rules.proofs.clauses.Look.is_unit.Statement.{statement}
 use Rattle.rules.proofs.clauses.Look.is_unit.Tie as tie
 

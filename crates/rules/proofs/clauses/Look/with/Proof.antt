@@ -7,8 +7,8 @@ use lib.ListN.{getD}
 use borrow.Author.Needs.{needs}
 use borrow.Author.Tests.{not-true, not-false}
 use Rattle.formula.specs.Laws.Limits.{variables-are}
-use Rattle.rules.specs.ByLiteral.{statusIn}
-use Rattle.rules.specs.Clauses.{levelBy, Shown}
+use Rattle.rules.specs.Inner.ByLiteral.{statusIn}
+use Rattle.rules.specs.Inner.Clauses.{levelBy, Shown}
 use Rattle.rules.proofs.Looks.{with-false, with-true, with-first, with-same, with-other, with-universal}
 use Rattle.rules.proofs.clauses.Look.with.Statement.{statement}
 use Rattle.rules.proofs.clauses.Look.with.Tie as tie

@@ -1,0 +1,82 @@
+-- A call from another language: numbers in; a status, and the answer's numbers in a lent array, out. The calls themselves are those of the
+-- crates below, by the same definitions.
+use Prim.Native.Nat.{ℕ}
+use mathlib.Core.Bool.{cond}
+use mathlib.Core.List.{List, [], _∷_}
+use lib.IntN.{ℤ}
+use lib.Seq.{sets}
+use Rattle.words.specs.Outcomes.{Outcome, outcome}
+use Rattle.rules.specs.Due.{literal}
+use Rattle.session.specs.declared.Revision.{Revision}
+use Rattle.session.specs.declared.Session.{Session}
+use Rattle.session.specs.declared.Answer.{Answer}
+use Rattle.session.specs.declared.Answer.the-variants.{To, Refused}
+use Rattle.session.specs.declared.Ran.{Ran}
+use Rattle.session.specs.declared.Ran.the-variants.{Until, Stopped}
+use Rattle.session.specs.Memory.{Memory}
+use Rattle.session.specs.States.{numberOf, stateNumbered}
+use Rattle.session.specs.Outcome.{session, openOutcome, stepOutcome}
+use Rattle.session.specs.Run.{runOf}
+use Rattle.listing.specs.declared.Paged as paged
+use Rattle.listing.specs.Page.{PageMemory, pageOf}
+
+-- what is lent: the call's own memory, and the array for the answer's numbers
+pub record Lent (M : Type 0) : Type 0 where
+  pub memory : M
+  pub answer : List ℕ
+
+abbrev pub lent : {M : Type 0} → M → List ℕ → Lent M
+lent m a = record { memory = m; answer = a }
+
+-- what the call below leaves, its answer told by a status and by numbers in the array's first places
+abbrev pub told : {M A : Type 0} → (A → ℕ) → (A → List ℕ) → List ℕ → Outcome M A → Outcome (Lent M) ℕ
+told status numbers a o = outcome (status (o .answer)) (lent (o .memory) (sets a 0 (numbers (o .answer))))
+
+-- ---- a session as three numbers: its record's length, its revision, and its state's
+abbrev pub sessionOf : ℕ → ℕ → ℕ → Session
+sessionOf n rev st = session n rev (stateNumbered st)
+
+abbrev pub numbersOf : Session → List ℕ
+numbersOf s = s .length ∷ s .revision .0 ∷ numberOf (s .state) ∷ []
+
+abbrev pub revision : ℕ → Revision
+revision n = record { 0 = n }
+
+-- ---- opening and a step: status 0 and the next session's numbers, or the refusal's number and none
+abbrev pub statusOf : Answer → ℕ
+statusOf (To s) = 0
+statusOf (Refused n) = n
+
+abbrev pub answerNumbers : Answer → List ℕ
+answerNumbers (To s) = numbersOf s
+answerNumbers (Refused n) = []
+
+abbrev pub openCall : List ℤ → Memory → ℕ → List ℕ → Outcome (Lent Memory) ℕ
+openCall b m first a = told statusOf answerNumbers a (openOutcome b m (revision first))
+
+abbrev pub stepCall : Session → List ℤ → Memory → ℕ → ℤ → List ℕ → Outcome (Lent Memory) ℕ
+stepCall s b m seen l a = told statusOf answerNumbers a (stepOutcome s b m (revision seen) (literal l))
+
+-- ---- a run: the count of accepted steps is a fourth number
+abbrev pub ranStatus : Ran → ℕ
+ranStatus (Until s n) = 0
+ranStatus (Stopped n) = n
+
+abbrev pub ranNumbers : Ran → List ℕ
+ranNumbers (Until s n) = s .length ∷ s .revision .0 ∷ numberOf (s .state) ∷ n ∷ []
+ranNumbers (Stopped n) = []
+
+abbrev pub runCall : Session → List ℤ → Memory → ℕ → ℕ → List ℤ → List ℕ → Outcome (Lent Memory) ℕ
+runCall s b m seen budget preferred a = told ranStatus ranNumbers a (runOf s b m (revision seen) budget preferred)
+
+-- ---- a page: where the next one begins, the entries written, and 1 for paused, else 0
+abbrev pub pagedStatus : paged.Paged → ℕ
+pagedStatus (paged.the-variants.Page n e p) = 0
+pagedStatus (paged.the-variants.Refused n) = n
+
+abbrev pub pagedNumbers : paged.Paged → List ℕ
+pagedNumbers (paged.the-variants.Page n e p) = n ∷ e ∷ cond p 1 0 ∷ []
+pagedNumbers (paged.the-variants.Refused n) = []
+
+abbrev pub pageCall : List ℤ → PageMemory → ℕ → List ℤ → ℕ → List ℕ → Outcome (Lent PageMemory) ℕ
+pageCall b m start preferred budget a = told pagedStatus pagedNumbers a (pageOf b m start preferred budget)

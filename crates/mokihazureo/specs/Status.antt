@@ -1,0 +1,45 @@
+-- The status of a call is the number of its table, 0 exactly if it is accepted; and with another status every lent buffer, the answer's array among
+-- them, is as it was. By the two cases of the number, 0 and not 0.
+use mathlib.Core.Path.{_≡_, refl}
+use mathlib.Core.List.{List, []}
+use Prim.Native.Nat.{ℕ, zero, suc}
+use lib.IntN.{ℤ}
+use Rattle.words.specs.Outcomes.{Outcome, unless}
+use Rattle.session.specs.declared.Session.{Session}
+use Rattle.session.specs.declared.Answer.the-variants.{Refused}
+use Rattle.session.specs.declared.Ran.the-variants.{Stopped}
+use Rattle.session.specs.Memory.{Memory}
+use Rattle.session.specs.Refusals.{openRefusal, stepRefusal, runRefusal}
+use Rattle.session.specs.Outcome.{openOutcome, stepOutcome}
+use Rattle.session.specs.Run.{runOf}
+use Rattle.rules.specs.Due.{literal}
+use Rattle.listing.specs.declared.Paged as paged
+use Rattle.listing.specs.Page.{PageMemory, pageRefusal, pageOf}
+use Rattle.mokihazureo.specs.Called.{Lent, lent, told, revision, statusOf, answerNumbers, ranStatus, ranNumbers, pagedStatus, pagedNumbers, openCall, stepCall, runCall, pageCall}
+
+-- the status is the table's number n, and unless that is 0 all is as it was
+pub record Stated {M : Type 0} (n : ℕ) (m : M) (a : List ℕ) (u : Outcome (Lent M) ℕ) : Type 0 where
+  pub status : u .answer ≡ n
+  pub leaves : (n ≡ 0 → ⊥) → u .memory ≡ lent m a
+
+stated : {M A : Type 0} (status : A → ℕ) (numbers : A → List ℕ) (number : ℕ → A) → ((n : ℕ) → status (number n) ≡ n) → ((n : ℕ) → numbers (number n) ≡ [])
+    → (n : ℕ) (m : M) (a : List ℕ) (o : Outcome M A) → status (o .answer) ≡ 0 → Stated n m a (told status numbers a (unless number n m o))
+stated status numbers number tells none zero m a o e = record { status = e; leaves = λ f. absurd (f refl) }
+stated status numbers number tells none (suc n) m a o e = record { status = tells (suc n); leaves = λ f. rw (none (suc n)) }
+
+pub open-stated : (b : List ℤ) (m : Memory) (first : ℕ) (a : List ℕ) → Stated (openRefusal b m) m a (openCall b m first a)
+unfolding openOutcome
+open-stated b m first a = stated statusOf answerNumbers Refused (λ n. refl) (λ n. refl) (openRefusal b m) m a _ refl
+
+module _ (s : Session) (b : List ℤ) (m : Memory) (seen : ℕ) (a : List ℕ) where
+  pub step-stated : (l : ℤ) → Stated (stepRefusal s b m (revision seen) (literal l)) m a (stepCall s b m seen l a)
+  unfolding stepOutcome
+  step-stated l = stated statusOf answerNumbers Refused (λ n. refl) (λ n. refl) (stepRefusal s b m (revision seen) (literal l)) m a _ refl
+
+  pub run-stated : (budget : ℕ) (preferred : List ℤ) → Stated (runRefusal s b m (revision seen) budget) m a (runCall s b m seen budget preferred a)
+  unfolding runOf
+  run-stated budget preferred = stated ranStatus ranNumbers Stopped (λ n. refl) (λ n. refl) (runRefusal s b m (revision seen) budget) m a _ refl
+
+pub page-stated : (b : List ℤ) (m : PageMemory) (start : ℕ) (preferred : List ℤ) (budget : ℕ) (a : List ℕ) → Stated (pageRefusal b m start) m a (pageCall b m start preferred budget a)
+unfolding pageOf
+page-stated b m start preferred budget a = stated pagedStatus pagedNumbers paged.the-variants.Refused (λ n. refl) (λ n. refl) (pageRefusal b m start) m a _ refl

@@ -1,0 +1,96 @@
+// The library's calls for programs in other languages: numbers and slices in; a status, and numbers in a lent array, out.
+ghost use mathlib.Core.Path.{_≡_};
+ghost use Rattle.session.specs.Memory.{memory};
+ghost use Rattle.listing.specs.Page.{pageMemory};
+ghost use Rattle.mokihazureo.specs.Called.{lent, sessionOf};
+ghost use Rattle.mokihazureo.specs.Only.{CheckPromise, OpenPromise, StepPromise, RunPromise, PagePromise};
+use formula::Checked;
+use session::Revision;
+use words::Literal;
+
+mod numbers; // sessions and answers as numbers
+
+// 0 for an accepted block, else the number of its refusal.
+#[no_mangle]
+pub extern "C" fn moki_check(block: &[i32]) -> u32
+    ensures { λ r. ⌜ CheckPromise (now (block .entry)) r ⌝ }
+{
+    match formula::check(block) {
+        Checked::Accepted => 0,
+        Checked::Refused(number) => number,
+    }
+}
+
+// A fresh session at a first revision; its numbers are written to the answer.
+#[no_mangle]
+pub extern "C" fn moki_open(
+    block: &[i32],
+    lits: &mut [i32],
+    kinds: &mut [u8],
+    first: u64,
+    answer: &mut [u64; 3],
+) -> u32
+    ensures { λ r. ⌜ OpenPromise (now (block .entry)) (memory (now (lits .entry)) (now (kinds .entry))) first (now (answer .entry)) r (lent (memory (now (lits .exit)) (now (kinds .exit))) (now (answer .exit))) ⌝ }
+{
+    let outcome = session::open(block, lits, kinds, Revision(first));
+    numbers::answered(outcome, answer)
+}
+
+// One step of the session that the first three numbers are.
+#[no_mangle]
+pub extern "C" fn moki_step(
+    length: usize,
+    revision: u64,
+    state: u32,
+    block: &[i32],
+    lits: &mut [i32],
+    kinds: &mut [u8],
+    seen: u64,
+    proposal: i32,
+    answer: &mut [u64; 3],
+) -> u32
+    ensures { λ r. ⌜ StepPromise (sessionOf length revision state) (now (block .entry)) (memory (now (lits .entry)) (now (kinds .entry))) seen proposal (now (answer .entry)) r (lent (memory (now (lits .exit)) (now (kinds .exit))) (now (answer .exit))) ⌝ }
+{
+    let before = numbers::session_of(length, revision, state);
+    let outcome = before.step(block, lits, kinds, Revision(seen), Literal(proposal));
+    numbers::answered(outcome, answer)
+}
+
+// At most `budget` steps; the count of accepted steps is the answer's fourth number.
+#[no_mangle]
+pub extern "C" fn moki_run(
+    length: usize,
+    revision: u64,
+    state: u32,
+    block: &[i32],
+    lits: &mut [i32],
+    kinds: &mut [u8],
+    seen: u64,
+    budget: u32,
+    preferred: &[i32],
+    answer: &mut [u64; 4],
+) -> u32
+    ensures { λ r. ⌜ RunPromise (sessionOf length revision state) (now (block .entry)) (memory (now (lits .entry)) (now (kinds .entry))) seen budget (now (preferred .entry)) (now (answer .entry)) r (lent (memory (now (lits .exit)) (now (kinds .exit))) (now (answer .exit))) ⌝ }
+{
+    let before = numbers::session_of(length, revision, state);
+    let outcome = before.run(block, lits, kinds, Revision(seen), budget, preferred);
+    numbers::ran(outcome, answer)
+}
+
+// The winning openings from `start` on; where the next page begins, the entries written, and 1 if paused are written to the answer.
+#[no_mangle]
+pub extern "C" fn moki_page(
+    block: &[i32],
+    lits: &mut [i32],
+    kinds: &mut [u8],
+    start: u32,
+    preferred: &[i32],
+    budget: u32,
+    output: &mut [u32],
+    answer: &mut [u64; 3],
+) -> u32
+    ensures { λ r. ⌜ PagePromise (now (block .entry)) (pageMemory (now (lits .entry)) (now (kinds .entry)) (now (output .entry))) start (now (preferred .entry)) budget (now (answer .entry)) r (lent (pageMemory (now (lits .exit)) (now (kinds .exit)) (now (output .exit))) (now (answer .exit))) ⌝ }
+{
+    let outcome = listing::page(block, lits, kinds, start, preferred, budget, output);
+    numbers::paged(outcome, answer)
+}

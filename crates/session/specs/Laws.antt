@@ -1,0 +1,4 @@
+-- What is proved about the definitions, for use in proofs.
+pub mod Accepted
+pub mod Advance
+pub mod Trips

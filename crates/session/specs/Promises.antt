@@ -1,0 +1,70 @@
+-- What each public function promises of everything at entry, r being its answer and m′ the memory that it leaves; and that the promise leaves one
+-- answer, one next session and one content of each lent buffer. A promise is an equation with a definition.
+use mathlib.Core.Path.{_≡_}
+use mathlib.Core.List.{List}
+use Prim.Native.Nat.{ℕ}
+use lib.IntN.{ℤ}
+use Rattle.words.specs.Only.{only-one}
+use Rattle.words.specs.Outcomes.{outcome, Same, same}
+use Rattle.words.specs.declared.Literal.{Literal}
+use Rattle.formula.specs.Formula.{formulaOf}
+use Rattle.rules.specs.declared.State.{State}
+use Rattle.rules.specs.declared.State.the-variants.{Open}
+use Rattle.rules.specs.Trail.{Trail}
+use Rattle.rules.specs.Search.{search, reached}
+use Rattle.session.specs.declared.Revision.{Revision}
+use Rattle.session.specs.declared.Session.{Session}
+use Rattle.session.specs.declared.Answer.{Answer}
+use Rattle.session.specs.declared.Ran.{Ran}
+use Rattle.session.specs.declared.Searched.{Searched}
+use Rattle.session.specs.Memory.{Memory}
+use Rattle.session.specs.States.{numberOf, stateNumbered}
+use Rattle.session.specs.Refusals.{openRefusal}
+use Rattle.session.specs.Outcome.{openOutcome, stepOutcome}
+use Rattle.session.specs.Run.{Trip, trip, runFrom, runOf}
+
+-- ---- the entrances
+abbrev pub OpenPromise : List ℤ → Memory → Revision → Answer → Memory → Type 0
+OpenPromise b m rev r m′ = outcome r m′ ≡ openOutcome b m rev
+
+abbrev pub StepPromise : Session → List ℤ → Memory → Revision → Literal → Answer → Memory → Type 0
+StepPromise s b m seen l r m′ = outcome r m′ ≡ stepOutcome s b m seen l
+
+abbrev pub RunPromise : Session → List ℤ → Memory → Revision → ℕ → List ℤ → Ran → Memory → Type 0
+RunPromise s b m seen budget preferred r m′ = outcome r m′ ≡ runOf s b m seen budget preferred
+
+abbrev pub NumberOfPromise : State → ℕ → Type 0
+NumberOfPromise st r = r ≡ numberOf st
+
+abbrev pub StateOfPromise : ℕ → State → Type 0
+StateOfPromise n r = r ≡ stateNumbered n
+
+module _ {m′ m″ : Memory} (b : List ℤ) (m : Memory) where
+  pub only-open : {r r′ : Answer} (rev : Revision) → OpenPromise b m rev r m′ → OpenPromise b m rev r′ m″ → Same r r′ m′ m″
+  only-open rev = same
+
+  pub only-step : {r r′ : Answer} (s : Session) (seen : Revision) (l : Literal) → StepPromise s b m seen l r m′ → StepPromise s b m seen l r′ m″ → Same r r′ m′ m″
+  only-step s seen l = same
+
+  pub only-run : {r r′ : Ran} (s : Session) (seen : Revision) (budget : ℕ) (preferred : List ℤ) → RunPromise s b m seen budget preferred r m′ → RunPromise s b m seen budget preferred r′ m″ → Same r r′ m′ m″
+  only-run s seen budget preferred = same
+
+pub only-number-of : {r r′ : ℕ} (st : State) → NumberOfPromise st r → NumberOfPromise st r′ → r ≡ r′
+only-number-of st = only-one
+
+pub only-state-of : {r r′ : State} (n : ℕ) → StateOfPromise n r → StateOfPromise n r′ → r ≡ r′
+only-state-of n = only-one
+
+-- ---- the inner doors
+abbrev pub OpenRefusalPromise : List ℤ → Memory → ℕ → Type 0
+OpenRefusalPromise b m r = r ≡ openRefusal b m
+
+abbrev pub SearchPromise : List ℤ → Trail → ℕ → ℕ → List ℤ → Searched → Trail → Type 0
+SearchPromise b t n budget preferred r t′ = trip (reached (r .reached) t′) (r .steps) ≡ runFrom (formulaOf b) preferred budget (search t n Open) 0
+
+pub only-open-refusal : {r r′ : ℕ} (b : List ℤ) (m : Memory) → OpenRefusalPromise b m r → OpenRefusalPromise b m r′ → r ≡ r′
+only-open-refusal b m = only-one
+
+pub only-search : {r r′ : Searched} {t′ t″ : Trail} (b : List ℤ) (t : Trail) (n budget : ℕ) (preferred : List ℤ)
+    → SearchPromise b t n budget preferred r t′ → SearchPromise b t n budget preferred r′ t″ → (r ≡ r′) × (t′ ≡ t″)
+only-search b t n budget preferred p q = let e = only-one p q in (cc, cc)

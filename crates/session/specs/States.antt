@@ -1,0 +1,14 @@
+-- A session's state as a number: 0 open, 1 Valid, 2 Unsat; a larger number counts as Unsat.
+use Prim.Native.Nat.{ℕ, zero, suc}
+use Rattle.rules.specs.declared.State.{State}
+use Rattle.rules.specs.declared.State.the-variants.{Open, Valid, Unsat}
+
+abbrev pub numberOf : State → ℕ
+numberOf Open = 0
+numberOf Valid = 1
+numberOf Unsat = 2
+
+abbrev pub stateNumbered : ℕ → State
+stateNumbered zero = Open
+stateNumbered (suc zero) = Valid
+stateNumbered (suc (suc n)) = Unsat
