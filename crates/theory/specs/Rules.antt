@@ -31,14 +31,14 @@ module _ (F : Formula) where
   Full r = allAssigned (F .prefix) (trueIn r) ≡ true
 
 -- [order.monotone] A test of Monotone: of a prefix, clauses, what is true, and a literal that the rule may append.
-abbrev pub Monotone : Type 0
-Monotone = List ℤ → List (List ℤ) → Assignment → ℤ → Bool
+abbrev pub MonotoneTest : Type 0
+MonotoneTest = List ℤ → List (List ℤ) → Assignment → ℤ → Bool
 
 -- [order.monotone] It passes no literal but those of the widest that is sound.
-pub record Within (μ : Monotone) : Type 0 where
+pub record Within (μ : MonotoneTest) : Type 0 where
   pub wide : (p : List ℤ) (m : List (List ℤ)) (ρ : Assignment) (l : ℤ) → μ p m ρ l ≡ true → monotoneWide p m ρ l ≡ true
 
-module _ (μ : Monotone) (F : Formula) where
+module _ (μ : MonotoneTest) (F : Formula) where
   -- [order.rules] A constructor for each rule: when it applies, with which literal, and what it makes of the record.
   pub data StepBy : Record → State → Type 0 where
     -- "Cut the record at its last kind 1 entry and put the opposite there, kind 0."

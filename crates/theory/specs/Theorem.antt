@@ -23,7 +23,7 @@ use Rattle.formula.specs.Laws.Accepted.{proper}
 use Rattle.formula.specs.Truth.{true?}
 use Rattle.theory.specs.Record.{Record, trueIn, without, forced}
 use Rattle.theory.specs.Tests.{conflict, allAssigned, monotone, monotoneOpen}
-use Rattle.theory.specs.Rules.{State, going, valid, unsat, verdict, Conflict, Quiet, Full, Monotone, Within, StepBy, backtrack-exists, fail, decide-exists, decide-forall, backtrack-forall, succeed, PathBy, stop, take}
+use Rattle.theory.specs.Rules.{State, going, valid, unsat, verdict, Conflict, Quiet, Full, MonotoneTest, Within, StepBy, backtrack-exists, fail, decide-exists, decide-forall, backtrack-forall, succeed, PathBy, stop, take}
 use Rattle.theory.specs.Start.{Good, trueUnder}
 use Rattle.theory.specs.Laws.Value.{value-under, under-none}
 use Rattle.theory.specs.Laws.Tested.{open-e}
@@ -34,7 +34,7 @@ use Rattle.theory.specs.Laws.Work.{free, good-taken, nodes-up, work, for
 use Rattle.theory.specs.Laws.First.{Last, last, First, first, first-open}
 
 -- [order] What is claimed of the paths from a start: fewer than `limit` rules, and the answer is `answer`.
-pub record AnyOrder (μ : Monotone) (F : Formula) (start : Record) (limit : ℕ) (answer : Bool) : Type 0 where
+pub record AnyOrder (μ : MonotoneTest) (F : Formula) (start : Record) (limit : ℕ) (answer : Bool) : Type 0 where
   -- [order.ends] Every such path is finite, and has fewer rules still while it is open.
   pub short : {n : ℕ} {s : State} → PathBy μ F n (going start) s → n < limit
   pub fewer : {n : ℕ} {r : Record} → PathBy μ F n (going start) (going r) → suc n < limit
@@ -44,7 +44,7 @@ pub record AnyOrder (μ : Monotone) (F : Formula) (start : Record) (limit : ℕ)
   pub goes-on : {n : ℕ} {s : State} → PathBy μ F n (going start) s → (m : ℕ) × PathBy μ F m s (verdict answer)
 
 -- ---- finite: a path from k forced entries of distinct variables of the prefix has at most 2^(V+1-k) - 1 rules
-pub finite : {μ : Monotone} → Within μ → (F : Formula) (r : Record) → Good F r → forced r ≡ true
+pub finite : {μ : MonotoneTest} → Within μ → (F : Formula) (r : Record) → Good F r → forced r ≡ true
     → {n : ℕ} {s : State} → PathBy μ F n (going r) s → n < 2 ^ (suc (length (F .prefix)) - length r)
 unfolding work
 finite within F r g f p =
@@ -56,12 +56,12 @@ finite within F r g f p =
     rw e (omega arith)
 
 -- ---- sound: from a record of forced entries the answer is the truth of the rest
-pub sound : {μ : Monotone} → Within μ → (F : Formula) → Proper F → (r : Record) → forced r ≡ true → (b : Bool) {n : ℕ} → PathBy μ F n (going r) (verdict b) → trueUnder F r ≡ b
+pub sound : {μ : MonotoneTest} → Within μ → (F : Formula) → Proper F → (r : Record) → forced r ≡ true → (b : Bool) {n : ℕ} → PathBy μ F n (going r) (verdict b) → trueUnder F r ≡ b
 sound within F ok r start true p = sym (value-under F ok r) ∙ holds-path F r within ok start (invariant-start F r) p
 sound within F ok r start false p = sym (value-under F ok r) ∙ holds-path F r within ok start (invariant-start F r) p
 
 -- ---- never stuck: in every open state some rule applies, whatever the test of Monotone
-module _ {μ : Monotone} (F : Formula) (ok : Proper F) where
+module _ {μ : MonotoneTest} (F : Formula) (ok : Proper F) where
   pub never-stuck : (r : Record) → (s : State) × StepBy μ F r s
   never-stuck r = elim (look (conflict (F .prefix) (F .clauses) (trueIn r))) [
     | inl c ↦ back-exists c (last 1 r)
@@ -81,7 +81,7 @@ module _ {μ : Monotone} (F : Formula) (ok : Proper F) where
           elim (stands-bound (F .prefix) (w .word) (open-e (F .prefix) (trueIn r) (w .word) o .bound)) [ inl e ↦ (_, decide-exists q (w .word) o e) | inr e ↦ (_, decide-forall q (w .word) o e) ]
 
 -- so, since the work falls, from every state some path leads to an answer
-answered : {μ : Monotone} → Within μ → (F : Formula) → Proper F → (s : State) → (b : Bool) × (n : ℕ) × PathBy μ F n s (verdict b)
+answered : {μ : MonotoneTest} → Within μ → (F : Formula) → Proper F → (s : State) → (b : Bool) × (n : ℕ) × PathBy μ F n s (verdict b)
 answered {μ} within F ok s = go (suc (work F s)) s (omega arith)
   where
     go : (k : ℕ) (s : State) → work F s < k → (b : Bool) × (n : ℕ) × PathBy μ F n s (verdict b)
@@ -95,7 +95,7 @@ answered {μ} within F ok s = go (suc (work F s)) s (omega arith)
         (b, suc n, take x p)
 
 -- ---- all together, for any test of Monotone within the widest
-module _ {μ : Monotone} (within : Within μ) (F : Formula) (ok : Proper F) where
+module _ {μ : MonotoneTest} (within : Within μ) (F : Formula) (ok : Proper F) where
   -- [order.start] From a good record of forced entries, as the openings of a listing are: the answer is the truth of the rest.
   pub any-order-from : (r : Record) → Good F r → forced r ≡ true → AnyOrder μ F r (2 ^ (suc (length (F .prefix)) - length r)) (trueUnder F r)
   any-order-from r g f = record {

@@ -15,7 +15,7 @@ use Rattle.formula.specs.Laws.Prefix.{existential-universal}
 use Rattle.formula.specs.Proper.{Proper}
 use Rattle.formula.specs.Truth.{asked}
 use Rattle.theory.specs.Record.{Entry, entry, Record, Assignment, trueIn, without, forced}
-use Rattle.theory.specs.Rules.{State, going, valid, unsat, Monotone, Within, StepBy, backtrack-exists, fail, unit, monotone, decide-exists, decide-forall, backtrack-forall, succeed, PathBy, stop, take}
+use Rattle.theory.specs.Rules.{State, going, valid, unsat, MonotoneTest, Within, StepBy, backtrack-exists, fail, unit, monotone, decide-exists, decide-forall, backtrack-forall, succeed, PathBy, stop, take}
 use Rattle.theory.specs.Laws.Assignment.{put, after, true-append}
 use Rattle.theory.specs.Laws.Value.{valueOf}
 use Rattle.theory.specs.Laws.Choices.{decide-law}
@@ -132,7 +132,7 @@ module _ (F : Formula) (r0 : Record) where
     invariant-end i h w =
         passed-up F v (trueIn r0) (i .later) (i .carried) (and-r (without (flipped v) r0) (without (flipped v) (i .later)) (rw (i .whole, all-append) at h)) (rw (true-now i) at w)
 
-  module _ {μ : Monotone} (within : Within μ) (ok : Proper F) (start : forced r0 ≡ true) where
+  module _ {μ : MonotoneTest} (within : Within μ) (ok : Proper F) (start : forced r0 ≡ true) where
     -- each rule keeps it
     pub holds-step : {r : Record} {s : State} → Invariant F r0 r → StepBy μ F r s → Holds F r0 s
     unfolding worth

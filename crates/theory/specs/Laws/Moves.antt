@@ -15,7 +15,7 @@ use Rattle.formula.specs.Formula.{Formula, existential, universal}
 use Rattle.formula.specs.Laws.Prefix.{stands, existential-neg, universal-neg, existential-stands, universal-stands, twice-before, twice-snoc}
 use Rattle.formula.specs.Block.{twice}
 use Rattle.theory.specs.Record.{entry, Record, trueIn, assigned, Entry, literals}
-use Rattle.theory.specs.Rules.{State, going, verdict, Monotone, Within, StepBy, backtrack-exists, fail, unit, monotone, decide-exists, decide-forall, backtrack-forall, succeed, valid, unsat, PathBy, stop, take}
+use Rattle.theory.specs.Rules.{State, going, verdict, MonotoneTest, Within, StepBy, backtrack-exists, fail, unit, monotone, decide-exists, decide-forall, backtrack-forall, succeed, valid, unsat, PathBy, stop, take}
 use Rattle.theory.specs.Start.{suits, allSuit, Good}
 use Rattle.theory.specs.Laws.Tested.{unassignedE-e, unassignedU-e, unit-e, open-e, wide-e}
 use Rattle.theory.specs.Laws.Assignment.{assigned-neg, assigned-among, literals-append}
@@ -42,7 +42,7 @@ pub suits-neg : (p : List ℤ) (l : ℤ) → suits p 0 (negℤ l) ≡ suits p 0 
 unfolding suits
 suits-neg p l = rw (existential-neg p l, universal-neg p l)
 
-pub move : {μ : Monotone} → Within μ → (F : Formula) {r : Record} {s : State} → StepBy μ F r s → Move F r s
+pub move : {μ : MonotoneTest} → Within μ → (F : Formula) {r : Record} {s : State} → StepBy μ F r s → Move F r s
 unfolding suits
 move w F (backtrack-exists c a b l e h) = cuts 1 a b l refl e
 move w F (fail c h) = ends false
@@ -97,7 +97,7 @@ module _ (F : Formula) where
       let (h, u, s) = good-at a b (entry k l) g in
       good-grow a 0 (negℤ l) h (assigned-neg (trueIn a) l ∙ u) (suits-neg (F .prefix) l ∙ suits-forced (F .prefix) k l s)
 
-pub good-step : {μ : Monotone} → Within μ → (F : Formula) {r : Record} {s : State} → Good F r → StepBy μ F r s → GoodState F s
+pub good-step : {μ : MonotoneTest} → Within μ → (F : Formula) {r : Record} {s : State} → Good F r → StepBy μ F r s → GoodState F s
 good-step w F {r} g s = go g (move w F s)
   where
     go : {s : State} → Good F r → Move F r s → GoodState F s
@@ -107,10 +107,10 @@ good-step w F {r} g s = go g (move w F s)
     go g (ends false) = tt
 
 -- ---- paths put together: one after another, and one more rule at the end, as a history of steps grows
-pub path-append : {μ : Monotone} (F : Formula) {n m : ℕ} {s t u : State} → PathBy μ F n s t → PathBy μ F m t u → (k : ℕ) × PathBy μ F k s u
+pub path-append : {μ : MonotoneTest} (F : Formula) {n m : ℕ} {s t u : State} → PathBy μ F n s t → PathBy μ F m t u → (k : ℕ) × PathBy μ F k s u
 path-append F stop q = (_, q)
 path-append F (take x p) q = (_, take x (path-append F p q .1))
 
-pub path-snoc : {μ : Monotone} (F : Formula) {n : ℕ} {s t : State} {r : Record} → PathBy μ F n s (going r) → StepBy μ F r t → PathBy μ F (suc n) s t
+pub path-snoc : {μ : MonotoneTest} (F : Formula) {n : ℕ} {s t : State} {r : Record} → PathBy μ F n s (going r) → StepBy μ F r t → PathBy μ F (suc n) s t
 path-snoc F stop x = take x stop
 path-snoc F (take s p) x = take s (path-snoc F p x)

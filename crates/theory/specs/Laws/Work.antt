@@ -18,7 +18,7 @@ use Rattle.formula.specs.Formula.{Formula}
 use Rattle.formula.specs.Block.{twice}
 use Rattle.formula.specs.Laws.Prefix.{stands, stands-cons, stands-none, twice-head, twice-tail}
 use Rattle.theory.specs.Record.{Entry, entry, Record, literals, Assignment, among, trueIn, assigned, forced}
-use Rattle.theory.specs.Rules.{State, going, valid, unsat, Monotone, Within, StepBy, PathBy, stop, take}
+use Rattle.theory.specs.Rules.{State, going, valid, unsat, MonotoneTest, Within, StepBy, PathBy, stop, take}
 use Rattle.theory.specs.Start.{suits, allSuit, Good, rest}
 use Rattle.theory.specs.Laws.Assignment.{put, after, true-snoc, true-append, assigned-var, assigned-own, assigned-still, assigned-sign, assigned-among}
 use Rattle.theory.specs.Laws.Value.{rest-same, rest-unset}
@@ -144,7 +144,7 @@ module _ (F : Formula) where
       let k = forced-owed (put (e .literal) ρ) r (and-r (eqb (e .kind) 0) (forced r) h) in
       rw (and-l (eqb (e .kind) 0) (forced r) h) (omega arith)
 
-module _ {μ : Monotone} (within : Within μ) (F : Formula) where
+module _ {μ : MonotoneTest} (within : Within μ) (F : Formula) where
   -- every rule lowers the work
   pub step-less : {r : Record} {s : State} → StepBy μ F r s → work F s < work F (going r)
   unfolding work
