@@ -5,8 +5,8 @@ pub mod Asked
 pub mod Assignment
 pub mod Value
 pub mod Tested
--- the laws: group exchange, decide; conflict, leaf; unit, monotone
-pub mod Choices
+-- the laws: decide; conflict, leaf; unit, monotone
+pub mod Decide
 pub mod Conflict
 pub mod Forced
 pub mod Monotone

@@ -3,77 +3,39 @@
 -- that lacks a true literal needs the opposite of an existential literal, or a universal literal itself.
 use mathlib.Core.Path.{_≡_, refl, sym, _∙_, ap}
 use mathlib.Core.Logic.{_⊎_, inl, inr}
-use mathlib.Core.Bool.{Bool, true, false, not}
+use mathlib.Core.Bool.{true, false}
 use mathlib.Core.List.{List, [], _∷_}
-use Prim.Native.Nat.{_≤_}
 use native.Mathlib.Omega.{arith}
-use lib.Dec.{eqb}
 use lib.IntN.{ℤ, negℤ, natAbs}
-use Rattle.words.specs.Laws.Bools.{clash, look, to-false, eqb-i, eqb-comm}
+use Rattle.words.specs.Laws.Bools.{clash, look, to-false, eqb-i}
 use Rattle.words.specs.Lists.{In, any}
 use Rattle.words.specs.Laws.Lists.{all-e, all-i, any-f, any-none, any-more}
 use Rattle.words.specs.Words.{negative}
-use Rattle.words.specs.Laws.Words.{natAbs-neg, own-opposite}
-use Rattle.formula.specs.Formula.{Formula, existential, universal, level}
+use Rattle.words.specs.Laws.Words.{own-opposite}
+use Rattle.formula.specs.Formula.{Formula, existential, universal}
 use Rattle.formula.specs.Block.{bothSigns}
 use Rattle.formula.specs.Proper.{Proper}
-use Rattle.formula.specs.Laws.Prefix.{stands, stands-e, stands-cons, stands-none, existential-var, existential-stands, existential-universal, existential-named, universal-var, universal-stands, level-var, both-signs, Ordered, more, ordered}
+use Rattle.formula.specs.Laws.Prefix.{stands, stands-bound, existential-var, existential-stands, existential-universal, existential-named, universal-var, universal-stands, level-var, both-signs, Ordered, ordered}
 use Rattle.formula.specs.Truth.{asked}
 use Rattle.theory.specs.Record.{Assignment, assigned}
 use Rattle.theory.specs.Tests.{unassignedE, unitOn, absent, monotoneWide}
-use Rattle.theory.specs.Laws.Assignment.{put, unset-put, put-new, put-old, put-e, put-comm, assigned-var, assigned-own, assigned-still, assigned-put, assigned-other, assigned-sign}
+use Rattle.theory.specs.Laws.Assignment.{put, put-new, put-old, put-e, assigned-var, assigned-own, assigned-put, assigned-other, assigned-sign}
 use Rattle.theory.specs.Laws.Asked.{asked-first, asked-more}
-use Rattle.theory.specs.Laws.Value.{value, valueOf, value-set, value-ask, value-at, value-own}
+use Rattle.theory.specs.Laws.Value.{value, valueOf, value-set, value-ask}
 use Rattle.theory.specs.Laws.Tested.{unassignedE-e, unassignedU-e, unassignedE-i, unassignedU-i, unassignedE-put, unassignedU-put, untrue-put, true-put, Dead, UnitAt, unit-e, Absent, absent-e, absent-put, wide-e}
+use Rattle.theory.specs.Laws.Decide.{Above, descend}
 use Rattle.theory.specs.Laws.Conflict.{dead-false}
-
--- an unassigned variable q of the prefix P that stands above l's, and a literal y of it
-record Above (P : List ℤ) (l : ℤ) (ρ : Assignment) (q y : ℤ) : Type 0 where
-  bound : (existential P q ≡ true) ⊎ (universal P q ≡ true)
-  higher : level P q ≤ level P l
-  apart : eqb (natAbs q) (natAbs l) ≡ false
-  unset : assigned ρ q ≡ false
-  own : natAbs y ≡ natAbs q
 
 -- where l's variable is asked for, its opposite adds nothing
 abbrev OneSided : List ℤ → List (List ℤ) → ℤ → List ℤ → Assignment → Type 0
 OneSided P m l p ρ = asked (universal P l) (value p m (put l ρ)) (value p m (put (negℤ l) ρ)) ≡ value p m (put l ρ)
-
--- a fact that outlives the literals above l, and makes l's question one-sided, shows that l may be put in at once
-module _ (P : List ℤ) (m : List (List ℤ)) (l : ℤ) (Fact : Assignment → Type 0)
-    (kept : (ρ : Assignment) (q y : ℤ) → Above P l ρ q y → Fact ρ → Fact (put y ρ))
-    (met : (ρ : Assignment) (p : List ℤ) → Ordered P p → Fact ρ → OneSided P m l p ρ) where
-  descend : (p : List ℤ) → Ordered P p → stands p l ≡ true → (ρ : Assignment) → assigned ρ l ≡ false → Fact ρ → value p m ρ ≡ value p m (put l ρ)
-  descend [] o i ρ a r = clash i (stands-none l)
-  descend (q ∷ p) (more f u e s o) i ρ a r = elim (stands-cons q p l i) [
-    | inl z ↦ value-at q p m ρ l z (sym (assigned-var ρ l q z) ∙ a) ∙ rw (← u, ← universal-var P l q z, value-own q p m ρ l z) (met ρ p o r)
-    | inr z ↦ elim (look (assigned ρ q)) [
-      | inl b ↦ value-set q p m ρ b ∙ descend p o (z .1) ρ a r ∙ sym (value-set q p m (put l ρ) (assigned-still l ρ q b))
-      | inr b ↦
-          let ul = unset-put q ρ l (apart (z .0)) a in
-          let e1 = descend p o (z .1) (put q ρ) (ul .0) (kept ρ q q (above (z .0) (z .1) b q refl) r) in
-          let e2 = descend p o (z .1) (put (negℤ q) ρ) (ul .1) (kept ρ q (negℤ q) (above (z .0) (z .1) b (negℤ q) (natAbs-neg q)) r) in
-          rw (value-ask q p m ρ b, value-ask q p m (put l ρ) (unset-put l ρ q (z .0) b .0), e1, e2, put-comm l q ρ, put-comm l (negℤ q) ρ)
-    ]
-  ]
-    where
-      apart : eqb (natAbs l) (natAbs q) ≡ false → eqb (natAbs q) (natAbs l) ≡ false
-      apart d = eqb-comm (natAbs q) (natAbs l) ∙ d
-
-      bound : (b : Bool) → universal P q ≡ b → existential P q ≡ not b → (existential P q ≡ true) ⊎ (universal P q ≡ true)
-      bound true h k = inr h
-      bound false h k = inl k
-
-      above : eqb (natAbs l) (natAbs q) ≡ false → stands p l ≡ true → assigned ρ q ≡ false → (y : ℤ) → natAbs y ≡ natAbs q → Above P l ρ q y
-      above d j b y h = let (w, k, z) = stands-e p l j in
-          record { bound = bound (negative q) u e; higher = rw (level-var P l w z) (s w k .0); apart = apart d; unset = b; own = h }
 
 -- ---- unit
 module _ (P : List ℤ) (C : List ℤ) (l : ℤ) where
   -- a literal above l leaves the clause a unit: it is not in the clause
   unit-put : (ρ : Assignment) (q y : ℤ) → Above P l ρ q y → UnitAt P C l ρ → UnitAt P C l (put y ρ)
   unit-put ρ q y v r = record {
-    untrue = untrue-put C y ρ (out (v .bound)) (r .untrue);
+    untrue = untrue-put C y ρ (out (stands-bound P q (v .bound))) (r .untrue);
     inside = r .inside;
     exists = r .exists;
     unset = assigned-other y ρ l (rw (v .own) (v .apart)) ∙ r .unset;
@@ -144,7 +106,7 @@ module _ (F : Formula) (ok : Proper F) (ρ : Assignment) where
   pub unit-law : (C : List ℤ) → In C (F .clauses) → (l : ℤ) → unitOn (F .prefix) ρ C l ≡ true → valueOf F ρ ≡ valueOf F (put l ρ)
   unit-law C i l h =
       let r = unit-e (F .prefix) ρ C l h in
-      descend (F .prefix) (F .clauses) l (UnitAt (F .prefix) C l) (unit-put (F .prefix) C l) met
+      descend (F .prefix) (F .clauses) l (λ x y. x) (UnitAt (F .prefix) C l) (unit-put (F .prefix) C l) (λ τ q v t x y z w. refl) met
       (F .prefix) (ordered ok) (existential-stands (F .prefix) l (r .exists)) ρ (r .unset) r
     where
       plain : bothSigns C ≡ false
@@ -161,7 +123,7 @@ module _ (F : Formula) (ok : Proper F) (ρ : Assignment) where
   spare : (l a : ℤ) → stands (F .prefix) l ≡ true → assigned ρ l ≡ false → absent (F .clauses) ρ a ≡ true
       → ((τ : Assignment) (p : List ℤ) → Absent (F .clauses) a τ → OneSided (F .prefix) (F .clauses) l p τ) → valueOf F ρ ≡ valueOf F (put l ρ)
   spare l a i u h met =
-      descend (F .prefix) (F .clauses) l (Absent (F .clauses) a) (λ τ q y v t. absent-put (F .clauses) a y τ t) (λ τ p o t. met τ p t)
+      descend (F .prefix) (F .clauses) l (λ x y. x) (Absent (F .clauses) a) (λ τ q y v t. absent-put (F .clauses) a y τ t) (λ τ q v t x y z w. refl) (λ τ p o t. met τ p t)
       (F .prefix) (ordered ok) i ρ u (absent-e (F .clauses) ρ a h)
 
   pub monotone-law : (l : ℤ) → monotoneWide (F .prefix) (F .clauses) ρ l ≡ true → valueOf F ρ ≡ valueOf F (put l ρ)

@@ -18,7 +18,7 @@ use Rattle.theory.specs.Record.{Entry, entry, Record, Assignment, trueIn
 use Rattle.theory.specs.Rules.{State, going, valid, unsat, MonotoneTest, Within, StepBy, backtrack-exists, fail, unit, monotone, decide-exists, decide-forall, backtrack-forall, succeed, PathBy, stop, take}
 use Rattle.theory.specs.Laws.Assignment.{put, after, true-append}
 use Rattle.theory.specs.Laws.Value.{valueOf}
-use Rattle.theory.specs.Laws.Choices.{decide-law}
+use Rattle.theory.specs.Laws.Decide.{decide-law}
 use Rattle.theory.specs.Laws.Conflict.{conflict-law, leaf-law}
 use Rattle.theory.specs.Laws.Forced.{unit-law, monotone-law}
 
