@@ -43,7 +43,7 @@ impl Words {
             4 => self.length_wrong(),
             5 => self.prefix().iter().any(|&word| self.no_literal(word)),
             6 => self.variable_twice(),
-            7 => self.prefix().last().is_some_and(|&word| word < 0),
+            7 => self.prefix().last().map_or(false, |&word| word < 0),
             8 => self.ends_wrong(),
             9 => self.literals().iter().any(|&word| self.no_literal(word)),
             10 => self.clauses().any(both_signs),
@@ -78,21 +78,20 @@ impl Words {
     /// Row 4: "The block's length is exactly 6+V+C+T."
     fn length_wrong(&self) -> bool {
         self.counts()
-            .is_some_and(|(v, c, t)| self.0.len() as i64 != 6 + v + c + t)
+            .map_or(false, |(v, c, t)| self.0.len() as i64 != 6 + v + c + t)
     }
 
     /// Prefix, clause ends or literals (0, 1 or 2): none of its words if they
     /// are not all there, or if a negative count leaves no place for them.
     fn part(&self, which: usize) -> &[i64] {
-        let Some((v, c, t)) = self.counts() else {
-            return &[];
-        };
-        let (start, count) = [(6, v), (6 + v, c), (6 + v + c, t)][which];
-        if v < 0 || c < 0 || t < 0 {
-            return &[];
+        match self.counts() {
+            Some((v, c, t)) if v >= 0 && c >= 0 && t >= 0 => {
+                let (start, count) = [(6, v), (6 + v, c), (6 + v + c, t)][which];
+                let range = start as usize..(start + count) as usize;
+                self.0.get(range).unwrap_or(&[])
+            }
+            _ => &[],
         }
-        let range = start as usize..(start + count) as usize;
-        self.0.get(range).unwrap_or(&[])
     }
 
     /// "The prefix has V words, outermost first".
@@ -111,7 +110,7 @@ impl Words {
 
     /// Rows 5 and 9: "0 or of size over V".
     fn no_literal(&self, word: i64) -> bool {
-        word == 0 || self.counts().is_some_and(|(v, _, _)| word.abs() > v)
+        word == 0 || self.counts().map_or(false, |(v, _, _)| word.abs() > v)
     }
 
     /// Row 6: "a variable twice in the prefix". The word 0 names no variable.
@@ -124,14 +123,13 @@ impl Words {
     /// Row 8: "a clause end negative, falling or over T; the last not T; C = 0
     /// with T > 0".
     fn ends_wrong(&self) -> bool {
-        let Some((_, c, t)) = self.counts() else {
-            return false;
-        };
         let ends = self.ends();
-        ends.iter().any(|&end| end < 0 || end > t)
-            || ends.windows(2).any(|pair| pair[1] < pair[0])
-            || ends.last().is_some_and(|&last| last != t)
-            || (c == 0 && t > 0)
+        self.counts().map_or(false, |(_, c, t)| {
+            ends.iter().any(|&end| end < 0 || end > t)
+                || ends.windows(2).any(|pair| pair[1] < pair[0])
+                || ends.last().map_or(false, |&last| last != t)
+                || (c == 0 && t > 0)
+        })
     }
 
     /// The clauses whose words are all there, in order.
@@ -233,7 +231,7 @@ impl Formula {
 
     /// Whether there is a first group and it is universal.
     pub fn first_group_universal(&self) -> bool {
-        self.prefix.first().is_some_and(|&word| word < 0)
+        self.prefix.first().map_or(false, |&word| word < 0)
     }
 }
 

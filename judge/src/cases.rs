@@ -1,8 +1,9 @@
-//! Document 01's formulas worked by hand, as blocks, and the cases of the check:
+//! Document 01's formulas worked by hand, as blocks; the cases of the check:
 //! for each row blocks that only this row refuses, and for each two neighbouring
-//! rows a block that breaks both.
+//! rows a block that breaks both; and talks, which ask for more than a check.
 
 use crate::block::lay_out;
+use crate::console::line;
 
 /// A block with the number that its check must give.
 pub struct Case {
@@ -214,4 +215,85 @@ pub fn neighbours() -> Vec<(u8, Vec<i32>)> {
         (8, vec![1, 0, 1, 6, 7, 7, 1, 0]),
         (9, lay_out(&[1], &[vec![0, 1, -1]])),
     ]
+}
+
+/// Lines with the answers that they must get, on one desk.
+pub struct Talk {
+    pub name: &'static str,
+    pub lines: Vec<(String, String)>,
+}
+
+impl Talk {
+    /// A desk with this block, the first session, a record of V places and this
+    /// much output, none of them 0 before.
+    fn at(name: &'static str, block: &[i32], room: usize) -> Talk {
+        let v = block[0] as usize;
+        let mut talk = Talk {
+            name,
+            lines: Vec::new(),
+        };
+        talk.say(&line("block", block), "block 0");
+        talk.say("session 0 0 0", "session");
+        talk.say(&line("lits", &vec![9; v]), &format!("lits {v}"));
+        talk.say(&line("kinds", &vec![9; v]), &format!("kinds {v}"));
+        talk.say(&line("out", &vec![7; room]), &format!("out {room}"));
+        talk
+    }
+
+    fn say(&mut self, line: &str, answer: &str) {
+        self.lines.push((line.to_string(), answer.to_string()));
+    }
+}
+
+pub fn talks() -> Vec<Talk> {
+    vec![least_word(), largest_first_group(), paused_after_entries()]
+}
+
+/// "word -2147483648 as a clause literal gives 9, as a proposal at Decide 17, as
+/// a preference it is skipped."
+fn least_word() -> Talk {
+    let mut talk = Talk::at("L: the least word in all three places", &A, 0);
+    talk.say("open 0", "open 0 0 0 0");
+    talk.say("step 0 -2147483648", "step 17");
+    talk.say("show", "show 0 0 0 lits 0 0 0 0 kinds 0 0 0 0 out");
+    talk.say("run 0 1 -2147483648 -1", "run 0 1 1 0 1");
+    talk.say("show", "show 1 1 0 lits -1 0 0 0 kinds 1 0 0 0 out");
+    talk.say(&line("block", &l()), "block 9");
+    talk
+}
+
+/// "k at most 16": G's clauses with sixteen variables in the first group, listed
+/// near its end. The openings win whose last two bits are not both 0.
+fn largest_first_group() -> Talk {
+    let mut prefix: Vec<i32> = (1..=18).collect();
+    prefix[16] = -17;
+    let block = lay_out(&prefix, &[vec![15, 16], vec![-17, 18], vec![17, -18]]);
+    let mut talk = Talk::at("a first group of 16 variables", &block, 13);
+    talk.say(
+        "page 65528 100",
+        "page 0 65536 6 0 65529 14 65530 14 65531 15 65533 15 65534 15 65535 16",
+    );
+    talk.say("out 7 7 7 7 7", "out 5");
+    talk.say("page 65528 100", "page 0 65531 2 0 65529 14 65530 14");
+    talk.say("page 65536 0", "page 0 65536 0 0");
+    talk.say("page 65537 0", "page 20");
+    talk
+}
+
+/// G with two more variables: where 1 is true, the first choice for 5 leads to
+/// conflict, so the openings 2 and 3 ask for 13 steps, and opening 1 for 9.
+fn paused_after_entries() -> Talk {
+    let g = [vec![1, 2], vec![-3, 4], vec![3, -4]];
+    let more = [vec![1, 2, 5], vec![-1, -5, 6], vec![-1, -5, -6]];
+    let block = lay_out(&[1, 2, -3, 4, 5, 6], &[g, more].concat());
+    let mut talk = Talk::at("a page that pauses after an entry", &block, 6);
+    talk.say("page 0 8", "page 0 1 0 1");
+    talk.say("page 0 12", "page 0 2 1 1 1 1");
+    talk.say(
+        "show",
+        "show 0 0 0 lits 0 0 0 0 0 0 kinds 0 0 0 0 0 0 out 1 1 7 7 7 7",
+    );
+    talk.say("page 2 12", "page 0 2 0 1");
+    talk.say("page 2 13", "page 0 4 2 0 2 1 3 2");
+    talk
 }

@@ -108,9 +108,7 @@ impl Desk {
     }
 
     fn set_session(&mut self, words: &[&[u8]]) -> Option<String> {
-        let [length, revision, state] = *words else {
-            return None;
-        };
+        let [length, revision, state] = <[_; 3]>::try_from(words).ok()?;
         self.session = Session {
             length: number(length)?,
             revision: number(revision)?,
@@ -120,9 +118,7 @@ impl Desk {
     }
 
     fn open(&mut self, words: &[&[u8]]) -> Option<String> {
-        let [revision] = *words else {
-            return None;
-        };
+        let [revision] = <[_; 1]>::try_from(words).ok()?;
         let revision = number(revision)?;
         let (block, lent, _) = self.lend();
         Some(match session::open(block, lent, revision) {
@@ -132,9 +128,7 @@ impl Desk {
     }
 
     fn step(&mut self, words: &[&[u8]]) -> Option<String> {
-        let [seen, proposal] = *words else {
-            return None;
-        };
+        let [seen, proposal] = <[_; 2]>::try_from(words).ok()?;
         let (seen, proposal) = (number(seen)?, number(proposal)?);
         let session = self.session;
         let (block, lent, _) = self.lend();
@@ -148,10 +142,9 @@ impl Desk {
     }
 
     fn run(&mut self, words: &[&[u8]]) -> Option<String> {
-        let [seen, budget, preferred @ ..] = words else {
-            return None;
-        };
-        let (seen, budget, preferred) = (number(seen)?, number(budget)?, numbers(preferred)?);
+        let (seen, words) = words.split_first()?;
+        let (budget, words) = words.split_first()?;
+        let (seen, budget, preferred) = (number(seen)?, number(budget)?, numbers(words)?);
         let session = self.session;
         let (block, lent, _) = self.lend();
         Some(match session.run(block, lent, seen, budget, &preferred) {
@@ -164,10 +157,9 @@ impl Desk {
     }
 
     fn page(&mut self, words: &[&[u8]]) -> Option<String> {
-        let [start, budget, preferred @ ..] = words else {
-            return None;
-        };
-        let preferred: Vec<i32> = numbers(preferred)?;
+        let (start, words) = words.split_first()?;
+        let (budget, words) = words.split_first()?;
+        let preferred: Vec<i32> = numbers(words)?;
         let ask = Ask {
             start: number(start)?,
             budget: number(budget)?,

@@ -203,7 +203,7 @@ impl Play {
     fn stuck(&self) -> bool {
         let session = self.desk.session;
         let formula = self.formula.as_ref();
-        let accepted = formula.is_some_and(|formula| self.record(formula).is_ok());
+        let accepted = formula.map_or(false, |formula| self.record(formula).is_ok());
         !accepted || session.state != State::Open || session.revision == u64::MAX
     }
 
@@ -223,8 +223,9 @@ impl Play {
 
     /// A step with a literal that is open, where there is one.
     fn step_open(&mut self) {
-        let Some(formula) = self.formula.clone() else {
-            return self.step_with(0);
+        let formula = match self.formula.clone() {
+            Some(formula) => formula,
+            None => return self.step_with(0),
         };
         let record = self.record(&formula).unwrap_or_default();
         let literals = formula.order().flat_map(|variable| [variable, -variable]);
@@ -251,7 +252,7 @@ impl Play {
     }
 
     fn decide_due(&self) -> bool {
-        self.formula.as_ref().is_some_and(|formula| {
+        self.formula.as_ref().map_or(false, |formula| {
             let record = self.record(formula).unwrap_or_default();
             rules::due(formula, &record) == rules::Rule::Decide
         })
@@ -372,8 +373,9 @@ impl Play {
     }
 
     fn made_record(&mut self) {
-        let Some(formula) = self.formula.clone() else {
-            return self.calls_of_each_kind();
+        let formula = match self.formula.clone() {
+            Some(formula) => formula,
+            None => return self.calls_of_each_kind(),
         };
         let record = shapes::record(&mut self.dice, &formula);
         self.say_record(&record, formula.variables());
@@ -382,8 +384,9 @@ impl Play {
 
     /// A record with one thing wrong, a call or two on it, and a new start.
     fn damaged_record(&mut self) {
-        let Some(formula) = self.formula.clone() else {
-            return self.calls_of_each_kind();
+        let formula = match self.formula.clone() {
+            Some(formula) => formula,
+            None => return self.calls_of_each_kind(),
         };
         let v = formula.variables();
         if v > 0 && self.dice.chance(1, 3) {

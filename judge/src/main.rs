@@ -20,6 +20,7 @@ judge console                      answers console lines from standard input
 judge desks SEED LINES             writes generated console lines
 judge qdimacs SEED COUNT FOLDER    writes generated formulas: N.qdimacs for each, and console lines that run them all
 judge tally                        counts what console lines from standard input try
+judge talks                        writes the cases that ask for more than a check as console lines
 ";
 
 fn main() -> ExitCode {
@@ -30,6 +31,7 @@ fn main() -> ExitCode {
         ["cases"] => write_cases(&mut io::stdout().lock()),
         ["console"] => serve(&mut io::stdin().lock(), &mut io::stdout().lock()),
         ["tally"] => count(&mut io::stdin().lock(), &mut io::stdout().lock()),
+        ["talks"] => write_talks(&mut io::stdout().lock()),
         ["desks", seed, lines] => match (seed.parse(), lines.parse()) {
             (Ok(seed), Ok(lines)) => write_desks(seed, lines),
             _ => return usage(),
@@ -72,6 +74,16 @@ fn write_cases(to: &mut impl Write) -> io::Result<()> {
     for case in cases::check_cases() {
         writeln!(to, "# {}", case.name)?;
         writeln!(to, "{}", judge::console::line("block", &case.block))?;
+    }
+    Ok(())
+}
+
+fn write_talks(to: &mut impl Write) -> io::Result<()> {
+    for talk in cases::talks() {
+        writeln!(to, "# {}", talk.name)?;
+        for (line, _) in talk.lines {
+            writeln!(to, "{line}")?;
+        }
     }
     Ok(())
 }

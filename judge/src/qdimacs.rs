@@ -39,9 +39,13 @@ impl Asked {
     /// The problem line, a line for each group, a line for each clause.
     pub fn text(&self) -> String {
         let mut text = format!("p cnf {} {}\n", self.prefix.len(), self.clauses.len());
-        for group in self.prefix.chunk_by(|a, b| (*a > 0) == (*b > 0)) {
-            text.push(if group[0] > 0 { 'e' } else { 'a' });
+        let mut rest = &self.prefix[..];
+        while let Some(first) = rest.first() {
+            let same = |word: &&i32| (**word > 0) == (*first > 0);
+            let (group, others) = rest.split_at(rest.iter().take_while(same).count());
+            text.push(if *first > 0 { 'e' } else { 'a' });
             end_line(&mut text, group.iter().map(|word| word.abs()));
+            rest = others;
         }
         for clause in &self.clauses {
             let (first, rest) = clause.split_first().expect("no clause is empty");

@@ -25,7 +25,7 @@ pub fn prefix(dice: &mut Dice, shape: Shape, k: Option<usize>) -> Vec<i32> {
     dice.shuffle(&mut words);
     let mut existential = k.is_some() || dice.chance(1, 2);
     for place in 0..words.len() {
-        let fixed = k.is_some_and(|k| place < k);
+        let fixed = k.map_or(false, |k| place < k);
         let ends_group = k == Some(place) && place > 0;
         if ends_group || (!fixed && dice.chance(shape.changes, 100)) {
             existential = !existential;

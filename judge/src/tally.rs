@@ -28,9 +28,12 @@ impl Tally {
     /// Counts a line, given without its line feed.
     pub fn note(&mut self, line: &[u8]) {
         self.lines += 1;
-        let Some(answer) = self.desk.answer(line) else {
-            return;
-        };
+        if let Some(answer) = self.desk.answer(line) {
+            self.note_answer(&answer);
+        }
+    }
+
+    fn note_answer(&mut self, answer: &str) {
         let mut words = answer.split(' ');
         let command = words.next().unwrap_or("").to_string();
         let number = words.next().and_then(|word| word.parse().ok());

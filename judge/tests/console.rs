@@ -77,6 +77,17 @@ fn listing_as_in_g() {
     assert_eq!(asked(&cases::G, &lines)[3], "page 0 3 2 0 1 1 2 1");
 }
 
+#[test]
+fn every_talk_gets_its_answers() {
+    for talk in cases::talks() {
+        let mut desk = Desk::default();
+        for (line, answer) in &talk.lines {
+            let got = desk.answer(line.as_bytes());
+            assert_eq!(got.as_ref(), Some(answer), "{}: {line}", talk.name);
+        }
+    }
+}
+
 const WORDS_AND_NUMBERS: Talk = &[
     ("", "-"),
     ("   ", "-"),

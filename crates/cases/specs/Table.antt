@@ -3,8 +3,8 @@ use mathlib.Core.Bool.{Bool, true, false}
 use mathlib.Core.List.{List, [], _∷_}
 use Prim.Native.Nat.{ℕ, zero, suc, _+_}
 use lib.IntN.{ℤ, pos, negℤ}
-use Rattle.rules.specs.declared.State.{State}
-use Rattle.rules.specs.declared.State.the-variants.{Open, Valid, Unsat}
+use Rattle.rules.specs.declared.rule.State.{State}
+use Rattle.rules.specs.declared.rule.State.the-variants.{Open, Valid, Unsat}
 
 -- a step at a revision with a proposal; a page from a start, with a budget, on an output
 pub data Asked : Type 0 where

@@ -1,34 +1,37 @@
 -- What the definitions say of the same blocks and calls, and the one claim: they say what the table says. By computing.
 use Prim.Native.Nat.{ℕ, _-_}
 use mathlib.Core.Path.{_≡_, refl}
-use mathlib.Core.List.{List, [], _∷_, map}
+use mathlib.Core.List.{List, [], _∷_, map, zipWith}
 use lib.Count.{ones}
 use lib.IntN.{ℤ, pos}
 use lib.ListN.{getD, replicate}
 use Rattle.words.specs.Lists.{all, any}
+use Rattle.words.specs.Outcomes.{Outcome}
 use Rattle.words.specs.Words.{eqZ, mem}
 use Rattle.formula.specs.Limits.{limits}
 use Rattle.formula.specs.Formula.{formulaOf, variablesOf, clausesFrom, existential, universal, change, levelOf, level, run, firstGroup}
 use Rattle.formula.specs.Block.{refusal, twice, badEnds, bothSigns}
 use Rattle.theory.specs.Record.{literals, assigned}
 use Rattle.theory.specs.Tests.{unassignedE, unassignedU, inConflict, unitOn, occurs, oneSign, monotone as isMonotone, isOpen}
-use Rattle.rules.specs.declared.State.{State}
-use Rattle.rules.specs.declared.State.the-variants.{Open}
-use Rattle.rules.specs.declared.Rule.{Rule}
-use Rattle.rules.specs.declared.Rule.the-variants.{BacktrackExists, Fail, Unit, Monotone, Decide, BacktrackForall, Succeed}
-use Rattle.rules.specs.Due.{due, lowest, last, candidate, lowestUnit, firstMonotone, firstUnassigned}
+use Rattle.rules.specs.declared.rule.State.{State}
+use Rattle.rules.specs.declared.rule.State.the-variants.{Open}
+use Rattle.rules.specs.declared.rule.Rule.{Rule}
+use Rattle.rules.specs.declared.rule.Rule.the-variants.{BacktrackExists, Fail, Unit, Monotone, Decide, BacktrackForall, Succeed}
+use Rattle.rules.specs.Due.{literal, due, lowest, last, candidate, lowestUnit, firstOf, firstMonotone, firstUnassigned}
 use Rattle.rules.specs.Preferred.{firstOpen}
-use Rattle.rules.specs.Apply.{recordOf, wiped, apply}
+use Rattle.rules.specs.Trail.{recordOf, wiped, Trail, entries}
+use Rattle.rules.specs.Apply.{apply}
 use Rattle.rules.specs.Check.{badEntries, badRecord}
 use Rattle.session.specs.declared.Session.{Session}
 use Rattle.session.specs.declared.Answer.{Answer}
 use Rattle.session.specs.declared.Answer.the-variants.{To, Refused}
 use Rattle.session.specs.Refusals.{openRefusal, stepRefusal}
-use Rattle.session.specs.Outcome.{Outcome, openOutcome, stepOutcome}
+use Rattle.session.specs.Memory.{Memory, memory}
+use Rattle.session.specs.Outcome.{openOutcome, stepOutcome}
 use Rattle.session.specs.Run.{advance, runFrom}
 use Rattle.listing.specs.declared.Paged as paged
-use Rattle.listing.specs.Opening.{valuesOf, startOf}
-use Rattle.listing.specs.Page.{PageOutcome, pageRefusal, pageFrom, pageOf}
+use Rattle.listing.specs.Opening.{valuesOf, openingStart}
+use Rattle.listing.specs.Page.{PageMemory, pageRefusal, pageFrom, pageOf}
 use Rattle.cases.specs.Table as said
 use Rattle.cases.specs.Table.{Asked, Said, Case, table, all-0, blockA, blockG, caseA, caseB, caseC, caseD, caseE, caseF, caseG, caseH, caseI, caseJ, caseK}
 
@@ -53,34 +56,34 @@ seen s t = record { heard = s; state = t }
 abbrev pub next : Said → Seen → Seen
 next x u = seen (x ∷ u .heard) (u .state)
 
-abbrev pub stepped : Session → Rule → Outcome Answer → Answer → (Session → List ℤ → List ℕ → Seen) → Seen
-stepped s r o (To t) rest = next (named r (getD (o .lits) (t .length - 1) (pos 0))) (rest t (o .lits) (o .kinds))
-stepped s r o (Refused n) rest = next (said.refused n) (rest s (o .lits) (o .kinds))
+abbrev pub stepped : Session → Rule → Outcome Memory Answer → Answer → (Session → Trail → Seen) → Seen
+stepped s r o (To t) rest = next (named r (getD (o .memory .trail .lits) (t .length - 1) (pos 0))) (rest t (o .memory .trail))
+stepped s r o (Refused n) rest = next (said.refused n) (rest s (o .memory .trail))
 
-abbrev pub paged-as : PageOutcome → paged.Paged → Said
-paged-as o (paged.the-variants.Page n e p) = said.listed n e p (o .output)
-paged-as o (paged.the-variants.Refused n) = said.refused n
+abbrev pub paged-as : PageMemory → paged.Paged → Said
+paged-as m (paged.the-variants.Page n e p) = said.listed n e p (m .output)
+paged-as m (paged.the-variants.Refused n) = said.refused n
 
-pub calling : List ℤ → List Asked → Session → List ℤ → List ℕ → Seen
-calling b [] s ls ks = seen [] (s .state)
-calling b (said.step rev l ∷ rest) s ls ks =
-    let o = stepOutcome s b ls ks (record { 0 = rev }) (record { 0 = l }) in
-    stepped s (due (formulaOf b) (recordOf ls ks (s .length))) o (o .answer) (calling b rest)
-calling b (said.page start budget out ∷ rest) s ls ks =
-    let o = pageOf b ls ks start [] budget out in
-    next (paged-as o (o .answer)) (calling b rest s (o .lits) (o .kinds))
+pub calling : List ℤ → List Asked → Session → Trail → Seen
+calling b [] s t = seen [] (s .state)
+calling b (said.step rev l ∷ rest) s t =
+    let o = stepOutcome s b (record { trail = t }) (record { 0 = rev }) (literal l) in
+    stepped s (due (formulaOf b) (recordOf t (s .length))) o (o .answer) (calling b rest)
+calling b (said.page start budget out ∷ rest) s t =
+    let o = pageOf b (record { work = t; output = out }) start [] budget in
+    next (paged-as (o .memory) (o .answer)) (calling b rest s (o .memory .work))
 
 -- from the opening, on buffers of V places that hold something
-abbrev pub opened : List ℤ → List Asked → Outcome Answer → Answer → Seen
-opened b calls o (To s) = calling b calls s (o .lits) (o .kinds)
+abbrev pub opened : List ℤ → List Asked → Outcome Memory Answer → Answer → Seen
+opened b calls o (To s) = calling b calls s (o .memory .trail)
 opened b calls o (Refused n) = seen (said.refused n ∷ []) Open
 
 pub worked : Case → Seen
 worked c =
     let v = variablesOf (c .block) in
-    let o = openOutcome (c .block) (replicate v (pos 7)) (replicate v 7) (record { 0 = 0 }) in
+    let o = openOutcome (c .block) (memory (replicate v (pos 7)) (replicate v 7)) (record { 0 = 0 }) in
     opened (c .block) (c .calls) o (o .answer)
 
 pub worked-by-hand : map worked table ≡ map (λ (c : Case). seen (c .said) (c .state)) table
-unfolding table caseA caseB caseC caseD caseE caseF caseG caseH caseI caseJ caseK blockA blockG all-0 worked calling stepOutcome openOutcome stepRefusal openRefusal pageOf pageRefusal pageFrom valuesOf startOf advance runFrom refusal limits twice badEnds bothSigns all any eqZ mem formulaOf clausesFrom existential universal change levelOf level run firstGroup literals assigned unassignedE unassignedU inConflict unitOn occurs oneSign isMonotone isOpen due lowest last candidate lowestUnit firstMonotone firstUnassigned firstOpen recordOf wiped apply badEntries badRecord ones
+unfolding table caseA caseB caseC caseD caseE caseF caseG caseH caseI caseJ caseK blockA blockG all-0 worked calling stepOutcome openOutcome stepRefusal openRefusal pageOf pageRefusal pageFrom valuesOf openingStart advance runFrom refusal limits twice badEnds bothSigns all any eqZ mem formulaOf clausesFrom existential universal change levelOf level run firstGroup literals assigned unassignedE unassignedU inConflict unitOn occurs oneSign isMonotone isOpen due lowest last candidate lowestUnit firstOf firstMonotone firstUnassigned firstOpen entries zipWith recordOf wiped apply badEntries badRecord ones
 worked-by-hand = refl

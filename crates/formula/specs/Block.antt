@@ -1,4 +1,4 @@
--- When a block is turned away: the table's rows 1 to 10, "checked in this order, each check over the whole input".
+-- When a block is turned away: the table's rows 1 to 10, in its order [table.order].
 use Prim.Native.Nat.{ℕ, _+_}
 use mathlib.Core.Bool.{Bool, false, not, _&&_, _||_}
 use mathlib.Core.List.{List, [], _∷_}
@@ -11,7 +11,7 @@ use Rattle.words.specs.Words.{negative, eqZ, mem}
 use Rattle.formula.specs.Limits.{Limits}
 use Rattle.formula.specs.Formula.{word, variablesOf, clauseCountOf, literalCountOf, prefixOf, endsOf, literalsOf, clausesFrom}
 
--- 2: "negative or over its limit"
+-- [row.2] a count below 0 or above its limit
 abbrev pub badCount : ℕ → ℤ → Bool
 badCount limit w = negative w || ltb limit (natAbs w)
 
@@ -19,7 +19,7 @@ abbrev pub badCounts : Limits → List ℤ → Bool
 badCounts L b =
     badCount (L .variables) (word b 0) || badCount (L .clauses) (word b 1) || badCount (L .literals) (word b 2)
 
--- 3: "an offset is not as above", 6, 6+V, 6+V+C
+-- [row.3] offsets other than 6, 6+V, 6+V+C
 abbrev pub isNot : ℕ → ℤ → Bool
 isNot n w = not (eqZ w (pos n))
 
@@ -27,15 +27,15 @@ abbrev pub badOffsets : List ℤ → Bool
 badOffsets b =
     isNot 6 (word b 3) || isNot (6 + variablesOf b) (word b 4) || isNot (6 + variablesOf b + clauseCountOf b) (word b 5)
 
--- 4: "The block's length is exactly 6+V+C+T"
+-- [row.4] [block.length] a length other than 6+V+C+T
 abbrev pub badLength : List ℤ → Bool
 badLength b = not (eqb (length b) (6 + variablesOf b + clauseCountOf b + literalCountOf b))
 
--- 5, 9: "0 or of size over V": the word names none of n variables
+-- [row.5] [row.9] the word names none of n variables
 abbrev pub noVariable : ℕ → ℤ → Bool
 noVariable n w = eqb (natAbs w) 0 || ltb n (natAbs w)
 
--- 6: "a variable twice"
+-- [row.6] two words of one size
 abbrev pub names : ℕ → ℤ → Bool
 names v w = eqb v (natAbs w)
 
@@ -43,21 +43,21 @@ unfoldable pub twice : List ℤ → Bool
 twice [] = false
 twice (w ∷ ws) = any (names (natAbs w)) ws || twice ws
 
--- 7: "V > 0 and the last prefix word negative"
+-- [row.7] there are variables, and the last prefix word is below 0
 abbrev pub badLast : List ℤ → Bool
 badLast b = ltb 0 (variablesOf b) && negative (word b (5 + variablesOf b))
 
--- 8: "a clause end negative, falling or over T; the last not T; C = 0 with T > 0", after an end at `from`
+-- [row.8] an end below 0, below the one before it, which is at `from`, or above the total; or the last is not the total
 unfoldable pub badEnds : ℕ → ℕ → List ℤ → Bool
 badEnds total from [] = not (eqb from total)
 badEnds total from (e ∷ es) = negative e || ltb (natAbs e) from || ltb total (natAbs e) || badEnds total (natAbs e) es
 
--- 10: "a clause with both signs of a variable"
+-- [row.10] a literal and its opposite
 unfoldable pub bothSigns : List ℤ → Bool
 bothSigns [] = false
 bothSigns (l ∷ ls) = mem (negℤ l) ls || bothSigns ls
 
--- the ten rows
+-- [calls.check] the ten rows; the first is a block too short for its header [row.1]
 abbrev pub rows : Limits → List ℤ → List Row
 rows L b =
     row 1 (ltb (length b) 6)

@@ -7,12 +7,12 @@ use lib.IntN.{ℤ, pos, negℤ, natAbs}
 use lib.ListN.{getD, take, drop}
 use Rattle.words.specs.Words.{negative, mem}
 
--- the prefix, "outermost first", and the clauses
+-- the prefix, from the outermost variable to the innermost, and the clauses, of which only the literals matter [clause.set]
 pub record Formula : Type 0 where
   pub prefix : List ℤ
   pub clauses : List (List ℤ)
 
--- ---- the block's words. "0, 1, 2: V variables, C clauses, T literal words"
+-- ---- the block's words [block.header]
 abbrev pub word : List ℤ → ℕ → ℤ
 word b i = getD b i (pos 0)
 
@@ -25,7 +25,7 @@ clauseCountOf b = natAbs (word b 1)
 abbrev pub literalCountOf : List ℤ → ℕ
 literalCountOf b = natAbs (word b 2)
 
--- "offsets of prefix, clause ends, literals: 6, 6+V, 6+V+C"
+-- [block.offsets] [prefix] the three parts
 abbrev pub prefixOf : List ℤ → List ℤ
 prefixOf b = take (variablesOf b) (drop 6 b)
 
@@ -35,7 +35,7 @@ endsOf b = take (clauseCountOf b) (drop (6 + variablesOf b) b)
 abbrev pub literalsOf : List ℤ → List ℤ
 literalsOf b = take (literalCountOf b) (drop (6 + variablesOf b + clauseCountOf b) b)
 
--- "Clause ends are running totals of literal words": the clauses of the literal words ls after the one that ends at `from`
+-- [ends] the clauses of the literal words ls after the one that ends at `from`
 unfoldable pub clausesFrom : List ℤ → ℕ → List ℤ → List (List ℤ)
 clausesFrom ls from [] = []
 clausesFrom ls from (e ∷ es) = take (natAbs e - from) (drop from ls) ∷ clausesFrom ls (natAbs e) es
@@ -43,7 +43,7 @@ clausesFrom ls from (e ∷ es) = take (natAbs e - from) (drop from ls) ∷ claus
 unfoldable pub formulaOf : List ℤ → Formula
 formulaOf b = record { prefix = prefixOf b; clauses = clausesFrom (literalsOf b) 0 (endsOf b) }
 
--- ---- "+v binds variable v existentially, -v universally": the variable of the literal l is so bound by the prefix
+-- ---- [prefix] the variable of the literal l is so bound by the prefix
 unfoldable pub existential : List ℤ → ℤ → Bool
 existential p l = mem (pos (natAbs l)) p
 
@@ -55,7 +55,7 @@ unfoldable pub change : ℤ → List ℤ → ℕ
 change q [] = 0
 change q (r ∷ p) = cond (Bool·beq (negative q) (negative r)) 0 1
 
--- "a variable's level is the number of changes of quantifier before it"
+-- [level] the changes of quantifier on the way to a variable
 unfoldable pub levelOf : List ℤ → ℕ → ℕ
 levelOf [] v = 0
 levelOf (q ∷ p) v = cond (eqb (natAbs q) v) 0 (change q p + levelOf p v)
@@ -63,12 +63,12 @@ levelOf (q ∷ p) v = cond (eqb (natAbs q) v) 0 (change q p + levelOf p v)
 unfoldable pub level : List ℤ → ℤ → ℕ
 level p l = levelOf p (natAbs l)
 
--- "A group is a longest run of one quantifier": how many words at the list's start have the given sign
+-- [group] how many words at the list's start have the given sign
 unfoldable pub run : Bool → List ℤ → ℕ
 run s [] = 0
 run s (q ∷ p) = cond (Bool·beq s (negative q)) (suc (run s p)) 0
 
--- "k being the size of the first group (0 if V is 0)"
+-- [group.first] the size of the first group
 unfoldable pub firstGroup : List ℤ → ℕ
 firstGroup [] = 0
 firstGroup (q ∷ p) = run (negative q) (q ∷ p)

@@ -8,6 +8,8 @@ pub mod Truth
 pub mod Block
 pub mod Check
 pub mod Rows
+-- what each function promises, and that it leaves one answer
+pub mod Promises
 -- what the theory of the rules asks of a formula
 pub mod Proper
 -- what functions say to each other

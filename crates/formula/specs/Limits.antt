@@ -1,12 +1,12 @@
--- "Limits: V 256, C 1,024, T 4,096." The definitions of the rows take them as a parameter, and the definitions above
--- them take `limits`; the numbers stand here, and as constants where the code has its tables.
+-- [limits] The definitions of the rows take them as a parameter, and the definitions above them take `limits`; the numbers stand here, and as
+-- constants where the code has its tables.
 use Prim.Native.Nat.{ℕ}
 
 pub record Limits : Type 0 where
   pub variables : ℕ
   pub clauses : ℕ
   pub literals : ℕ
-  -- of variables in a listing's first group
+  -- [row.19] of variables in a listing's first group
   pub group : ℕ
 
 -- the constants of the code are these

@@ -1,4 +1,4 @@
--- Which number a refused block is given: "The block check gives 1 to 10", each exactly when the table says.
+-- [demand.1.number] Which number a refused block is given: 1 to 10, each exactly when the table says.
 use mathlib.Core.Path.{refl}
 use mathlib.Core.List.{List, [], _∷_}
 use Prim.Native.Nat.{ℕ}

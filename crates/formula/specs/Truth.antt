@@ -1,5 +1,4 @@
--- "Truth (000, section 2): with no variables left, every clause holds a true literal. An existential outermost variable asks for one of
--- its two values, a universal one for both." σ holds the literals made true so far.
+-- [truth] From the outermost variable on, with both of its values. σ holds the literals made true so far.
 use mathlib.Core.Bool.{Bool, true, false, _&&_, _||_}
 use mathlib.Core.List.{List, [], _∷_}
 use lib.IntN.{ℤ, negℤ}

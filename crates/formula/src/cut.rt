@@ -2,7 +2,8 @@
 ghost use mathlib.Core.Path.{_≡_};
 ghost use Prim.Native.Nat.{_+_};
 ghost use lib.ListN.{drop};
-ghost use Rattle.formula.specs.Formula.{variablesOf, clauseCountOf, prefixOf, endsOf, literalsOf};
+ghost use Rattle.formula.specs.Formula.{variablesOf, clauseCountOf};
+ghost use Rattle.formula.specs.Promises.{PrefixPromise, EndsPromise, LiteralsPromise};
 
 // The header's words: three counts and three offsets.
 pub(crate) const HEADER: usize = 6;
@@ -21,19 +22,19 @@ fn after_ends(block: &[i32]) -> &[i32]
 }
 
 pub fn prefix(block: &[i32]) -> &[i32]
-    ensures { λ r. ⌜ now r ≡ prefixOf (now (block .entry)) ⌝ }
+    ensures { λ r. ⌜ PrefixPromise (now (block .entry)) (now r) ⌝ }
 {
     words::take(words::drop(block, HEADER), words::size_at(block, 0))
 }
 
 pub fn ends(block: &[i32]) -> &[i32]
-    ensures { λ r. ⌜ now r ≡ endsOf (now (block .entry)) ⌝ }
+    ensures { λ r. ⌜ EndsPromise (now (block .entry)) (now r) ⌝ }
 {
     words::take(after_prefix(block), words::size_at(block, 1))
 }
 
 pub fn literals(block: &[i32]) -> &[i32]
-    ensures { λ r. ⌜ now r ≡ literalsOf (now (block .entry)) ⌝ }
+    ensures { λ r. ⌜ LiteralsPromise (now (block .entry)) (now r) ⌝ }
 {
     words::take(after_ends(block), words::size_at(block, 2))
 }

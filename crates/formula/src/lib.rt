@@ -1,8 +1,5 @@
 // The formula block: a checker with refusals 1 to 10.
-ghost use mathlib.Core.Path.{_≡_};
-ghost use Rattle.formula.specs.Limits.{limits};
-ghost use Rattle.formula.specs.Block.{refusal};
-ghost use Rattle.formula.specs.Check.{checkedOf};
+ghost use Rattle.formula.specs.Promises.{CheckPromise};
 
 mod cut; // the block's three parts
 mod header; // the counts and the offsets
@@ -39,7 +36,7 @@ pub const MAX_GROUP: usize = 16;
 
 // Rows 1 to 4 are about the header; with a header as it should be, the parts lie within the block.
 pub fn check(block: &[i32]) -> Checked
-    ensures { λ r. ⌜ r ≡ checkedOf (refusal limits (now (block .entry))) ⌝ }
+    ensures { λ r. ⌜ CheckPromise (now (block .entry)) r ⌝ }
 {
     if block.len() < cut::HEADER {
         return Checked::Refused(1);

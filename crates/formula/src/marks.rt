@@ -5,17 +5,18 @@ ghost use mathlib.Core.Bool.{false};
 ghost use Prim.Native.Nat.{_+_};
 ghost use lib.ListN.{length};
 ghost use Rattle.words.specs.Lists.{any};
+ghost use Rattle.formula.specs.Promises.{VariableTwicePromise};
 ghost use Rattle.formula.specs.Limits.{limits};
 ghost use Rattle.formula.specs.Formula.{clausesFrom};
 ghost use Rattle.formula.specs.Block.{badEnds, bothSigns};
 ghost use Rattle.formula.specs.Inner.Named.{AllNamed};
-ghost use Rattle.formula.specs.Inner.Tables.{repeated, Fresh};
+ghost use Rattle.formula.specs.Inner.Tables.{Fresh};
 use crate::places::LITERAL_PLACES;
 use crate::places::place_at;
 
 // Whether some variable stands twice, or a word has no place in the table.
 pub fn variable_twice(ws: &[i32]) -> bool
-    ensures { λ r. ⌜ r ≡ repeated (limits .variables) (now (ws .entry)) ⌝ }
+    ensures { λ r. ⌜ VariableTwicePromise (now (ws .entry)) r ⌝ }
 {
     let mut seen = [false; crate::MAX_VARIABLES + 1];
     let mut i = ws.len();

@@ -3,16 +3,16 @@ ghost use mathlib.Core.Path.{_≡_};
 ghost use mathlib.Core.Bool.{false};
 ghost use Prim.Native.Nat.{_≤_};
 ghost use lib.ListN.{length};
-ghost use Rattle.words.specs.Lists.{any};
 ghost use Rattle.words.specs.Rows.{refusalOf};
+ghost use Rattle.formula.specs.Promises.{SomeStrangerPromise};
 ghost use Rattle.formula.specs.Limits.{limits};
-ghost use Rattle.formula.specs.Block.{noVariable, badEnds};
+ghost use Rattle.formula.specs.Block.{badEnds};
 ghost use Rattle.formula.specs.Check.{checkedOf};
 ghost use Rattle.formula.specs.Inner.Tables.{lastNegative, partRows};
 
 // Whether some word is 0 or of size over n.
 pub fn some_stranger(ws: &[i32], n: usize) -> bool
-    ensures { λ r. ⌜ r ≡ any (noVariable n) (now (ws .entry)) ⌝ }
+    ensures { λ r. ⌜ SomeStrangerPromise (now (ws .entry)) n r ⌝ }
 {
     let mut i = 0;
     while i < ws.len() {

@@ -1,21 +1,21 @@
 -- Which row turns a page away, one law for each way out of the guard: the rows passed so far do not hold, the next one does.
-use Prim.Native.Nat.{ℕ, _+_, _-_, _^_, _≤_, _<_}
-use mathlib.Core.Path.{_≡_, refl, sym, _∙_, ap}
+use Prim.Native.Nat.{ℕ, _-_, _^_, _≤_, _<_}
+use mathlib.Core.Path.{_≡_, refl, sym, _∙_}
 use mathlib.Core.Bool.{Bool, true, false, _&&_}
 use mathlib.Core.List.{List, [], _∷_}
 use native.Mathlib.Omega.{arith}
 use lib.Dec.{ltb}
 use lib.IntN.{ℤ}
-use lib.ListN.{length, take, drop}
+use lib.ListN.{length}
 use borrow.Author.Tests.{lt-ltb, le-ltb}
 use Rattle.words.specs.Rows.{Row, refusalOf}
 use Rattle.words.specs.Laws.Rows.{stops, goes-on}
 use Rattle.words.specs.Words.{negative}
-use Rattle.formula.specs.Formula.{word, variablesOf, formulaOf, firstGroup}
-use Rattle.rules.specs.Ready.{formula}
+use Rattle.formula.specs.Formula.{word, formulaOf, firstGroup, prefixOf}
+use Rattle.rules.specs.Inner.Ready.{formula}
 use Rattle.session.specs.Refusals.{openRows, openRefusal}
-use Rattle.formula.specs.Laws.Layout.{prefix-lent}
-use Rattle.listing.specs.Page.{ofPage, pageRefusal}
+use Rattle.listing.specs.Page.{workOf, ofPage, pageRefusal, PageMemory}
+use Rattle.formula.specs.Limits.{limits}
 
 -- ---- rows 18 to 21
 abbrev rowsOf : List ℤ → ℕ → List ℕ → List Row
@@ -31,26 +31,26 @@ module _ (p : List ℤ) (start : ℕ) (out : List ℕ) {u : Bool} (is : u ≡ ne
   openings-universal x = rw (first-word p, ← is, x)
 
   module _ (x : u ≡ false) {k : ℕ} (e : k ≡ firstGroup p) where
-    pub openings-wide : 16 < k → 19 ≡ refusalOf (rowsOf p start out)
-    openings-wide h = rw (first-word p, ← is, x, ← e, lt-ltb 16 k h)
+    pub openings-wide : limits .group < k → 19 ≡ refusalOf (rowsOf p start out)
+    openings-wide h = rw (first-word p, ← is, x, ← e, lt-ltb (limits .group) k h)
 
-    module _ (h : k ≤ 16) {m : ℕ} (t : m ≡ 2 ^ k) where
+    module _ (h : k ≤ limits .group) {m : ℕ} (t : m ≡ 2 ^ k) where
       pub openings-over : m < start → 20 ≡ refusalOf (rowsOf p start out)
-      openings-over l = rw (first-word p, ← is, x, ← e, le-ltb 16 k h, ← t, lt-ltb m start l)
+      openings-over l = rw (first-word p, ← is, x, ← e, le-ltb (limits .group) k h, ← t, lt-ltb m start l)
 
       module _ (l : start ≤ m) where
         pub openings-short : length out < 2 → 21 ≡ refusalOf (rowsOf p start out)
-        openings-short r = rw (first-word p, ← is, x, ← e, le-ltb 16 k h, ← t, le-ltb m start l, lt-ltb (length out) 2 r)
+        openings-short r = rw (first-word p, ← is, x, ← e, le-ltb (limits .group) k h, ← t, le-ltb m start l, lt-ltb (length out) 2 r)
 
         pub openings-pass : 2 ≤ length out → 0 ≡ refusalOf (rowsOf p start out)
-        openings-pass r = rw (first-word p, ← is, x, ← e, le-ltb 16 k h, ← t, le-ltb m start l, le-ltb (length out) 2 r)
+        openings-pass r = rw (first-word p, ← is, x, ← e, le-ltb (limits .group) k h, ← t, le-ltb m start l, le-ltb (length out) 2 r)
 
 -- ---- rows 1 to 11, and then these
-module _ (b ls : List ℤ) (ks : List ℕ) (start : ℕ) (out : List ℕ) {r : ℕ} (e : r ≡ openRefusal b ls ks) where
-  pub page-buffers : (r ≡ 0 → ⊥) → r ≡ pageRefusal b ls ks start out
+module _ (b : List ℤ) (m : PageMemory) (start : ℕ) {r : ℕ} (e : r ≡ openRefusal b (workOf m)) where
+  pub page-buffers : (r ≡ 0 → ⊥) → r ≡ pageRefusal b m start
   unfolding pageRefusal openRefusal
-  page-buffers f = stops (openRows b ls ks) (ofPage (formulaOf b) start out) e f
+  page-buffers f = stops (openRows b (workOf m)) (ofPage (formulaOf b) start (m .output)) e f
 
-  pub page-openings : (z : r ≡ 0) {v : ℕ} → v ≡ variablesOf b → {q : ℕ} → q ≡ refusalOf (rowsOf (take (6 + v - 6) (drop 6 b)) start out) → q ≡ pageRefusal b ls ks start out
+  pub page-openings : (z : r ≡ 0) {p : List ℤ} → p ≡ prefixOf b → {q : ℕ} → q ≡ refusalOf (rowsOf p start (m .output)) → q ≡ pageRefusal b m start
   unfolding pageRefusal openRefusal formulaOf
-  page-openings z is p = p ∙ rw (prefix-lent b (ap (λ n. 6 + n) is)) (sym (goes-on (openRows b ls ks) (ofPage (formulaOf b) start out) refl (sym e ∙ z)))
+  page-openings z is p = p ∙ rw is (sym (goes-on (openRows b (workOf m)) (ofPage (formulaOf b) start (m .output)) refl (sym e ∙ z)))

@@ -1,22 +1,22 @@
--- The listing of openings: what an opening is, and what a page answers and leaves, for every input.
+-- The listing of openings: what an opening is, and what a page answers and leaves, for every input. To be read in this order.
+
+-- an opening, its search, and when it wins; a page
 pub mod Opening
-pub mod Page
--- an opening: its values, its search, and when it wins
-pub mod Values
-pub mod Start
 pub mod Wins
-pub mod Searched
-pub mod Covers
--- a page: what it writes and when it stops, what it is refused with, what it leaves
-pub mod Turns
-pub mod Sheets
-pub mod Aside
-pub mod Loop
+pub mod Page
+-- what a page promises, and that it leaves one result
+pub mod Promises
+-- which number a refused page is given, and what it leaves
 pub mod Rows
 pub mod Refused
-pub mod Only
+-- an accepted page; any list of pages; all openings together
+pub mod Claims
 pub mod Accepted
--- any list of pages
 pub mod Pages
--- what the functions of a page say to each other
-pub mod Checked
+pub mod Covers
+-- a page's searches are runs, and what the work record held before doesn't matter
+pub mod AsRun
+pub mod AnyWork
+-- what functions say to each other; what is proved of all these
+pub mod Inner
+pub mod Laws

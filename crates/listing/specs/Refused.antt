@@ -1,53 +1,39 @@
--- A refused page "returns its number alone and leaves all memory .. as they were"; an accepted one is the sheet of its openings, on a wiped work
+-- [table.leaves] A refused page answers its number alone and leaves all memory; an accepted one is the sheet of its openings, on a wiped work
 -- record. By the two cases of the number, 0 and not 0.
-use Prim.Native.Nat.{ℕ, zero, suc, _-_}
+use Prim.Native.Nat.{ℕ, zero, suc}
 use mathlib.Core.Path.{_≡_, refl}
 use mathlib.Core.Bool.{Bool}
 use mathlib.Core.List.{List}
 use native.Mathlib.Omega.{arith}
 use lib.IntN.{ℤ}
-use Rattle.formula.specs.Formula.{Formula, formulaOf}
+use Rattle.words.specs.Outcomes.{Outcome, unless, Left, unless-left}
+use Rattle.formula.specs.Formula.{formulaOf}
+use Rattle.listing.specs.declared.Paged.{Paged}
 use Rattle.listing.specs.declared.Paged.the-variants.{Page, Refused}
-use Rattle.listing.specs.Page.{Sheet, openings, pageRefusal, pageFrom, pageOutcome, turned, unlessPage, pageOf}
+use Rattle.listing.specs.Page.{PageMemory, pageRefusal, paged, sheetOf, pageOf}
 
--- the number given, n, is the table's, and the buffers are as they were
-pub record PageLeft (table n : ℕ) (ls ls′ : List ℤ) (ks ks′ out out′ : List ℕ) : Type 0 where
-  pub number : n ≡ table
-  pub lits : ls′ ≡ ls
-  pub kinds : ks′ ≡ ks
-  pub output : out′ ≡ out
+refused-told : (m n : ℕ) → Refused m ≡ Refused n → m ≡ n
+refused-told m n e = cc
 
--- the two forms of an answer, taken apart
-unless-left : (m : ℕ) (F : Formula) (ls : List ℤ) (ks out : List ℕ) (s : Sheet) (n : ℕ) → let o = unlessPage m ls ks out (turned F ls ks s) in
-    o .answer ≡ Refused n → PageLeft m n ls (o .lits) ks (o .kinds) out (o .output)
-unless-left zero F ls ks out s n e = let z : _≡_ {A = ℕ} 0 1 = cc in absurd (omega arith)
-unless-left (suc m) F ls ks out s n e = record { number = cc; lits = refl; kinds = refl; output = refl }
+page-none : (n e : ℕ) (p : Bool) (k : ℕ) → Page n e p ≡ Refused k → ⊥
+page-none n e p k q = let z : _≡_ {A = ℕ} 0 1 = cc in omega arith
 
-unless-turned : (m : ℕ) (F : Formula) (ls : List ℤ) (ks out : List ℕ) (s : Sheet) (n e : ℕ) (p : Bool) → unlessPage m ls ks out (turned F ls ks s) .answer ≡ Page n e p → m ≡ 0
-unless-turned zero F ls ks out s n e p a = refl
-unless-turned (suc m) F ls ks out s n e p a = let z : _≡_ {A = ℕ} 0 1 = cc in absurd (omega arith)
+unless-page : (k : ℕ) (m : PageMemory) (o : Outcome PageMemory Paged) (n e : ℕ) (p : Bool) → unless Refused k m o .answer ≡ Page n e p → k ≡ 0
+unless-page zero m o n e p a = refl
+unless-page (suc k) m o n e p a = let z : _≡_ {A = ℕ} 0 1 = cc in absurd (omega arith)
 
-module _ (b ls : List ℤ) (ks : List ℕ) (start : ℕ) (preferred : List ℤ) (budget : ℕ) (out : List ℕ) where
-  pub page-refused-leaves : (n : ℕ) → let o = pageOf b ls ks start preferred budget out in
-      o .answer ≡ Refused n → PageLeft (pageRefusal b ls ks start out) n ls (o .lits) ks (o .kinds) out (o .output)
+module _ (b : List ℤ) (m : PageMemory) (start : ℕ) (preferred : List ℤ) (budget : ℕ) where
+  pub page-refused-leaves : (n : ℕ) → let o = pageOf b m start preferred budget in
+      o .answer ≡ Refused n → Left (pageRefusal b m start) n m (o .memory)
   unfolding pageOf
-  page-refused-leaves n = unless-left (pageRefusal b ls ks start out) (formulaOf b) ls ks out _ n
+  page-refused-leaves n = unless-left Refused refused-told (pageRefusal b m start) m _ n (page-none _ _ _ n)
 
-  -- a number other than 0 is answered
-  pub page-refused : (n : ℕ) → pageRefusal b ls ks start out ≡ suc n → pageOf b ls ks start preferred budget out ≡ pageOutcome (Refused (suc n)) ls ks out
-  unfolding pageOf
-  page-refused n e = rw e
-
-  -- ---- an accepted page
-  -- its sheet
-  abbrev pub sheetOf : Sheet
-  sheetOf = pageFrom (formulaOf b) preferred budget ls ks (openings (formulaOf b) - start) start 0 out
-
-  pub page-accepted : pageRefusal b ls ks start out ≡ 0 → pageOf b ls ks start preferred budget out ≡ turned (formulaOf b) ls ks sheetOf
+  -- a page that breaks no row
+  pub page-accepted : pageRefusal b m start ≡ 0 → pageOf b m start preferred budget ≡ paged (formulaOf b) (m .work) (sheetOf (formulaOf b) m start preferred budget)
   unfolding pageOf
   page-accepted e = rw e
 
   -- an answer with a page comes from one
-  pub answered-accepted : (n e : ℕ) (p : Bool) → pageOf b ls ks start preferred budget out .answer ≡ Page n e p → pageRefusal b ls ks start out ≡ 0
+  pub answered-accepted : (n e : ℕ) (p : Bool) → pageOf b m start preferred budget .answer ≡ Page n e p → pageRefusal b m start ≡ 0
   unfolding pageOf
-  answered-accepted n e p a = unless-turned (pageRefusal b ls ks start out) (formulaOf b) ls ks out sheetOf n e p a
+  answered-accepted = unless-page (pageRefusal b m start) m (paged (formulaOf b) (m .work) (sheetOf (formulaOf b) m start preferred budget))

@@ -1,4 +1,4 @@
--- Which number a page is refused with: "a page 1 to 11 and 18 to 21", each exactly when the table says; and what an accepted page has shown.
+-- [calls.page] Which number a page is refused with, each exactly when its row applies; and what an accepted page has shown.
 use Prim.Native.Nat.{ℕ, _^_, _≤_}
 use mathlib.Core.Path.{_≡_, refl, _∙_}
 use mathlib.Core.Bool.{false}
@@ -14,52 +14,58 @@ use Rattle.formula.specs.Formula.{formulaOf, prefixOf, firstGroup}
 use Rattle.formula.specs.Block.{refusal}
 use Rattle.session.specs.Refusals.{openRows, openRefusal}
 use Rattle.session.specs.Rows.{openNumbers}
-use Rattle.session.specs.Accepted.{opened, open-passes, accepted-bound}
-use Rattle.listing.specs.Page.{firstUniversal, ofPage, pageRows, pageRefusal}
+use Rattle.session.specs.Laws.Accepted.{opened, open-passes}
+use Rattle.listing.specs.Opening.{openings}
+use Rattle.listing.specs.Page.{workOf, firstUniversal, ofPage, pageRows, pageRefusal, PageMemory}
+use Rattle.rules.specs.Inner.Ready.{Bound, Room}
+use Rattle.rules.specs.Laws.Accepted.{prefix-length, accepted-bound}
 
-module _ (b ls : List ℤ) (ks : List ℕ) (start : ℕ) (out : List ℕ) where
-  pub page-numbered : Numbered (pageRows b ls ks start out) (pageRefusal b ls ks start out)
+module _ (b : List ℤ) (m : PageMemory) (start : ℕ) where
+  pub page-numbered : Numbered (pageRows b m start) (pageRefusal b m start)
   unfolding pageRefusal
-  page-numbered = numbered (pageRows b ls ks start out) refl
+  page-numbered = numbered (pageRows b m start) refl
 
-  pub page-gives : In (pageRefusal b ls ks start out) (0 ∷ openNumbers ++ 18 ∷ 19 ∷ 20 ∷ 21 ∷ [])
+  pub page-gives : In (pageRefusal b m start) (0 ∷ openNumbers ++ 18 ∷ 19 ∷ 20 ∷ 21 ∷ [])
   unfolding pageRefusal
-  page-gives = given (pageRows b ls ks start out)
+  page-gives = given (pageRows b m start)
 
   -- ---- what an accepted page has shown
   pub record PageGuarded : Type 0 where
     pub block : refusal limits b ≡ 0
-    pub lits-room : length (prefixOf b) ≤ length ls
-    pub kinds-room : length (prefixOf b) ≤ length ks
+    pub lent : Room (length (formulaOf b .prefix)) (m .work)
     pub exists : firstUniversal (formulaOf b) ≡ false
-    pub narrow : firstGroup (prefixOf b) ≤ 16
-    pub inside : start ≤ 2 ^ firstGroup (prefixOf b)
-    pub room : 2 ≤ length out
+    pub narrow : firstGroup (prefixOf b) ≤ limits .group
+    pub inside : start ≤ openings (formulaOf b)
+    pub room : 2 ≤ length (m .output)
 
-  pub page-guarded : pageRefusal b ls ks start out ≡ 0 → PageGuarded
+  pub page-guarded : pageRefusal b m start ≡ 0 → PageGuarded
   unfolding pageRefusal openRefusal formulaOf
   page-guarded e =
-      let o = opened b ls ks (first-part (openRows b ls ks) (ofPage (formulaOf b) start out) e) in
-      let r = passed (pageRows b ls ks start out) refl e in
+      let o = opened b (workOf m) (first-part (openRows b (workOf m)) (ofPage (formulaOf b) start (m .output)) e) in
+      let r = passed (pageRows b m start) refl e in
       record {
         block = o .block;
-        lits-room = o .lent .room .lits;
-        kinds-room = o .lent .room .kinds;
+        lent = rw (prefix-length b (o .block)) (o .room);
         exists = r 18;
-        narrow = ltb-false 16 (firstGroup (prefixOf b)) (r 19);
+        narrow = ltb-false (limits .group) (firstGroup (prefixOf b)) (r 19);
         inside = ltb-false (2 ^ firstGroup (prefixOf b)) start (r 20);
-        room = ltb-false (length out) 2 (r 21);
+        room = ltb-false (length (m .output)) 2 (r 21);
       }
 
   -- and the other way round
-  pub page-passes : PageGuarded → pageRefusal b ls ks start out ≡ 0
+  pub page-passes : PageGuarded → pageRefusal b m start ≡ 0
   unfolding pageRefusal openRefusal formulaOf
   page-passes g =
-      let o = open-passes b ls ks (record { block = g .block; lent = record { prefix = accepted-bound b (g .block); room = record { lits = g .lits-room; kinds = g .kinds-room } } }) in
-      goes-on (openRows b ls ks) (ofPage (formulaOf b) start out) refl o
+      let o = open-passes b (workOf m) (record { block = g .block; room = rw (← prefix-length b (g .block)) (g .lent) }) in
+      goes-on (openRows b (workOf m)) (ofPage (formulaOf b) start (m .output)) refl o
       ∙ rw (
         g .exists,
-        le-ltb 16 (firstGroup (prefixOf b)) (g .narrow),
+        le-ltb (limits .group) (firstGroup (prefixOf b)) (g .narrow),
         le-ltb (2 ^ firstGroup (prefixOf b)) start (g .inside),
-        le-ltb (length out) 2 (g .room),
+        le-ltb (length (m .output)) 2 (g .room),
       )
+
+  -- its prefix, as the searches need it
+  pub page-bound : PageGuarded → Bound (formulaOf b .prefix)
+  unfolding formulaOf
+  page-bound g = accepted-bound b (g .block)

@@ -2,19 +2,19 @@
 ghost use mathlib.Core.Path.{_≡_};
 ghost use mathlib.Core.List.{[]};
 ghost use Rattle.words.specs.Rows.{refusalOf};
-ghost use Rattle.rules.specs.Ready.{formula};
-ghost use Rattle.listing.specs.Page.{ofPage, pageRefusal};
+ghost use Rattle.rules.specs.Inner.Ready.{formula};
+ghost use Rattle.listing.specs.Page.{pageMemory, ofPage, pageRefusal};
 use crate::openings;
 
 // Rows 18 to 21, which look at the prefix and at no clause.
-fn of_openings(prefix: &[i32], start: u32, output: &[u32]) -> u32
+fn openings_refusal(prefix: &[i32], start: u32, output: &[u32]) -> u32
     ensures { λ r. ⌜ r ≡ refusalOf (ofPage (formula (now (prefix .entry)) [] []) start (now (output .entry))) ⌝ }
 {
     if words::negative_at(prefix, 0) {
         return 18;
     }
     let k = openings::first_group(prefix);
-    if 16 < k {
+    if formula::MAX_GROUP < k {
         return 19;
     }
     if openings::count(k) < start {
@@ -27,13 +27,18 @@ fn of_openings(prefix: &[i32], start: u32, output: &[u32]) -> u32
 }
 
 // All rows of a page.
-pub(crate) fn of_page(block: &[i32], lits: &[i32], kinds: &[u8], start: u32, output: &[u32]) -> u32
-    ensures { λ r. ⌜ r ≡ pageRefusal (now (block .entry)) (now (lits .entry)) (now (kinds .entry)) start (now (output .entry)) ⌝ }
+pub(crate) fn page_refusal(
+    block: &[i32],
+    lits: &[i32],
+    kinds: &[u8],
+    start: u32,
+    output: &[u32],
+) -> u32
+    ensures { λ r. ⌜ r ≡ pageRefusal (now (block .entry)) (pageMemory (now (lits .entry)) (now (kinds .entry)) (now (output .entry))) start ⌝ }
 {
-    let refused = session::of_buffers(block, lits, kinds);
+    let refused = session::open_refusal(block, lits, kinds);
     if refused != 0 {
         return refused;
     }
-    let end = 6 + words::size_at(block, 0);
-    of_openings(&block[6..end], start, output)
+    openings_refusal(formula::prefix(block), start, output)
 }

@@ -1,6 +1,7 @@
 // The listing of openings, page by page.
 ghost use mathlib.Core.Path.{_≡_};
-ghost use Rattle.listing.specs.Page.{pageOutcome, pageOf};
+ghost use Rattle.listing.specs.Page.{pageMemory};
+ghost use Rattle.listing.specs.Promises.{PagePromise};
 
 mod guard; // which row of the table turns a page away
 mod openings; // an opening: its values and its search
@@ -19,23 +20,21 @@ pub enum Paged {
 // The winning openings from `start` on, as far as the output's room and the budget for each search go.
 pub fn page(
     block: &[i32],
-    literals: &mut [i32],
+    lits: &mut [i32],
     kinds: &mut [u8],
     start: u32,
     preferred: &[i32],
     budget: u32,
     output: &mut [u32],
 ) -> Paged
-    ensures { λ r. ⌜ pageOutcome r (now (literals .exit)) (now (kinds .exit)) (now (output .exit)) ≡ pageOf (now (block .entry)) (now (literals .entry)) (now (kinds .entry)) start (now (preferred .entry)) budget (now (output .entry)) ⌝ }
+    ensures { λ r. ⌜ PagePromise (now (block .entry)) (pageMemory (now (lits .entry)) (now (kinds .entry)) (now (output .entry))) start (now (preferred .entry)) budget r (pageMemory (now (lits .exit)) (now (kinds .exit)) (now (output .exit))) ⌝ }
 {
-    let refused = guard::of_page(block, literals, kinds, start, output);
+    let refused = guard::page_refusal(block, lits, kinds, start, output);
     if refused != 0 {
         return Paged::Refused(refused);
     }
-    let places = words::size_at(block, 0);
-    let end = 6 + places;
-    let k = openings::first_group(&block[6..end]);
-    let answer = sheets::fill(block, literals, kinds, k, start, preferred, budget, output);
-    rules::clear(literals, kinds, places);
+    let k = openings::first_group(formula::prefix(block));
+    let answer = sheets::fill(block, lits, kinds, k, start, preferred, budget, output);
+    rules::clear(lits, kinds, words::size_at(block, 0));
     answer
 }

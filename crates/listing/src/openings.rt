@@ -5,12 +5,13 @@ ghost use lib.Dec.{eqb};
 ghost use lib.IntN.{pos};
 ghost use lib.ListN.{getD};
 ghost use lib.Seq.{sets};
+ghost use Rattle.formula.specs.Limits.{limits};
 ghost use Rattle.formula.specs.Formula.{formulaOf, firstGroup};
-ghost use Rattle.rules.specs.Apply.{search, reached};
-ghost use Rattle.rules.specs.declared.State.the-variants.{Open};
-ghost use Rattle.listing.specs.Opening.{valuesOf, startOf, searchOf};
-ghost use Rattle.listing.specs.Values.{valueOf};
-ghost use Rattle.listing.specs.Checked.{OnGroup, WritableAt, Writable};
+ghost use Rattle.rules.specs.Trail.{trail};
+ghost use Rattle.rules.specs.Search.{search, reached};
+ghost use Rattle.rules.specs.declared.rule.State.the-variants.{Open};
+ghost use Rattle.listing.specs.Opening.{valueAt, valuesOf, openingStart, openingSearch};
+ghost use Rattle.listing.specs.Inner.Pages.{OnGroup, WritableAt, Writable};
 use rules::Reached;
 
 // The size of the first group.
@@ -30,7 +31,7 @@ pub(crate) fn first_group(prefix: &[i32]) -> usize
 
 // How many openings a group of k variables has, 2^k.
 pub(crate) fn count(k: usize) -> u32
-    requires { ⌜ k ≤ 16 ⌝ }
+    requires { ⌜ k ≤ limits .group ⌝ }
     ensures { λ r. ⌜ r ≡ 2 ^ k ⌝ }
 {
     1 << k
@@ -38,16 +39,16 @@ pub(crate) fn count(k: usize) -> u32
 
 // Whether a number has a 1 at a place; place 0 is the lowest bit.
 fn has_one(n: u32, place: usize) -> bool
-    requires { ⌜ place < 16 ⌝ }
+    requires { ⌜ place < limits .group ⌝ }
     ensures { λ r. ⌜ r ≡ eqb (n / 2 ^ place % 2) 1 ⌝ }
 {
     (n >> place) % 2 == 1
 }
 
-// The literal that the number n gives to the variable at an index, whose bit is at a place: a word of the other sign is turned.
+// The literal that the number n gives to the variable at an index, whose bit is at a place: a word of the other sign is flipped.
 fn value_at(group: &[i32], i: usize, n: u32, place: usize) -> i32
     requires { ⌜ WritableAt (now group) i place ⌝ }
-    ensures { λ r. ⌜ r ≡ valueOf n place (getD (now (group .entry)) i (pos 0)) ⌝ }
+    ensures { λ r. ⌜ r ≡ valueAt n place (getD (now (group .entry)) i (pos 0)) ⌝ }
 {
     if words::negative_at(group, i) == has_one(n, place) {
         words::opposite(group[i])
@@ -73,12 +74,11 @@ fn write_values(group: &[i32], n: u32, lits: &mut [i32])
 
 // Where an opening's search starts: the first V places are 0, but for the values at the start of the record.
 fn begin(block: &[i32], lits: &mut [i32], kinds: &mut [u8], k: usize, n: u32)
-    requires { ⌜ OnGroup (now block) (now lits) (now kinds) k ⌝ }
-    ensures { λ r. ⌜ search (now (lits .exit)) (now (kinds .exit)) k Open ≡ startOf (formulaOf (now (block .entry))) (now (lits .entry)) (now (kinds .entry)) n ⌝ }
+    requires { ⌜ OnGroup (now block) (trail (now lits) (now kinds)) k ⌝ }
+    ensures { λ r. ⌜ search (trail (now (lits .exit)) (now (kinds .exit))) k Open ≡ openingStart (formulaOf (now (block .entry))) (trail (now (lits .entry)) (now (kinds .entry))) n ⌝ }
 {
     rules::clear(lits, kinds, words::size_at(block, 0));
-    let end = 6 + k;
-    write_values(&block[6..end], n, lits);
+    write_values(words::take(formula::prefix(block), k), n, lits);
 }
 
 // The search of the opening n, within the budget.
@@ -91,8 +91,8 @@ pub(crate) fn try_opening(
     preferred: &[i32],
     budget: u32,
 ) -> Reached
-    requires { ⌜ OnGroup (now block) (now lits) (now kinds) k ⌝ }
-    ensures { λ r. ⌜ reached r (now (lits .exit)) (now (kinds .exit)) ≡ searchOf (formulaOf (now (block .entry))) (now (preferred .entry)) budget (now (lits .entry)) (now (kinds .entry)) n ⌝ }
+    requires { ⌜ OnGroup (now block) (trail (now lits) (now kinds)) k ⌝ }
+    ensures { λ r. ⌜ reached r (trail (now (lits .exit)) (now (kinds .exit))) ≡ openingSearch (formulaOf (now (block .entry))) (now (preferred .entry)) budget (trail (now (lits .entry)) (now (kinds .entry))) n ⌝ }
 {
     begin(block, lits, kinds, k, n);
     let found = session::search(block, lits, kinds, k, budget, preferred);

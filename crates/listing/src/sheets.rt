@@ -4,31 +4,29 @@ ghost use Prim.Native.Nat.{_+_, _*_, _≤_};
 ghost use lib.ListN.{length, set};
 ghost use Rattle.formula.specs.Formula.{formulaOf};
 ghost use Rattle.listing.specs.declared.Paged.the-variants.{Page};
-ghost use Rattle.listing.specs.Page.{turned};
-ghost use Rattle.listing.specs.Refused.{sheetOf};
-ghost use Rattle.listing.specs.Checked.{OnPage, wipedOutcome};
+ghost use Rattle.listing.specs.Page.{pageMemory, paged, sheetOf};
+ghost use Rattle.listing.specs.Inner.Pages.{OnPage, wipedOutcome};
 use crate::Paged;
 use crate::openings;
 use rules::State;
 
-// An answer. There are at most 65,536 entries.
-fn answer(next: u32, entries: usize, paused: bool) -> Paged
-    requires { ⌜ entries ≤ 65536 ⌝ }
+// An answer.
+fn answer(next: u32, entries: u32, paused: bool) -> Paged
     ensures { λ r. ⌜ r ≡ Page next entries paused ⌝ }
 {
     Paged::Page {
         next: next,
-        entries: entries as u32,
+        entries: entries,
         paused: paused,
     }
 }
 
 // Writes an entry: the opening, and how many ones its number has.
-fn write_entry(output: &mut [u32], entries: usize, opening: u32, ones: u32)
+fn write_entry(output: &mut [u32], entries: u32, opening: u32, ones: u32)
     requires { ⌜ 2 * entries + 2 ≤ length (now output) ⌝ }
     ensures { λ r. ⌜ now (output .exit) ≡ set (set (now (output .entry)) (2 * entries) opening) (2 * entries + 1) ones ⌝ }
 {
-    let at = 2 * entries;
+    let at = 2 * (entries as usize);
     output[at] = opening;
     output[at + 1] = ones;
 }
@@ -44,14 +42,14 @@ pub(crate) fn fill(
     budget: u32,
     output: &mut [u32],
 ) -> Paged
-    requires { ⌜ OnPage (now block) (now lits) (now kinds) k start (now output) ⌝ }
-    ensures { λ r. ⌜ wipedOutcome (formulaOf (now (block .entry))) r (now (lits .exit)) (now (kinds .exit)) (now (output .exit)) ≡ turned (formulaOf (now (block .entry))) (now (lits .entry)) (now (kinds .entry)) (sheetOf (now (block .entry)) (now (lits .entry)) (now (kinds .entry)) start (now (preferred .entry)) budget (now (output .entry))) ⌝ }
+    requires { ⌜ OnPage (now block) (pageMemory (now lits) (now kinds) (now output)) k start ⌝ }
+    ensures { λ r. ⌜ wipedOutcome (formulaOf (now (block .entry))) r (pageMemory (now (lits .exit)) (now (kinds .exit)) (now (output .exit))) ≡ paged (formulaOf (now (block .entry))) (pageMemory (now (lits .entry)) (now (kinds .entry)) (now (output .entry)) .work) (sheetOf (formulaOf (now (block .entry))) (pageMemory (now (lits .entry)) (now (kinds .entry)) (now (output .entry))) start (now (preferred .entry)) budget) ⌝ }
 {
     let total = openings::count(k);
     let mut n = start;
     let mut entries = 0;
     while n < total {
-        if output.len() < 2 * entries + 2 {
+        if output.len() < 2 * (entries as usize) + 2 {
             return answer(n, entries, false);
         }
         let reached = openings::try_opening(block, lits, kinds, k, n, preferred, budget);

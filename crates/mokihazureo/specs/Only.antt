@@ -3,8 +3,7 @@ use mathlib.Core.Path.{_≡_}
 use mathlib.Core.List.{List}
 use Prim.Native.Nat.{ℕ}
 use lib.IntN.{ℤ}
-use Rattle.words.specs.Only.{only-one}
-use Rattle.words.specs.Outcomes.{outcome, Same, same}
+use Rattle.words.specs.Outcomes.{only-one, outcome, Same, same}
 use Rattle.formula.specs.Limits.{limits}
 use Rattle.formula.specs.Block.{refusal}
 use Rattle.session.specs.declared.Session.{Session}

@@ -11,6 +11,9 @@ use Rattle.rules.specs.Trail.{put, wipedTrail}
 use Rattle.rules.specs.Search.{Search, search}
 use Rattle.rules.specs.declared.rule.State.{State}
 use Rattle.rules.specs.declared.rule.State.the-variants.{Open, Valid, Unsat}
+use Rattle.rules.specs.Due.{literal}
+use Rattle.rules.specs.declared.rule.Move.{Move}
+use Rattle.rules.specs.declared.rule.Move.the-variants.{Append, Flip, End}
 use Rattle.rules.specs.declared.rule.Rule.{Rule}
 use Rattle.rules.specs.declared.rule.Rule.the-variants.{BacktrackExists, Fail, Unit, Monotone, Decide, BacktrackForall, Succeed}
 
@@ -38,12 +41,21 @@ kindOf p l = cond (universal p l) 2 1
 abbrev pub chosen : ℤ → ℤ → ℤ
 chosen proposal first = cond (eqb (natAbs proposal) 0) first proposal
 
--- the rule applied, with the proposal that Decide is to take
+-- what a rule does, with the proposal that Decide is to take
+abbrev pub moveOf : List ℤ → Rule → ℤ → Move
+moveOf p (BacktrackExists i c) l = Flip i
+moveOf p (Fail c) l = End Unsat
+moveOf p (Unit x c) l = Append 0 x
+moveOf p (Monotone x) l = Append 0 x
+moveOf p (Decide x) l = Append (kindOf p (chosen l (x .0))) (literal (chosen l (x .0)))
+moveOf p (BacktrackForall i) l = Flip i
+moveOf p Succeed l = End Valid
+
+abbrev pub moved : Move → Search → Search
+moved (Append k x) s = append k (x .0) s
+moved (Flip i) s = flip i s
+moved (End t) s = ended t s
+
+-- the rule applied
 unfoldable pub apply : List ℤ → Rule → ℤ → Search → Search
-apply p (BacktrackExists i c) l s = flip i s
-apply p (Fail c) l s = ended Unsat s
-apply p (Unit x c) l s = append 0 (x .0) s
-apply p (Monotone x) l s = append 0 (x .0) s
-apply p (Decide x) l s = append (kindOf p (chosen l (x .0))) (chosen l (x .0)) s
-apply p (BacktrackForall i) l s = flip i s
-apply p Succeed l s = ended Valid s
+apply p rule l s = moved (moveOf p rule l) s

@@ -1,9 +1,11 @@
 -- "At Decide it proposes the first open one in the list, else 0."
 use mathlib.Core.Bool.{Bool, true, false, cond}
-use mathlib.Core.List.{List, [], _∷_}
+use mathlib.Core.List.{List}
 use lib.IntN.{ℤ, pos}
 use Rattle.theory.specs.Record.{Assignment}
 use Rattle.theory.specs.Tests.{isOpen}
+use Rattle.rules.specs.Due.{literal, onPicked, firstOf}
+use Rattle.rules.specs.declared.found.Picked.the-variants.{Is, NoLiteral}
 use Rattle.rules.specs.declared.rule.Rule.{Rule}
 use Rattle.rules.specs.declared.rule.Rule.the-variants.{BacktrackExists, Fail, Unit, Monotone, Decide, BacktrackForall, Succeed}
 
@@ -17,8 +19,7 @@ decides (BacktrackForall i) = false
 decides Succeed = false
 
 unfoldable pub firstOpen : List ℤ → Assignment → List ℤ → ℤ
-firstOpen p ρ [] = pos 0
-firstOpen p ρ (l ∷ ls) = cond (isOpen p ρ l) l (firstOpen p ρ ls)
+firstOpen p ρ ls = onPicked (firstOf (λ l. cond (isOpen p ρ l) (Is (literal l)) NoLiteral) ls) (λ l. l .0) (pos 0)
 
 -- what a run proposes, where a rule is due
 abbrev pub proposalOf : List ℤ → Assignment → List ℤ → Rule → ℤ

@@ -18,7 +18,7 @@ ghost use Rattle.rules.specs.Inner.ByLiteral.{statusIn};
 ghost use Rattle.rules.specs.Inner.Clauses.{Placed, Clauses, levelBy, conflictBy, Shown, decidedBy, lowestUnitBy};
 
 // What the literal at an index is to its clause: 0 false, 1 true, 2 unassigned existential, 3 unassigned universal.
-fn status_at(ws: &[i32], i: usize, statuses: &[u8; LITERAL_PLACES]) -> u8
+pub(crate) fn status_at(ws: &[i32], i: usize, statuses: &[u8; LITERAL_PLACES]) -> u8
     requires { ⌜ natAbs (getD (now ws) i (pos 0)) ≤ limits .variables ⌝ }
     ensures { λ r. ⌜ r ≡ statusIn (now (statuses .entry)) (getD (now (ws .entry)) i (pos 0)) ⌝ }
 {

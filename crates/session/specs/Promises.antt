@@ -1,22 +1,21 @@
--- What each public function promises of everything at entry, r being its answer and m′ the memory that it leaves; and that the promise leaves one
--- answer, one next session and one content of each lent buffer. A promise is an equation with a definition.
-use mathlib.Core.Path.{_≡_}
+-- What each public function promises of everything at entry, r being its answer and m′ the memory that it leaves; and [only] that the promise fits
+-- one answer, one next session and one content of each lent buffer. A promise is an equation with a definition.
+use mathlib.Core.Path.{_≡_, ap}
 use mathlib.Core.List.{List}
 use Prim.Native.Nat.{ℕ}
 use lib.IntN.{ℤ}
-use Rattle.words.specs.Only.{only-one}
-use Rattle.words.specs.Outcomes.{outcome, Same, same}
+use Rattle.words.specs.Outcomes.{only-one, outcome, Same, same}
 use Rattle.words.specs.declared.Literal.{Literal}
 use Rattle.formula.specs.Formula.{formulaOf}
-use Rattle.rules.specs.declared.State.{State}
-use Rattle.rules.specs.declared.State.the-variants.{Open}
+use Rattle.rules.specs.declared.rule.State.{State}
+use Rattle.rules.specs.declared.rule.State.the-variants.{Open}
 use Rattle.rules.specs.Trail.{Trail}
 use Rattle.rules.specs.Search.{search, reached}
 use Rattle.session.specs.declared.Revision.{Revision}
 use Rattle.session.specs.declared.Session.{Session}
 use Rattle.session.specs.declared.Answer.{Answer}
 use Rattle.session.specs.declared.Ran.{Ran}
-use Rattle.session.specs.declared.Searched.{Searched}
+use Rattle.session.specs.declared.searches.Searched.{Searched}
 use Rattle.session.specs.Memory.{Memory}
 use Rattle.session.specs.States.{numberOf, stateNumbered}
 use Rattle.session.specs.Refusals.{openRefusal}
@@ -67,4 +66,6 @@ only-open-refusal b m = only-one
 
 pub only-search : {r r′ : Searched} {t′ t″ : Trail} (b : List ℤ) (t : Trail) (n budget : ℕ) (preferred : List ℤ)
     → SearchPromise b t n budget preferred r t′ → SearchPromise b t n budget preferred r′ t″ → (r ≡ r′) × (t′ ≡ t″)
-only-search b t n budget preferred p q = let e = only-one p q in (cc, cc)
+only-search b t n budget preferred p q =
+    let e = only-one p q in
+    (ap (λ (u : Trip). record { reached = record { count = u .reached .count; state = u .reached .state }; steps = u .steps }) e, ap (λ (u : Trip). u .reached .trail) e)

@@ -1,13 +1,12 @@
--- "A run takes the seen revision, a budget of steps (32 bits, unsigned) and a list of preferred literals of any content. At Decide it proposes
--- the first open one in the list, else 0. It answers the session and the count of accepted steps; it pauses exactly if it isn't ended when the budget is used."
+-- [run] [run.answer] A run: one step after the other until the session has ended or the budget is used, and how many steps these are.
 use Prim.Native.Nat.{ℕ, zero, suc, _+_}
 use mathlib.Core.List.{List}
 use lib.IntN.{ℤ}
 use Rattle.words.specs.Outcomes.{Outcome, outcome, unless}
 use Rattle.formula.specs.Formula.{Formula, formulaOf}
 use Rattle.theory.specs.Record.{trueIn}
-use Rattle.rules.specs.declared.State.{State}
-use Rattle.rules.specs.declared.State.the-variants.{Open, Valid, Unsat}
+use Rattle.rules.specs.declared.rule.State.{State}
+use Rattle.rules.specs.declared.rule.State.the-variants.{Open, Valid, Unsat}
 use Rattle.rules.specs.Due.{due}
 use Rattle.rules.specs.Search.{Search, recordIn}
 use Rattle.rules.specs.Preferred.{proposalOf}
@@ -34,7 +33,7 @@ whileOpen Valid a b = b
 whileOpen Unsat a b = b
 
 module _ (F : Formula) (preferred : List ℤ) where
-  -- one accepted step, with the proposal that the preferences give
+  -- [run.proposes] one accepted step, with the proposal that the preferences give
   unfoldable pub advance : Search → Search
   advance t =
       let r = recordIn t in

@@ -8,7 +8,7 @@ ghost use Rattle.rules.specs.Trail.{trail};
 ghost use Rattle.rules.specs.Search as rules;
 ghost use Rattle.rules.specs.Preferred.{proposalOf};
 ghost use Rattle.rules.specs.Inner.Ready.{OnBlock, HeldOn};
-ghost use Rattle.rules.specs.declared.State.the-variants.{Open};
+ghost use Rattle.rules.specs.declared.rule.State.the-variants.{Open};
 ghost use Rattle.session.specs.Run.{advance};
 ghost use Rattle.session.specs.Promises.{SearchPromise};
 use crate::guard;

@@ -6,6 +6,7 @@ pub mod Lists
 -- a table of refusals; what a call answers and leaves, and that there is only one
 pub mod Rows
 pub mod Outcomes
-pub mod Only
+-- what each function promises, and that it leaves one answer
+pub mod Promises
 -- what is proved of them
 pub mod Laws

@@ -9,7 +9,7 @@ pub record Outcome (M A : Type 0) : Type 0 where
 abbrev pub outcome : {M A : Type 0} → A → M → Outcome M A
 outcome a m = record { answer = a; memory = m }
 
--- "Each returns its number alone and leaves all memory and the session as they were.": `number` is the answer with a number
+-- [table.leaves] a call whose number is not 0 answers that number, and the memory is as it was: `number` is the answer with a number
 abbrev pub unless : {M A : Type 0} → (ℕ → A) → ℕ → M → Outcome M A → Outcome M A
 unless number zero m o = o
 unless number (suc n) m o = outcome (number (suc n)) m
@@ -31,10 +31,13 @@ module _ {M A : Type 0} (number : ℕ → A) where
   unless-number zero m o f = absurd (f refl)
   unless-number (suc n) m o f = refl
 
--- ---- a promise is an equation with a definition, so two outcomes that meet it are equal
+-- ---- a promise is an equation with a definition, so two answers, or two outcomes, that meet it are equal [only]
+pub only-one {ℓ} : {A : Type ℓ} {r r′ promised : A} → r ≡ promised → r′ ≡ promised → r ≡ r′
+only-one p q = p ∙ sym q
+
 pub record Same {M A : Type 0} (a a′ : A) (m m′ : M) : Type 0 where
   pub answer : a ≡ a′
   pub memory : m ≡ m′
 
 pub same : {M A : Type 0} {a a′ : A} {m m′ : M} {o : Outcome M A} → outcome a m ≡ o → outcome a′ m′ ≡ o → Same a a′ m m′
-same {M} {A} p q = let e = p ∙ sym q in record { answer = ap (λ (o : Outcome M A). o .answer) e; memory = ap (λ (o : Outcome M A). o .memory) e }
+same {M} {A} p q = let e = only-one p q in record { answer = ap (λ (o : Outcome M A). o .answer) e; memory = ap (λ (o : Outcome M A). o .memory) e }

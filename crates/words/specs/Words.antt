@@ -1,4 +1,4 @@
--- A signed word as a literal: "A literal is +v or -v; its opposite is its negation." Its variable is its size, `natAbs`; its opposite its negation, `negℤ`.
+-- [literal] A signed word as a literal. Its variable is its size, `natAbs`; its opposite is its negation, `negℤ`.
 use mathlib.Core.Bool.{Bool, true, false, cond, _||_}
 use mathlib.Core.List.{List, [], _∷_}
 use lib.Dec.{leb, eqb}
@@ -9,7 +9,7 @@ abbrev pub negative : ℤ → Bool
 negative (pos n) = false
 negative (negsuc n) = true
 
--- the opposite of a word is its negation, but for the least 32-bit word, which has none: for it stands 0, which is no literal
+-- [literal.least] the least 32-bit word has no opposite: for it stands 0, which is no literal
 unfoldable pub opposite : ℤ → ℤ
 opposite x = cond (leb (natAbs x) 2147483647) (negℤ x) (pos 0)
 

@@ -158,7 +158,7 @@ pub level-var : (p : List ℤ) (x y : ℤ) → natAbs x ≡ natAbs y → level p
 unfolding level
 level-var p x y e = rw e
 
--- "the number of changes of quantifier before it": of at most as many as there are words
+-- a level is a number of changes, of at most as many as there are words
 pub change-few : (q : ℤ) (p : List ℤ) → change q p ≤ 1
 unfolding change
 change-few q [] = omega arith
@@ -191,7 +191,7 @@ universal-stands p l h = sym (binds p l) ∙ or-r (existential p l) h
 pub stands-bound : (p : List ℤ) (l : ℤ) → stands p l ≡ true → (existential p l ≡ true) ⊎ (universal p l ≡ true)
 stands-bound p l h = or-e (existential p l) (universal p l) (binds p l ∙ h)
 
--- with no variable twice, a variable has one quantifier: "+v binds variable v existentially, -v universally", and the word's sign says it
+-- with no variable twice, a variable has one quantifier, and the word's sign says it
 module _ (p : List ℤ) (once : twice p ≡ false) where
   pub one-quantifier : (l : ℤ) → 0 < natAbs l → existential p l ≡ true → universal p l ≡ false
   unfolding existential universal

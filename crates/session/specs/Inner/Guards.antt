@@ -5,7 +5,7 @@ use lib.IntN.{ℤ}
 use Rattle.words.specs.Rows.{refusalOf}
 use Rattle.words.specs.declared.Literal.{Literal}
 use Rattle.theory.specs.Record.{Assignment}
-use Rattle.rules.specs.declared.Rule.{Rule}
+use Rattle.rules.specs.declared.rule.Rule.{Rule}
 use Rattle.session.specs.declared.Revision.{Revision}
 use Rattle.session.specs.declared.Session.{Session}
 use Rattle.session.specs.Memory.{Memory}

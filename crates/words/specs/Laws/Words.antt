@@ -70,7 +70,7 @@ var-cases (negsuc m) (pos zero) e = absurd (omega arith)
 var-cases (negsuc m) (pos (suc n)) e = let z : m ≡ n = omega arith in inr (ap negsuc z)
 var-cases (negsuc m) (negsuc n) e = let z : m ≡ n = omega arith in inl (ap negsuc z)
 
--- "one of the two literals of x's variable is l" is "x and l have one variable"
+-- that l is x or the negation of x, and that both have one variable, is the same
 pub same-variable : (x l : ℤ) → (eqZ x l || eqZ (negℤ x) l) ≡ eqb (natAbs l) (natAbs x)
 same-variable x l = bool-eq _ _ there-it (λ e. back (var-cases x l (sym (eqb-eq (natAbs l) (natAbs x) e))))
   where

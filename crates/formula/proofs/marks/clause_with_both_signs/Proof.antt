@@ -17,9 +17,6 @@ abbrev μ-loop : tie.MeasureT-loop
 loop-holds : tie.Need-loop-holds Inv-loop μ-loop
 loop-holds c = begin _ _ (c .pre .1)
 
-size-at-requires : tie.Need-size-at-requires Inv-loop μ-loop
-size-at-requires c κs = tt
-
 -- the clause lies within the literals
 module _ (c : tie.After-size-at Inv-loop μ-loop) where
   start-within : c .before .before .loop .from ≤ c .size-at .result
@@ -40,9 +37,6 @@ part-both-signs-start c = start-within c
 part-both-signs-end : tie.Need-part-both-signs-end Inv-loop μ-loop
 part-both-signs-end c = end-within c
 
-add-both-signs : tie.Need-add-both-signs Inv-loop μ-loop
-add-both-signs c = omega arith
-
 both-signs-requires : tie.Need-both-signs-requires Inv-loop μ-loop
 both-signs-requires c κs =
     let read = c .before .before in
@@ -55,12 +49,6 @@ returns c =
     let read = called .before .before .before in
     let turn = read .before in
     hit _ _ _ _ _ (turn .before .loop .inv) (turn .loop-test .taken) _ (read .size-at .ensures) _ (called .both-signs .ensures .0) (c .if1 .taken)
-
-add-i : tie.Need-add-i Inv-loop μ-loop
-add-i c = omega arith
-
-loop-less : tie.Need-loop-less Inv-loop μ-loop
-loop-less c = omega arith
 
 loop-again : tie.Need-loop-again Inv-loop μ-loop
 loop-again c =
@@ -80,15 +68,15 @@ clause-with-both-signs-spec =
     Inv-loop
     μ-loop
     loop-holds
-    size-at-requires
+    (λ c κs. tt)
     mul-both-signs
     sub-both-signs
     part-both-signs-start
     part-both-signs-end
-    add-both-signs
+    (λ c. omega arith)
     both-signs-requires
     returns
-    add-i
-    loop-less
+    (λ c. omega arith)
+    (λ c. omega arith)
     loop-again
     returns-2)

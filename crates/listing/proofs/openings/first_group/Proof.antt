@@ -15,25 +15,13 @@ Inv-loop prefix universal i₀ i = (i ≤ length prefix) × (i + run universal (
 abbrev μ-loop : tie.MeasureT-loop
 μ-loop prefix universal i₀ i = length prefix - i
 
-negative-at-requires : tie.Need-negative-at-requires Inv-loop μ-loop
-negative-at-requires c κs = search needs
-
 loop-holds : tie.Need-loop-holds Inv-loop μ-loop
 loop-holds c = (omega arith, group-begins (c .before .args .prefix .now) (c .negative-at .ensures))
-
-negative-at-requires-2 : tie.Need-negative-at-requires-2 Inv-loop μ-loop
-negative-at-requires-2 c κs = search needs
 
 returns : tie.Need-returns Inv-loop μ-loop
 returns c =
     let l = c .before .before .before in
     group-stops _ (l .loop .i) (l .before .negative-at .result) (l .loop .inv .1) (c .before .before .loop-test .taken) (c .before .negative-at2 .ensures) (c .if1 .taken)
-
-add-i : tie.Need-add-i Inv-loop μ-loop
-add-i c = search needs
-
-loop-less : tie.Need-loop-less Inv-loop μ-loop
-loop-less c = search needs
 
 loop-again : tie.Need-loop-again Inv-loop μ-loop
 loop-again c =
@@ -49,11 +37,11 @@ first-group-spec =
     (tie.spec
     Inv-loop
     μ-loop
-    negative-at-requires
+    (λ c κs. search needs)
     loop-holds
-    negative-at-requires-2
+    (λ c κs. search needs)
     returns
-    add-i
-    loop-less
+    (λ c. search needs)
+    (λ c. search needs)
     loop-again
     returns-2)

@@ -1,23 +1,14 @@
 -- The start is the opening's, and a record that passes row 12.
-use Rattle.listing.proofs.Begun.{searchable, searched}
+use Rattle.listing.proofs.Groups.{searchable, searched}
 use borrow.Author.Needs.{needs}
 use Rattle.listing.proofs.openings.try_opening.Statement.{statement}
 use Rattle.listing.proofs.openings.try_opening.Tie as tie
-
-begin-requires : tie.Need-begin-requires
-begin-requires c κs = search needs
 
 search-requires : tie.Need-search-requires
 search-requires c κs =
     let begun = c .before .before .before .before .before in
     let start = begun .before .before .before .before in
     searchable (start .pre) (start .args .n) (begun .begin .ensures)
-
-same-length : tie.Need-same-length
-same-length c = search needs
-
-same-length-2 : tie.Need-same-length-2
-same-length-2 c = search needs
 
 returns : tie.Need-returns
 returns c =
@@ -28,4 +19,4 @@ returns c =
 
 pub try-opening-spec : {M : Type 1} → statement M
 try-opening-spec =
-    tie.close (tie.spec begin-requires search-requires same-length same-length-2 returns)
+    tie.close (tie.spec (λ c κs. search needs) search-requires (λ c. search needs) (λ c. search needs) returns)

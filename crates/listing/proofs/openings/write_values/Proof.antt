@@ -1,4 +1,4 @@
--- At each turn one value more is written, and the place of its bit is one lower.
+-- At each round one value more is written, and the place of its bit is one lower.
 use Prim.Native.Nat.{_+_, _-_, _≤_}
 use mathlib.Core.Path.{_≡_, refl, sym, _∙_}
 use native.Mathlib.Omega.{arith}
@@ -22,26 +22,11 @@ abbrev μ-loop : tie.MeasureT-loop
 loop-holds : tie.Need-loop-holds Inv-loop μ-loop
 loop-holds c = (omega arith, omega arith, refl, refl)
 
-sub-place : tie.Need-sub-place Inv-loop μ-loop
-sub-place c = search needs
-
 value-at-requires : tie.Need-value-at-requires Inv-loop μ-loop
 value-at-requires c κs =
     let l = c .before in
     let h = c .loop-test .taken in
     record { inside = h; small = l .before .pre .small (l .loop .i) h; low = omega arith }
-
-mul-word : tie.Need-mul-word Inv-loop μ-loop
-mul-word c = omega arith
-
-slice-set-from-word : tie.Need-slice-set-from-word Inv-loop μ-loop
-slice-set-from-word c = omega arith
-
-add-i : tie.Need-add-i Inv-loop μ-loop
-add-i c = search needs
-
-loop-less : tie.Need-loop-less Inv-loop μ-loop
-loop-less c = search needs
 
 loop-again : tie.Need-loop-again Inv-loop μ-loop
 loop-again c =
@@ -69,12 +54,12 @@ write-values-spec =
     Inv-loop
     μ-loop
     loop-holds
-    sub-place
+    (λ c. search needs)
     value-at-requires
-    mul-word
-    slice-set-from-word
-    add-i
-    loop-less
+    (λ c. omega arith)
+    (λ c. omega arith)
+    (λ c. search needs)
+    (λ c. search needs)
     loop-again
     same-length
     returns)

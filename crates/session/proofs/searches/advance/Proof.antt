@@ -1,24 +1,19 @@
 -- The due rule, with the proposal that the preferences give it.
 use borrow.Author.Needs.{needs}
-use Rattle.session.proofs.Lent.{held}
-use Rattle.session.proofs.Turns.{advanced}
+use Rattle.rules.specs.Laws.Accepted.{held-on}
+use Rattle.session.specs.Laws.Accepted.{fitting}
+use Rattle.session.proofs.Rounds.{advanced}
 use Rattle.session.proofs.searches.advance.Statement.{statement}
 use Rattle.session.proofs.searches.advance.Tie as tie
 
-due-requires : tie.Need-due-requires
-due-requires c κs = search needs
-
 proposal-requires : tie.Need-proposal-requires
-proposal-requires c κs = held (c .before .before .before .before .before .pre)
+proposal-requires c κs = held-on _ _ _ (c .before .before .before .before .before .pre)
 
 apply-requires : tie.Need-apply-requires
-apply-requires c κs = search needs
-
-same-length : tie.Need-same-length
-same-length c = search needs
-
-same-length-2 : tie.Need-same-length-2
-same-length-2 c = search needs
+apply-requires c κs =
+    let d = c .before .before .before .before in
+    let start = d .before .before .before .before in
+    (start .pre, rw (d .due .ensures) (fitting (start .pre)))
 
 returns : tie.Need-returns
 returns c =
@@ -31,4 +26,4 @@ returns c =
 pub advance-spec : {M : Type 1} → statement M
 advance-spec =
     tie.close
-    (tie.spec due-requires proposal-requires apply-requires same-length same-length-2 returns)
+    (tie.spec (λ c κs. search needs) proposal-requires apply-requires (λ c. search needs) (λ c. search needs) returns)

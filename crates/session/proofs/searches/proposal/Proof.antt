@@ -4,19 +4,13 @@ use borrow.Author.Needs.{needs}
 use Rattle.session.proofs.searches.proposal.Statement.{statement}
 use Rattle.session.proofs.searches.proposal.Tie as tie
 
-is-decide-requires : tie.Need-is-decide-requires
-is-decide-requires c κs = search needs
-
-preferred-requires : tie.Need-preferred-requires
-preferred-requires c κs = search needs
-
 returns : tie.Need-returns
 returns c =
     let d = c .before in
-    rw (sym (d .before .is-decide .ensures) ∙ d .if1 .taken) (c .preferred .ensures)
+    rw (sym (d .before .is-decide .ensures) ∙ d .if1 .taken) (c .first-open .ensures)
 
 returns-2 : tie.Need-returns-2
 returns-2 c = rw (sym (c .before .is-decide .ensures) ∙ c .if1 .left)
 
 pub proposal-spec : {M : Type 1} → statement M
-proposal-spec = tie.close (tie.spec is-decide-requires preferred-requires returns returns-2)
+proposal-spec = tie.close (tie.spec (λ c κs. search needs) (λ c κs. search needs) returns returns-2)

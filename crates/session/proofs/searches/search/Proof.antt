@@ -1,27 +1,19 @@
 -- The invariant: the record is checked still, and the run from here is the run from the start. The measure is what is left of the budget.
 use Prim.Native.Nat.{_-_}
+use Rattle.rules.specs.Trail.{trail}
 use borrow.Author.Needs.{needs}
-use Rattle.session.proofs.Turns.{Turn, begun, ended, turned, used}
+use Rattle.session.proofs.Rounds.{Round, begun, ended, more, used}
 use Rattle.session.proofs.searches.search.Statement.{statement}
 use Rattle.session.proofs.searches.search.Tie as tie
 
 abbrev Inv-loop : tie.InvT-loop
-Inv-loop block lits₀ kinds₀ count budget preferred at₀ steps₀ lits kinds at steps = Turn block lits₀ kinds₀ count budget preferred lits kinds at steps
+Inv-loop block lits₀ kinds₀ count budget preferred at₀ steps₀ lits kinds at steps = Round block (trail lits₀ kinds₀) count budget preferred (trail lits kinds) at steps
 
 abbrev μ-loop : tie.MeasureT-loop
 μ-loop block lits₀ kinds₀ count budget preferred at₀ steps₀ lits kinds at steps = budget - steps
 
 loop-holds : tie.Need-loop-holds Inv-loop μ-loop
 loop-holds c = begun (c .before .pre) _ _
-
-is-over-requires : tie.Need-is-over-requires Inv-loop μ-loop
-is-over-requires c κs = search needs
-
-same-length : tie.Need-same-length Inv-loop μ-loop
-same-length c = c .before .before .before .loop .inv .lits-long
-
-same-length-2 : tie.Need-same-length-2 Inv-loop μ-loop
-same-length-2 c = c .before .before .before .loop .inv .kinds-long
 
 returns : tie.Need-returns Inv-loop μ-loop
 returns c =
@@ -31,24 +23,12 @@ returns c =
 advance-requires : tie.Need-advance-requires Inv-loop μ-loop
 advance-requires c κs = c .before .before .before .before .before .loop .inv .on
 
-add-steps : tie.Need-add-steps Inv-loop μ-loop
-add-steps c = search needs
-
-loop-less : tie.Need-loop-less Inv-loop μ-loop
-loop-less c = search needs
-
 loop-again : tie.Need-loop-again Inv-loop μ-loop
 loop-again c =
     let a = c .before .before .before in
     let o = a .before .before .before in
     let t = o .before .before in
-    turned (t .before .loop .inv) (t .loop-test .taken) (o .before .is-over .ensures) (o .if1 .left) (a .advance .ensures)
-
-same-length-3 : tie.Need-same-length-3 Inv-loop μ-loop
-same-length-3 c = c .before .loop .inv .lits-long
-
-same-length-4 : tie.Need-same-length-4 Inv-loop μ-loop
-same-length-4 c = c .before .loop .inv .kinds-long
+    more (t .before .loop .inv) (t .loop-test .taken) (o .before .is-over .ensures) (o .if1 .left) (a .advance .ensures)
 
 returns-2 : tie.Need-returns-2 Inv-loop μ-loop
 returns-2 c = used (c .before .loop .inv) (c .loop-test .left)
@@ -60,14 +40,14 @@ search-spec =
     Inv-loop
     μ-loop
     loop-holds
-    is-over-requires
-    same-length
-    same-length-2
+    (λ c κs. search needs)
+    (λ c. c .before .before .before .loop .inv .lits-long)
+    (λ c. c .before .before .before .loop .inv .kinds-long)
     returns
     advance-requires
-    add-steps
-    loop-less
+    (λ c. search needs)
+    (λ c. search needs)
     loop-again
-    same-length-3
-    same-length-4
+    (λ c. c .before .loop .inv .lits-long)
+    (λ c. c .before .loop .inv .kinds-long)
     returns-2)

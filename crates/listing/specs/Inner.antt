@@ -1,0 +1,2 @@
+-- What the functions of a page say to each other.
+pub mod Pages

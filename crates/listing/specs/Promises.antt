@@ -1,0 +1,17 @@
+-- What a page promises of everything at entry, r being its answer and m′ the memory that it leaves; and that this leaves one answer and one content
+-- of each lent buffer.
+use Prim.Native.Nat.{ℕ}
+use mathlib.Core.Path.{_≡_}
+use mathlib.Core.List.{List}
+use lib.IntN.{ℤ}
+use Rattle.words.specs.Outcomes.{outcome, Same, same}
+use Rattle.listing.specs.declared.Paged.{Paged}
+use Rattle.listing.specs.Page.{PageMemory, pageOf}
+
+abbrev pub PagePromise : List ℤ → PageMemory → ℕ → List ℤ → ℕ → Paged → PageMemory → Type 0
+PagePromise b m start preferred budget r m′ = outcome r m′ ≡ pageOf b m start preferred budget
+
+-- [only]
+pub only-page : {r r′ : Paged} {m′ m″ : PageMemory} (b : List ℤ) (m : PageMemory) (start : ℕ) (preferred : List ℤ) (budget : ℕ)
+    → PagePromise b m start preferred budget r m′ → PagePromise b m start preferred budget r′ m″ → Same r r′ m′ m″
+only-page b m start preferred budget = same

@@ -1,0 +1,34 @@
+-- The one way out of a call: what the call below leaves, and its numbers.
+use mathlib.Core.Path.{_≡_, refl}
+use mathlib.Core.Bool.{Bool, true, false, cond}
+use mathlib.Core.List.{List}
+use Prim.Native.Nat.{ℕ}
+use lib.IntN.{ℤ}
+use lib.Seq.{sets}
+use mir.Val.{boolByte}
+use Rattle.words.specs.Outcomes.{Outcome, outcome}
+use Rattle.rules.specs.Due.{literal}
+use Rattle.session.specs.declared.Session.{Session}
+use Rattle.session.specs.declared.Answer.{Answer}
+use Rattle.session.specs.declared.Ran.{Ran}
+use Rattle.session.specs.Memory.{Memory}
+use Rattle.session.specs.Outcome.{stepOutcome}
+use Rattle.session.specs.Run.{runOf}
+use Rattle.mokihazureo.specs.Called.{lent, told, revision}
+
+-- a truth as a number
+pub bit : (p : Bool) → cond p 1 0 ≡ boolByte p
+bit true = refl
+bit false = refl
+
+pub tells : {M A : Type 0} (status : A → ℕ) (numbers : A → List ℕ) (a : List ℕ) {a′ : List ℕ} {m : M} {r : ℕ} {x : A} {o : Outcome M A} → outcome x m ≡ o → r ≡ status x → a′ ≡ sets a 0 (numbers x)
+    → outcome r (lent m a′) ≡ told status numbers a o
+tells status numbers a e p q = rw (← e, p, q)
+
+-- the session of the three numbers
+module _ {s t : Session} (same : s ≡ t) (b : List ℤ) (m : Memory) (seen : ℕ) where
+  pub step-of : {l k : ℤ} → l ≡ k → {o : Outcome Memory Answer} → o ≡ stepOutcome s b m (revision seen) (literal l) → o ≡ stepOutcome t b m (revision seen) (literal k)
+  step-of kept e = rw (← same, ← kept) e
+
+  pub run-of : (budget : ℕ) (preferred : List ℤ) {o : Outcome Memory Ran} → o ≡ runOf s b m (revision seen) budget preferred → o ≡ runOf t b m (revision seen) budget preferred
+  run-of budget preferred e = rw (← same) e
