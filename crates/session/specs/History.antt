@@ -15,7 +15,7 @@ use Rattle.formula.specs.Block.{refusal}
 use Rattle.formula.specs.Truth.{true?}
 use Rattle.theory.specs.Rules.{going, Path, stop}
 use Rattle.theory.specs.Laws.Moves.{path-snoc, good-none}
-use Rattle.theory.specs.Theorem.{any-order}
+use Rattle.theory.specs.Theorem.{accepted-any-order}
 use Rattle.rules.specs.declared.rule.State.{State}
 use Rattle.rules.specs.declared.rule.State.the-variants.{Open, Valid, Unsat}
 use Rattle.rules.specs.Due.{literal}
@@ -24,7 +24,7 @@ use Rattle.rules.specs.Laws.Wiped.{wiped-length}
 use Rattle.rules.specs.Laws.Good.{good-kept}
 use Rattle.rules.specs.Search.{standingOf}
 use Rattle.rules.specs.Inner.Ready.{KeptIn}
-use Rattle.rules.specs.Laws.Accepted.{prefix-length, accepted-bound, accepted-proper}
+use Rattle.rules.specs.Laws.Accepted.{prefix-length, accepted-bound}
 use Rattle.session.specs.declared.Revision.{Revision}
 use Rattle.session.specs.declared.Session.{Session}
 use Rattle.session.specs.declared.Answer.{Answer}
@@ -113,8 +113,7 @@ module _ (b : List ℤ) (block : refusal limits b ≡ 0) (first : ℕ) where
   demand : (d : Desk) → Invariant b first d → Demand b first d
   unfolding formulaOf
   demand d r =
-      let F = formulaOf b in
-      let any = any-order F (accepted-proper b block) in
+      let any = accepted-any-order limits b block in
       record {
         steps = rw (prefix-length b block) at (any .short (r .path));
         open-fewer = λ o. rw (prefix-length b block) at (any .fewer (rw o at (r .path)));

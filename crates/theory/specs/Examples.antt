@@ -75,7 +75,7 @@ caseJ-either : Wider caseJ (unitEither (caseJ .prefix)) 3 (going []) valid
 unfolding unitEither conflict inConflict isOpen allAssigned unassignedE unassignedU existential universal level levelOf change assigned literals without all any mem eqZ
 caseJ-either = also (p 1 ∷ []) (here refl) (p 1) refl (rule (decide-exists refl (p 2) refl refl) (rule (succeed refl refl refl) stopped))
 
--- ---- both signs in a clause: prefix -1, clause {1,-1}. True, whatever 1 is, yet "no true literal and no unassigned existential literal"
+-- ---- both signs in a clause: prefix -1, clause {1,-1}. True, whatever 1 is, yet the clause is in conflict
 abbrev bothIn : Formula
 bothIn = record { prefix = n 1 ∷ []; clauses = (p 1 ∷ n 1 ∷ []) ∷ [] }
 

@@ -9,7 +9,7 @@ use Rattle.formula.specs.Formula.{Formula, existential, universal}
 use Rattle.theory.specs.Record.{entry, Record, Assignment, trueIn, without}
 use Rattle.theory.specs.Tests.{conflict, unitOn, monotoneOpen, monotoneWide, isOpen, allAssigned}
 
--- "open, Valid or Unsat": an open state goes on from its record
+-- [session] a state: an open one goes on from its record
 pub data State : Type 0 where
   going : Record → State
   valid unsat : State
@@ -41,20 +41,20 @@ pub record Within (μ : MonotoneTest) : Type 0 where
 module _ (μ : MonotoneTest) (F : Formula) where
   -- [order.rules] A constructor for each rule: when it applies, with which literal, and what it makes of the record.
   pub data StepBy : Record → State → Type 0 where
-    -- "Cut the record at its last kind 1 entry and put the opposite there, kind 0."
+    -- [backtrack-exists]
     backtrack-exists : {r : Record} → Conflict F r → (a b : Record) (l : ℤ) → r ≡ a ++ entry 1 l ∷ b → without 1 b ≡ true → StepBy r (going (a ++ entry 0 (negℤ l) ∷ []))
-    -- "With no such entry: Fail, session Unsat."
+    -- [fail]
     fail : {r : Record} → Conflict F r → without 1 r ≡ true → StepBy r unsat
-    -- "Append l, kind 0." Without the levels, as document 001's slides print it, or on a universal literal, Unit gives wrong answers: cases I and
-    -- J, in Examples.
+    -- [unit] Without the levels, or on a universal literal, Unit gives wrong answers: [case.i] and [case.j], in Examples.
     unit : {r : Record} → Quiet F r → (C : List ℤ) → In C (F .clauses) → (l : ℤ) → unitOn (F .prefix) (trueIn r) C l ≡ true → StepBy r (going (r ++ entry 0 l ∷ []))
+    -- [monotone] where the test passes the literal
     monotone : {r : Record} → Quiet F r → (l : ℤ) → μ (F .prefix) (F .clauses) (trueIn r) l ≡ true → StepBy r (going (r ++ entry 0 l ∷ []))
-    -- "Append the proposed literal .. Kind 1 or 2 by quantifier."
+    -- [decide] any open literal, with the kind of its quantifier
     decide-exists : {r : Record} → Quiet F r → (l : ℤ) → isOpen (F .prefix) (trueIn r) l ≡ true → existential (F .prefix) l ≡ true → StepBy r (going (r ++ entry 1 l ∷ []))
     decide-forall : {r : Record} → Quiet F r → (l : ℤ) → isOpen (F .prefix) (trueIn r) l ≡ true → universal (F .prefix) l ≡ true → StepBy r (going (r ++ entry 2 l ∷ []))
-    -- "cutting at the last kind 2 entry and putting the opposite, kind 0"
+    -- [backtrack-forall]
     backtrack-forall : {r : Record} → Quiet F r → Full F r → (a b : Record) (l : ℤ) → r ≡ a ++ entry 2 l ∷ b → without 2 b ≡ true → StepBy r (going (a ++ entry 0 (negℤ l) ∷ []))
-    -- "With none: Succeed, session Valid."
+    -- [succeed]
     succeed : {r : Record} → Quiet F r → Full F r → without 2 r ≡ true → StepBy r valid
 
   -- a path of n rules
@@ -62,7 +62,7 @@ module _ (μ : MonotoneTest) (F : Formula) where
     stop : {s : State} → PathBy 0 s s
     take : {n : ℕ} {r : Record} {s t : State} → StepBy r s → PathBy n s t → PathBy (suc n) (going r) t
 
--- the specification's rules: its Monotone counts only clauses with no true literal
+-- [order.rules] the rules as they stand: [monotone] counts only clauses with no true literal
 abbrev pub Step : Formula → Record → State → Type 0
 Step = StepBy monotoneOpen
 

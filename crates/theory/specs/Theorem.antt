@@ -112,14 +112,14 @@ module _ {μ : MonotoneTest} (within : Within μ) (F : Formula) (ok : Proper F) 
       let e : suc (length (F .prefix)) - 0 ≡ suc (length (F .prefix)) = omega arith in
       rw (e, under-none F) at (any-order-from [] (good-none F) refl)
 
--- [order.ends] [order.right] The rules as the specification has them.
+-- [order.ends] [order.right] With the rules as they stand.
 pub any-order : (F : Formula) → Proper F → AnyOrder monotoneOpen F [] (2 ^ suc (length (F .prefix))) (true? F)
 any-order = any-order-by open-within
 
--- the same with a Monotone that counts all clauses
+-- [order.monotone] With a Monotone that counts all clauses.
 pub any-order-whole : (F : Formula) → Proper F → AnyOrder monotone F [] (2 ^ suc (length (F .prefix))) (true? F)
 any-order-whole = any-order-by whole-within
 
--- so of the formula of every block that the check accepts
+-- [order] So of the formula of every block that the check accepts.
 pub accepted-any-order : (L : Limits) (b : List ℤ) → refusal L b ≡ 0 → AnyOrder monotoneOpen (formulaOf b) [] (2 ^ suc (length (formulaOf b .prefix))) (true? (formulaOf b))
 accepted-any-order L b h = any-order (formulaOf b) (proper L b h)
