@@ -1,4 +1,4 @@
--- [demand.1.leaves] [table.leaves] A refused call answers its number and leaves all memory as it was; and some calls that are always refused.
+-- [demand.1] [demand.1.leaves] [table.leaves] A refused call answers its number and leaves all memory as it was; and some calls that are always refused.
 -- By the two cases of the number, 0 and not 0.
 use mathlib.Core.Path.{_≡_, refl, sym}
 use mathlib.Core.Bool.{true}

@@ -7,7 +7,7 @@ use lib.IntN.{ℤ, negℤ}
 use Rattle.words.specs.Lists.{all}
 use Rattle.words.specs.Words.{mem}
 
--- [kinds] a literal with its kind: forced, or a decision on a variable of either quantifier
+-- [kinds] a literal and its kind: 0 forced, 1 an existential decision, 2 a universal one
 pub record Entry : Type 0 where
   pub literal : ℤ
   pub kind : ℕ

@@ -9,7 +9,7 @@ use Rattle.formula.specs.Formula.{Formula, existential, universal}
 use Rattle.theory.specs.Record.{entry, Record, Assignment, trueIn, without}
 use Rattle.theory.specs.Tests.{conflict, unitOn, monotoneOpen, monotoneWide, isOpen, allAssigned}
 
--- [session] a state: an open one goes on from its record
+-- open, Valid or Unsat: an open state goes on from its record
 pub data State : Type 0 where
   going : Record → State
   valid unsat : State
@@ -45,11 +45,11 @@ module _ (μ : MonotoneTest) (F : Formula) where
     backtrack-exists : {r : Record} → Conflict F r → (a b : Record) (l : ℤ) → r ≡ a ++ entry 1 l ∷ b → without 1 b ≡ true → StepBy r (going (a ++ entry 0 (negℤ l) ∷ []))
     -- [fail]
     fail : {r : Record} → Conflict F r → without 1 r ≡ true → StepBy r unsat
-    -- [unit] Without the levels, or on a universal literal, Unit gives wrong answers: [case.i] and [case.j], in Examples.
+    -- [unit] Without the levels, or on a universal literal, it would give wrong answers: cases I and J, in Examples.
     unit : {r : Record} → Quiet F r → (C : List ℤ) → In C (F .clauses) → (l : ℤ) → unitOn (F .prefix) (trueIn r) C l ≡ true → StepBy r (going (r ++ entry 0 l ∷ []))
     -- [monotone] where the test passes the literal
     monotone : {r : Record} → Quiet F r → (l : ℤ) → μ (F .prefix) (F .clauses) (trueIn r) l ≡ true → StepBy r (going (r ++ entry 0 l ∷ []))
-    -- [decide] any open literal, with the kind of its quantifier
+    -- [decide] any open literal; kind 1 or 2, by the quantifier
     decide-exists : {r : Record} → Quiet F r → (l : ℤ) → isOpen (F .prefix) (trueIn r) l ≡ true → existential (F .prefix) l ≡ true → StepBy r (going (r ++ entry 1 l ∷ []))
     decide-forall : {r : Record} → Quiet F r → (l : ℤ) → isOpen (F .prefix) (trueIn r) l ≡ true → universal (F .prefix) l ≡ true → StepBy r (going (r ++ entry 2 l ∷ []))
     -- [backtrack-forall]

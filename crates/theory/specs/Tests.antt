@@ -15,34 +15,34 @@ unassignedE p ρ x = existential p x && not (assigned ρ x)
 unfoldable pub unassignedU : List ℤ → Assignment → ℤ → Bool
 unassignedU p ρ x = universal p x && not (assigned ρ x)
 
--- [conflict] of a clause: unassigned universal literals do not save it
+-- [conflict] a clause in conflict
 unfoldable pub inConflict : List ℤ → Assignment → List ℤ → Bool
 inConflict p ρ C = not (any ρ C) && not (any (unassignedE p ρ) C)
 
--- some clause is in conflict
+-- [due] some clause is
 unfoldable pub conflict : List ℤ → List (List ℤ) → Assignment → Bool
 conflict p m ρ = any (inConflict p ρ) m
 
--- [unit] x is no other unassigned existential literal than l
+-- [unit] no unassigned existential literal but l: x is no other
 abbrev pub isOnly : List ℤ → Assignment → ℤ → ℤ → Bool
 isOnly p ρ l x = not (unassignedE p ρ x) || eqZ x l
 
--- [unit] x is above the level of l, if it is an unassigned universal literal
+-- [unit] unassigned universal literals are above the level of l: so x, if it is one
 abbrev pub isDeeper : List ℤ → Assignment → ℤ → ℤ → Bool
 isDeeper p ρ l x = not (unassignedU p ρ x) || ltb (level p l) (level p x)
 
--- [unit] the clause C gives l
+-- [unit] no true literal, l as the one unassigned existential literal, and the unassigned universal ones above its level
 unfoldable pub unitOn : List ℤ → Assignment → List ℤ → ℤ → Bool
 unitOn p ρ C l = not (any ρ C) && (mem l C && unassignedE p ρ l) && all (isOnly p ρ l) C && all (isDeeper p ρ l) C
 
--- l stands in some of the clauses m; [monotone.absent] it does, and its opposite in none
+-- l stands in some clause; [monotone] it does and its opposite does not, so [monotone.absent] a variable that stands in none has no sign
 unfoldable pub occurs : List (List ℤ) → ℤ → Bool
 occurs m l = any (mem l) m
 
 unfoldable pub oneSign : List (List ℤ) → ℤ → Bool
 oneSign m l = occurs m l && not (occurs m (negℤ l))
 
--- l is what a variable with one sign in the clauses m takes: its sign if existential, the opposite if universal
+-- [monotone] an existential literal as it stands in the clauses m, a universal one as the opposite
 unfoldable pub monotone : List ℤ → List (List ℤ) → Assignment → ℤ → Bool
 monotone p m ρ l = (unassignedE p ρ l && oneSign m l) || (unassignedU p ρ l && oneSign m (negℤ l))
 
@@ -61,11 +61,11 @@ absent m ρ l = all (λ C. any ρ C || not (mem l C)) m
 unfoldable pub monotoneWide : List ℤ → List (List ℤ) → Assignment → ℤ → Bool
 monotoneWide p m ρ l = (unassignedE p ρ l && absent m ρ (negℤ l)) || (unassignedU p ρ l && absent m ρ l)
 
--- the variable that q binds is assigned, or of no lower level than l's
+-- [open] all variables of lower levels are assigned: so the one that q binds
 abbrev pub notBelow : List ℤ → Assignment → ℤ → ℤ → Bool
 notBelow p ρ l q = assigned ρ q || leb (level p l) (level p q)
 
--- [open] of a literal
+-- [open] an open literal: unassigned, with every variable of a lower level assigned
 unfoldable pub isOpen : List ℤ → Assignment → ℤ → Bool
 isOpen p ρ l = (unassignedE p ρ l || unassignedU p ρ l) && all (notBelow p ρ l) p
 

@@ -1,4 +1,4 @@
--- The question that a variable asks of the answers for its two literals: `asked`, one of the two or both. By cases.
+-- The question that a variable asks of the answers for its two literals: `asked`, one of its two values or both. By cases.
 use mathlib.Core.Path.{_≡_, refl, sym}
 use mathlib.Core.Logic.{_⊎_, inl, inr}
 use mathlib.Core.Bool.{Bool, true, false, and-comm, or-comm}
