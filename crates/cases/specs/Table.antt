@@ -50,6 +50,15 @@ caseA = record {
   state = Unsat;
 }
 
+-- [case.a.monotone]
+unfoldable pub caseA-monotone : Case
+caseA-monotone = record {
+  block = blockA;
+  calls = step 0 (pos 1) ∷ step 1 (neg 2) ∷ step 2 (pos 0) ∷ [];
+  said = decide (pos 1) ∷ decide (neg 2) ∷ monotone (pos 3) ∷ [];
+  state = Open;
+}
+
 -- [case.b]
 unfoldable pub caseB : Case
 caseB = record {
@@ -174,4 +183,4 @@ caseM v c t n = record {
 
 unfoldable pub table : List Case
 table =
-    caseA ∷ caseB ∷ caseC ∷ caseD ∷ caseE ∷ caseF ∷ caseG ∷ caseH ∷ caseI ∷ caseJ ∷ caseK ∷ caseL ∷ caseL-calls ∷ caseM 256 1024 4096 4 ∷ caseM 257 1024 4096 2 ∷ caseM 256 1025 4096 2 ∷ caseM 256 1024 4097 2 ∷ []
+    caseA ∷ caseA-monotone ∷ caseB ∷ caseC ∷ caseD ∷ caseE ∷ caseF ∷ caseG ∷ caseH ∷ caseI ∷ caseJ ∷ caseK ∷ caseL ∷ caseL-calls ∷ caseM 256 1024 4096 4 ∷ caseM 257 1024 4096 2 ∷ caseM 256 1025 4096 2 ∷ caseM 256 1024 4097 2 ∷ []
