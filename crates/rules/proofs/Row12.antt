@@ -18,13 +18,13 @@ use Rattle.formula.specs.Inner.Named.{Named}
 use Rattle.formula.specs.Laws.Named.{all-named}
 use Rattle.formula.specs.Laws.Permuted.{quantifier}
 use Rattle.theory.specs.Record.{entry}
-use Rattle.rules.specs.Trail.{Trail, recordOf}
+use Rattle.rules.specs.Trail.{Trail, recordOf, noEntry}
 use Rattle.rules.specs.Check.{badKind, badEntries, badRecord}
 use Rattle.rules.specs.Inner.Ready.{Bound, Room}
 use Rattle.rules.specs.Inner.Tables.{places, Quantifiers}
 use Rattle.rules.specs.Inner.Buffers.{KindsLent, wrongKind}
 use Rattle.rules.specs.Laws.VariablesMean.{quantifier-in}
-use Rattle.rules.specs.Laws.Records.{noEntry, room-less, record-length, record-get, record-literals}
+use Rattle.rules.specs.Laws.Records.{room-less, record-length, record-get, record-literals}
 
 -- ---- kinds
 -- the table tells a variable's quantifier, since it has one only

@@ -17,11 +17,11 @@ use Rattle.rules.specs.declared.rule.Move.the-variants.{Append, Flip, En
 use Rattle.rules.specs.declared.rule.Rule.{Rule}
 use Rattle.rules.specs.declared.rule.Rule.the-variants.{BacktrackExists, Fail, Unit, Monotone, Decide, BacktrackForall, Succeed}
 
--- "Append l", with a kind
+-- an entry more, with a kind
 abbrev pub append : ℕ → ℤ → Search → Search
 append k l s = search (put (s .trail) (s .count) (entry k l)) (s .count + 1) Open
 
--- "Cut the record at its last kind 1 entry and put the opposite there, kind 0": at the entry i
+-- the entry i becomes its opposite, with kind 0, and those after it go [backtrack-exists] [backtrack-forall] [cut.wipes]
 abbrev pub flip : ℕ → Search → Search
 flip i s =
     search
@@ -29,19 +29,19 @@ flip i s =
     (i + 1)
     Open
 
--- "Fail and Succeed leave the record."
+-- the search has ended, and the record stands as it was [ended.leaves]
 abbrev pub ended : State → Search → Search
 ended t s = search (s .trail) (s .count) t
 
--- "Kind 1 or 2 by quantifier."
+-- the kind of a decision, by the quantifier of its variable [decide] [kinds]
 abbrev pub kindOf : List ℤ → ℤ → ℕ
 kindOf p l = cond (universal p l) 2 1
 
--- "the proposed literal, or for proposal 0 the first unassigned variable in prefix order, true"
+-- the proposed literal, or for the proposal 0 the one given, which is the first unassigned variable's [decide.zero]
 abbrev pub chosen : ℤ → ℤ → ℤ
 chosen proposal first = cond (eqb (natAbs proposal) 0) first proposal
 
--- what a rule does, with the proposal that Decide is to take
+-- what a rule does, with the proposal that Decide is to take: forced entries have kind 0 [kinds], and two rules end the search [fail] [succeed]
 abbrev pub moveOf : List ℤ → Rule → ℤ → Move
 moveOf p (BacktrackExists i c) l = Flip i
 moveOf p (Fail c) l = End Unsat

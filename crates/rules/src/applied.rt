@@ -2,10 +2,9 @@
 ghost use mathlib.Core.Path.{_≡_};
 ghost use Rattle.formula.specs.Formula.{prefixOf};
 ghost use Rattle.rules.specs.Trail.{trail};
-ghost use Rattle.rules.specs.Search.{search, reached};
 ghost use Rattle.rules.specs.Apply.{kindOf, moveOf};
+ghost use Rattle.rules.specs.Promises.{ApplyPromise};
 ghost use Rattle.rules.specs.Inner.Ready.{Bound, OnBlock, Fitting};
-ghost use Rattle.rules.specs.declared.rule.State.the-variants.{Open};
 ghost use Rattle.rules.specs.Apply as spec;
 ghost use Rattle.rules.specs.Due as due;
 use crate::buffers::append;
@@ -80,7 +79,7 @@ pub fn apply(
 ) -> Reached
     requires { ⌜ OnBlock (now block) (trail (now lits) (now kinds)) count ⌝ }
     requires { ⌜ Fitting (prefixOf (now block)) count rule ⌝ }
-    ensures { λ r. ⌜ reached r (trail (now (lits .exit)) (now (kinds .exit))) ≡ spec.apply (prefixOf (now (block .entry))) rule (proposal .0) (search (trail (now (lits .entry)) (now (kinds .entry))) count Open) ⌝ }
+    ensures { λ r. ⌜ ApplyPromise (now (block .entry)) (trail (now (lits .entry)) (now (kinds .entry))) count rule proposal r (trail (now (lits .exit)) (now (kinds .exit))) ⌝ }
 {
     match move_of(formula::prefix(block), rule, proposal) {
         Move::Append { kind, literal } => append(lits, kinds, count, kind, literal),

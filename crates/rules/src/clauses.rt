@@ -136,7 +136,7 @@ impl Look {
     }
 }
 
-// The lowest unit clause and its literal. The search stops at the first clause that decides it.
+// The lowest unit clause and its literal.
 pub(crate) fn lowest_unit(
     ends: &[i32],
     literals: &[i32],
@@ -149,6 +149,7 @@ pub(crate) fn lowest_unit(
     let mut found = UnitFound::NoUnit;
     let mut from = 0;
     let mut c = 0;
+    // [unit.search] Upwards, and no further than the clause that is found.
     'search: while c < ends.len() {
         let end = words::size_at(ends, c);
         let mut look = Look {

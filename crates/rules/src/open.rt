@@ -2,12 +2,8 @@
 ghost use mathlib.Core.Path.{_≡_};
 ghost use Prim.Native.Nat.{_≤_};
 ghost use lib.IntN.{pos};
-ghost use lib.ListN.{take};
 ghost use Rattle.formula.specs.Limits.{limits};
-ghost use Rattle.formula.specs.Formula.{prefixOf};
-ghost use Rattle.theory.specs.Record.{among};
-ghost use Rattle.theory.specs.Tests.{isOpen};
-ghost use Rattle.rules.specs.Preferred.{firstOpen};
+ghost use Rattle.rules.specs.Promises.{IsOpenPromise, FirstOpenPromise};
 ghost use Rattle.rules.specs.Inner.Ready.{Bound, HeldOn};
 ghost use Rattle.rules.specs.Inner.Variables.{lowestIn, openIn, preferredIn};
 ghost use Rattle.rules.specs.Due as due;
@@ -56,7 +52,7 @@ fn open_variable(
 // Whether a literal is open over the first entries of a record.
 pub fn is_open(block: &[i32], lits: &[i32], count: usize, literal: Literal) -> bool
     requires { ⌜ HeldOn (now block) (now lits) count ⌝ }
-    ensures { λ r. ⌜ r ≡ isOpen (prefixOf (now (block .entry))) (among (take count (now (lits .entry)))) (literal .0) ⌝ }
+    ensures { λ r. ⌜ IsOpenPromise (now (block .entry)) (now (lits .entry)) count literal r ⌝ }
 {
     let prefix = formula::prefix(block);
     let values = tables::values_of(lits, count);
@@ -91,7 +87,7 @@ fn first_in(
 // The first open literal of a list of any content, 0 if it has none.
 pub fn first_open(block: &[i32], lits: &[i32], count: usize, list: &[i32]) -> Literal
     requires { ⌜ HeldOn (now block) (now lits) count ⌝ }
-    ensures { λ r. ⌜ r ≡ due.literal (firstOpen (prefixOf (now (block .entry))) (among (take count (now (lits .entry)))) (now (list .entry))) ⌝ }
+    ensures { λ r. ⌜ FirstOpenPromise (now (block .entry)) (now (lits .entry)) count (now (list .entry)) r ⌝ }
 {
     let prefix = formula::prefix(block);
     let values = tables::values_of(lits, count);

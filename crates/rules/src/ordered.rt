@@ -15,18 +15,17 @@ ghost use mathlib.Core.Path.{_≡_};
 ghost use mathlib.Core.List.{List};
 ghost use Prim.Native.Nat.{ℕ, _≤_};
 ghost use lib.ListN.{length};
-ghost use Rattle.formula.specs.Formula.{formulaOf};
 ghost use Rattle.theory.specs.Record.{Record, trueIn};
 ghost use Rattle.rules.specs.Due.{dueConflict, dueUnit, dueMonotone, dueDecide};
-ghost use Rattle.rules.specs.Trail.{trail, recordOf};
+ghost use Rattle.rules.specs.Trail.{trail};
+ghost use Rattle.rules.specs.Promises.{DuePromise};
 ghost use Rattle.rules.specs.Inner.Ready.{formula, Bound, Ready, OnBlock};
 ghost use Rattle.rules.specs.Inner.Tabled.{Sorts, Tabled};
-ghost use Rattle.rules.specs.Due as spec;
 
 // The due rule of a record.
 pub fn due(block: &[i32], lits: &[i32], kinds: &[u8], count: usize) -> Rule
     requires { ⌜ OnBlock (now block) (trail (now lits) (now kinds)) count ⌝ }
-    ensures { λ r. ⌜ r ≡ spec.due (formulaOf (now (block .entry))) (recordOf (trail (now (lits .entry)) (now (kinds .entry))) count) ⌝ }
+    ensures { λ r. ⌜ DuePromise (now (block .entry)) (trail (now (lits .entry)) (now (kinds .entry))) count r ⌝ }
 {
     let prefix = formula::prefix(block);
     let ends = formula::ends(block);

@@ -1,9 +1,9 @@
 // Row 12, over the whole record: linear in the record and the prefix.
 ghost use mathlib.Core.Path.{_≡_};
 ghost use Rattle.words.specs.Lists.{any};
-ghost use Rattle.formula.specs.Formula.{prefixOf};
 ghost use Rattle.rules.specs.Trail.{trail, recordOf};
-ghost use Rattle.rules.specs.Check.{badKind, badRecord};
+ghost use Rattle.rules.specs.Check.{badKind};
+ghost use Rattle.rules.specs.Promises.{BadRecordPromise};
 ghost use Rattle.rules.specs.Inner.Ready.{OnBuffers};
 ghost use Rattle.rules.specs.Inner.Buffers.{KindsLent, wrongKind};
 use crate::tables::values_of;
@@ -41,7 +41,7 @@ fn bad_kinds(prefix: &[i32], lits: &[i32], kinds: &[u8], count: usize) -> bool
 // Whether the record is turned away.
 pub fn bad_record(block: &[i32], lits: &[i32], kinds: &[u8], count: usize) -> bool
     requires { ⌜ OnBuffers (now block) (trail (now lits) (now kinds)) ⌝ }
-    ensures { λ r. ⌜ r ≡ badRecord (prefixOf (now (block .entry))) (trail (now (lits .entry)) (now (kinds .entry))) count ⌝ }
+    ensures { λ r. ⌜ BadRecordPromise (now (block .entry)) (trail (now (lits .entry)) (now (kinds .entry))) count r ⌝ }
 {
     let prefix = formula::prefix(block);
     let n = prefix.len();

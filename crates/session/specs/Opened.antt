@@ -16,7 +16,7 @@ use Rattle.session.specs.Refusals.{openRefusal}
 use Rattle.session.specs.Refused.{unless-to}
 use Rattle.session.specs.Outcome.{session, openOutcome}
 use Rattle.rules.specs.Laws.Untouched.{wiped-blank, wiped-other}
-use Rattle.rules.specs.Laws.Records.{entryAt, noEntry}
+use Rattle.rules.specs.Trail.{entryAt, noEntry}
 
 pub record Fresh (b : List ℤ) (rev : Revision) (s : Session) (m m′ : Memory) : Type 0 where
   -- [session.fresh]

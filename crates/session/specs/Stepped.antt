@@ -11,7 +11,7 @@ use Rattle.theory.specs.Rules.{Step}
 use Rattle.rules.specs.declared.rule.State.the-variants.{Open}
 use Rattle.rules.specs.Due.{due}
 use Rattle.rules.specs.Search.{Search, standingOf}
-use Rattle.rules.specs.Trail.{recordOf}
+use Rattle.rules.specs.Trail.{recordOf, entryAt, noEntry}
 use Rattle.rules.specs.Apply.{apply}
 use Rattle.rules.specs.Inner.Ready.{KeptIn}
 use Rattle.rules.specs.Laws.Untouched.{apply-lengths, Elsewhere, apply-untouched, apply-zeros, apply-ended}
@@ -24,7 +24,6 @@ use Rattle.session.specs.Refusals.{stepRefusal}
 use Rattle.session.specs.Laws.Accepted.{step-guarded}
 use Rattle.session.specs.Refused.{unless-to}
 use Rattle.session.specs.Outcome.{moved, searchOf, stepped, stepOutcome}
-use Rattle.rules.specs.Laws.Records.{entryAt, noEntry}
 
 -- from a session s and its memory to the next, by an accepted step with the proposal l
 pub record Stepped (b : List ℤ) (l : ℤ) (s s′ : Session) (m m′ : Memory) : Type 0 where

@@ -37,7 +37,7 @@ byStatus (suc zero) f t e u = t
 byStatus (suc (suc zero)) f t e u = e
 byStatus (suc (suc (suc n))) f t e u = u
 
--- "no true literal and no unassigned existential literal", by the literals' status
+-- a literal that keeps its clause from conflict, and the clause in conflict, by the literals' status [conflict]
 unfoldable pub keepsBy : (ℤ → ℕ) → ℤ → Bool
 keepsBy st x = eqb (st x) 1 || eqb (st x) 2
 

@@ -100,7 +100,7 @@ module _ (p es ls : List ℤ) (ready : Ready p es ls) where
           go (inr h) = rw (List·getD-eq-default ls (pos 0) (ltb-false i (length ls) h)) zero-le
 
   module _ (ρ : Assignment) (statuses : List ℕ) (sorting : Sorts p ρ statuses) where
-    -- 1: "Some clause in conflict"
+    -- 1: the lowest clause in conflict
     pub conflict-ready : lowest (conflictBy (statusIn statuses)) 0 (clausesFrom ls 0 es) ≡ lowest (inConflict p ρ) 0 (clausesFrom ls 0 es)
     conflict-ready = lowest-conflict-means p ρ _ _ (λ C i x j. sorting x (literal-named (clauses-in ls 0 es i j)))
 
@@ -108,7 +108,7 @@ module _ (p es ls : List ℤ) (ready : Ready p es ls) where
     pub untrue-ready : untrueOf (trueBy (statusIn statuses)) (clausesFrom ls 0 es) ≡ untrueOf ρ (clausesFrom ls 0 es)
     untrue-ready = untrue-means p ρ _ _ (λ C i x j. sorting x (literal-named (clauses-in ls 0 es i j)))
 
-    -- 2: "Unit"
+    -- 2: the lowest unit clause
     pub unit-ready : (levels : List ℕ) → Levels p levels → lowestUnitBy (statusIn statuses) (levelBy levels) 0 (clausesFrom ls 0 es) ≡ lowestUnit p ρ (clausesFrom ls 0 es)
     unfolding level
     unit-ready levels lvls = lowest-unit-means p ρ _ _ _ (λ C i x j. meant x (clauses-in ls 0 es i j))

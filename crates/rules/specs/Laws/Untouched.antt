@@ -1,5 +1,5 @@
--- Which places of the two buffers a rule writes. "A cut sets the places from the new to the old length to 0 in both buffers." "No other place
--- is written": an entry more goes to the end of the record, and a cut to its own place, which is the new end, and those up to the old length.
+-- Which places of the two buffers a rule writes: an entry more goes to the end of the record, and a cut to its own place, which is the new end,
+-- and to those up to the old length.
 use Prim.Native.Nat.{ℕ, _+_, _≤_, _<_}
 use mathlib.Core.Path.{_≡_, refl, _∙_}
 use mathlib.Core.Logic.{_⊎_, inl, inr}
@@ -9,11 +9,10 @@ use lib.IntN.{ℤ, pos}
 use lib.ListN.{length, length-set}
 use lib.Seq.{getD-set-other}
 use Rattle.theory.specs.Record.{Entry, entry}
-use Rattle.rules.specs.Trail.{Trail, put, wipedTrail}
+use Rattle.rules.specs.Trail.{Trail, noEntry, entryAt, put, wipedTrail}
 use Rattle.rules.specs.Search.{Search}
 use Rattle.rules.specs.Apply.{moveOf, moved, apply}
 use Rattle.rules.specs.Laws.Wiped.{wiped-length, wiped-inside, wiped-outside}
-use Rattle.rules.specs.Laws.Records.{noEntry, entryAt}
 use Rattle.rules.specs.declared.rule.State.the-variants.{Open}
 use Rattle.rules.specs.declared.rule.Rule.{Rule}
 use Rattle.rules.specs.declared.rule.Move.{Move}
@@ -43,13 +42,13 @@ not-cut j n i (inr h) = inr (h .0)
 
 -- ---- any move
 module _ (t : Search) (j : ℕ) where
-  -- but for the last entry and the places that are set to 0 nothing is written
+  -- but for the last entry and the places that are set to 0 nothing is written [writes.nothing-else]
   moved-untouched : (m : Move) → Elsewhere j (t .count) (moved m t .count) → entryAt (moved m t .trail) j ≡ entryAt (t .trail) j
   moved-untouched (Append k x) h = put-other (t .trail) (t .count) j (entry k (x .0)) (not-last j (t .count) (t .count) h)
   moved-untouched (Flip i) h = put-other (wipedTrail (t .trail) (i + 1) (t .count)) i j _ (not-last j (t .count) i h) ∙ wiped-other (t .trail) (i + 1) (t .count) j (not-cut j (t .count) i h)
   moved-untouched (End s) h = refl
 
-  -- from the new to the old length both buffers are 0
+  -- from the new to the old length both buffers are 0 [cut.wipes]
   moved-zeros : (m : Move) → moved m t .count ≤ j → j < t .count → entryAt (moved m t .trail) j ≡ noEntry
   moved-zeros (Append k x) h l = absurd (omega arith)
   moved-zeros (Flip i) h l = put-other (wipedTrail (t .trail) (i + 1) (t .count)) i j _ (λ e. omega arith) ∙ wiped-blank (t .trail) (i + 1) (t .count) j h l
@@ -61,7 +60,7 @@ moved-lengths (Append k x) t = (simp length-set, simp length-set)
 moved-lengths (Flip i) t = (simp (length-set, wiped-length), simp (length-set, wiped-length))
 moved-lengths (End s) t = (refl, refl)
 
--- "Fail and Succeed leave the record."
+-- a rule that ends the search leaves the record [ended.leaves]
 moved-ended : (m : Move) (t : Search) → (moved m t .state ≡ Open → ⊥) → (moved m t .trail ≡ t .trail) × (moved m t .count ≡ t .count)
 moved-ended (Append k x) t h = absurd (h refl)
 moved-ended (Flip i) t h = absurd (h refl)
