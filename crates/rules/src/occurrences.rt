@@ -16,12 +16,12 @@ fn has_true(clause: &[i32], statuses: &[u8; LITERAL_PLACES]) -> bool
     requires { ⌜ Placed (now clause) ⌝ }
     ensures { λ r. ⌜ r ≡ any (trueBy (statusIn (now (statuses .entry)))) (now (clause .entry)) ⌝ }
 {
-    let mut i = 0;
-    while i < clause.len() {
-        if status_at(clause, i, statuses) == 1 {
+    let mut at = 0;
+    while at < clause.len() {
+        if status_at(clause, at, statuses) == 1 {
             return true;
         }
-        i += 1;
+        at += 1;
     }
     false
 }
@@ -41,11 +41,7 @@ fn mark(clause: &[i32], occurs: &mut [u8; LITERAL_PLACES])
 }
 
 // Marks the literals of a clause unless it has a true one.
-fn count(
-    clause: &[i32],
-    statuses: &[u8; LITERAL_PLACES],
-    occurs: &mut [u8; LITERAL_PLACES],
-)
+fn count(clause: &[i32], statuses: &[u8; LITERAL_PLACES], occurs: &mut [u8; LITERAL_PLACES])
     requires { ⌜ Placed (now clause) ⌝ }
     requires { ⌜ length (now occurs) ≡ literalPlaces ⌝ }
     ensures { λ r. ⌜ Counted (trueBy (statusIn (now (statuses .entry)))) (now (clause .entry)) (now (occurs .entry)) (now (occurs .exit)) ⌝ }

@@ -13,27 +13,27 @@ use Rattle.rules.proofs.occurrences.has_true.Statement.{statement}
 use Rattle.rules.proofs.occurrences.has_true.Tie as tie
 
 abbrev Inv-loop : tie.InvT-loop
-Inv-loop clause statuses i₀ i =
-    (i ≤ length clause) × (any (trueBy (statusIn statuses)) (drop i clause) ≡ any (trueBy (statusIn statuses)) clause)
+Inv-loop clause statuses at₀ at =
+    (at ≤ length clause) × (any (trueBy (statusIn statuses)) (drop at clause) ≡ any (trueBy (statusIn statuses)) clause)
 
 abbrev μ-loop : tie.MeasureT-loop
-μ-loop clause statuses i₀ i = length clause - i
+μ-loop clause statuses at₀ at = length clause - at
 
 status-at-requires : tie.Need-status-at-requires Inv-loop μ-loop
-status-at-requires c κs = c .before .before .pre (c .before .loop .i)
+status-at-requires c κs = c .before .before .pre (c .before .loop .at)
 
 returns : tie.Need-returns Inv-loop μ-loop
 returns c =
     let l = c .before .before .before .loop in
-    sym (any-found _ _ (l .i) (pos 0) (c .before .before .loop-test .taken) (eq-eqb _ _ (sym (c .before .status-at .ensures) ∙ c .if1 .taken))) ∙ l .inv .1
+    sym (any-found _ _ (l .at) (pos 0) (c .before .before .loop-test .taken) (eq-eqb _ _ (sym (c .before .status-at .ensures) ∙ c .if1 .taken))) ∙ l .inv .1
 
 loop-again : tie.Need-loop-again Inv-loop μ-loop
 loop-again c =
     let l = c .before .before .before .loop in
-    (omega arith, any-past _ _ (l .i) (pos 0) (c .before .before .loop-test .taken) (ne-eqb _ _ (λ z. c .if1 .left (c .before .status-at .ensures ∙ z))) ∙ l .inv .1)
+    (omega arith, any-past _ _ (l .at) (pos 0) (c .before .before .loop-test .taken) (ne-eqb _ _ (λ z. c .if1 .left (c .before .status-at .ensures ∙ z))) ∙ l .inv .1)
 
 returns-2 : tie.Need-returns-2 Inv-loop μ-loop
-returns-2 c = sym (any-ended _ _ (c .before .loop .i) (c .loop-test .left)) ∙ c .before .loop .inv .1
+returns-2 c = sym (any-ended _ _ (c .before .loop .at) (c .loop-test .left)) ∙ c .before .loop .inv .1
 
 pub has-true-spec : {M : Type 1} → statement M
 has-true-spec =
