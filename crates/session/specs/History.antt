@@ -1,5 +1,5 @@
 -- [demand.2] Any history of calls from an accepted opening on. On every desk that they lead to, the accepted steps are a path of the theory's rules
--- from the empty record to the search that stands there; what the theory says of such paths is said of the desk.
+-- from the empty record to the search that stands there; what [order] says of every such path is said of the desk.
 use Prim.Native.Nat.{ℕ, zero, suc, _+_, _-_, _^_, _≤_, _<_}
 use mathlib.Core.Path.{_≡_, refl, ap}
 use mathlib.Core.Logic.{inl}
@@ -15,16 +15,16 @@ use Rattle.formula.specs.Block.{refusal}
 use Rattle.formula.specs.Truth.{true?}
 use Rattle.theory.specs.Rules.{going, Path, stop}
 use Rattle.theory.specs.Laws.Moves.{path-snoc, good-none}
-use Rattle.theory.specs.Theorem.{sound-formula, finite-formula, never-stuck}
+use Rattle.theory.specs.Theorem.{accepted-any-order}
 use Rattle.rules.specs.declared.rule.State.{State}
 use Rattle.rules.specs.declared.rule.State.the-variants.{Open, Valid, Unsat}
 use Rattle.rules.specs.Due.{literal}
 use Rattle.rules.specs.Trail.{recordOf, wipedTrail}
 use Rattle.rules.specs.Laws.Wiped.{wiped-length}
 use Rattle.rules.specs.Laws.Good.{good-kept}
-use Rattle.rules.specs.Search.{standingOf, recordIn}
+use Rattle.rules.specs.Search.{standingOf}
 use Rattle.rules.specs.Inner.Ready.{KeptIn}
-use Rattle.rules.specs.Laws.Accepted.{prefix-length, accepted-bound, accepted-proper}
+use Rattle.rules.specs.Laws.Accepted.{prefix-length, accepted-bound}
 use Rattle.session.specs.declared.Revision.{Revision}
 use Rattle.session.specs.declared.Session.{Session}
 use Rattle.session.specs.declared.Answer.{Answer}
@@ -113,14 +113,13 @@ module _ (b : List ℤ) (block : refusal limits b ≡ 0) (first : ℕ) where
   demand : (d : Desk) → Invariant b first d → Demand b first d
   unfolding formulaOf
   demand d r =
-      let F = formulaOf b in
-      let ok = accepted-proper b block in
+      let any = accepted-any-order limits b block in
       record {
-        steps = rw (prefix-length b block) at (finite-formula F (r .path));
-        open-fewer = λ o. rw (prefix-length b block) at (finite-formula F (path-snoc F (rw o at (r .path)) (never-stuck F ok (recordIn (searchAt d)) .1)));
+        steps = rw (prefix-length b block) at (any .short (r .path));
+        open-fewer = λ o. rw (prefix-length b block) at (any .fewer (rw o at (r .path)));
         revision = r .revision;
-        valid-true = λ e. sound-formula F ok true (rw e at (r .path));
-        unsat-false = λ e. sound-formula F ok false (rw e at (r .path));
+        valid-true = λ e. any .right true (rw e at (r .path));
+        unsat-false = λ e. any .right false (rw e at (r .path));
         accepted = λ o h.
             let e = step-passes _ _ _ _ (guard d r o) h (literal (pos 0)) (inl refl) (inl refl) in
             (_, ap (λ (o : Outcome Memory Answer). o .answer) (accepted-is _ _ _ _ _ e));
@@ -169,9 +168,16 @@ module _ (b : List ℤ) (m : Memory) (rev : Revision) (s : Session) (a : openOut
         revision = omega arith;
       })
 
+  kept-after : (calls : List Call) → Invariant b (rev .0) (play b (freshDesk b m rev s) calls)
+  kept-after calls = play-holds b (rev .0) calls (freshDesk b m rev s) begun
+
+  -- [order.rules] the accepted steps of a history, exactly as many as it counts, are one path of the rules from the empty record
+  pub history-path : (calls : List Call) → let d = play b (freshDesk b m rev s) calls in Path (formulaOf b) (d .steps) (going []) (standingOf (searchAt d))
+  history-path calls = kept-after calls .path
+
   -- [demand.2.history] whatever is called
   pub any-history : (calls : List Call) → Demand b (rev .0) (play b (freshDesk b m rev s) calls)
-  any-history calls = demand b block (rev .0) _ (play-holds b (rev .0) calls (freshDesk b m rev s) begun)
+  any-history calls = demand b block (rev .0) _ (kept-after calls)
 
   -- [demand.2.steps] so an accepted run ends the session, with the truth, if the steps so far and its budget are together at least 2^(V+1) - 1. A
   -- budget has 32 bits: with 32 variables or more none is so large, and a fresh session may need more runs than one
@@ -180,7 +186,7 @@ module _ (b : List ℤ) (m : Memory) (rev : Revision) (s : Session) (a : openOut
   unfolding call
   enough-ends calls seen budget preferred s′ c e h =
       let d = play b (freshDesk b m rev s) calls in
-      let r = rw e at (call-holds b (rev .0) d (run seen budget preferred) (play-holds b (rev .0) calls (freshDesk b m rev s) begun)) in
+      let r = rw e at (call-holds b (rev .0) d (run seen budget preferred) (kept-after calls)) in
       decided b block (rev .0) _ r
       (λ o.
       let u = run-pauses b d seen budget preferred s′ c e .used o in

@@ -1,4 +1,4 @@
--- The record: literals with kinds, oldest first, and what it makes true.
+-- [record] The record: literals with kinds, oldest first, and what it makes true.
 use Prim.Native.Nat.{ℕ}
 use mathlib.Core.Bool.{Bool, not, _||_}
 use mathlib.Core.List.{List, [], _∷_}

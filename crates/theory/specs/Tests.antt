@@ -46,7 +46,7 @@ oneSign m l = occurs m l && not (occurs m (negℤ l))
 unfoldable pub monotone : List ℤ → List (List ℤ) → Assignment → ℤ → Bool
 monotone p m ρ l = (unassignedE p ρ l && oneSign m l) || (unassignedU p ρ l && oneSign m (negℤ l))
 
--- the same over the clauses with no true literal
+-- [monotone] only the clauses with no true literal count
 unfoldable pub untrueOf : Assignment → List (List ℤ) → List (List ℤ)
 untrueOf ρ [] = []
 untrueOf ρ (C ∷ m) = cond (any ρ C) (untrueOf ρ m) (C ∷ untrueOf ρ m)
@@ -54,7 +54,7 @@ untrueOf ρ (C ∷ m) = cond (any ρ C) (untrueOf ρ m) (C ∷ untrueOf ρ m)
 unfoldable pub monotoneOpen : List ℤ → List (List ℤ) → Assignment → ℤ → Bool
 monotoneOpen p m ρ l = monotone p (untrueOf ρ m) ρ l
 
--- the widest that is sound: l stands in no clause that lacks a true literal
+-- [order.monotone] the widest that is sound: l stands in no clause that lacks a true literal
 unfoldable pub absent : List (List ℤ) → Assignment → ℤ → Bool
 absent m ρ l = all (λ C. any ρ C || not (mem l C)) m
 

@@ -13,15 +13,15 @@ use Rattle.formula.specs.Formula.{Formula, firstGroup}
 use Rattle.formula.specs.Proper.{Proper}
 use Rattle.formula.specs.Laws.Prefix.{stands-i}
 use Rattle.theory.specs.Record.{among, assigned}
-use Rattle.theory.specs.Tests.{allAssigned}
+use Rattle.theory.specs.Tests.{monotoneOpen, allAssigned}
 use Rattle.theory.specs.Laws.Assignment.{assigned-among}
 use Rattle.theory.specs.Start.{rest, trueUnder}
 use Rattle.theory.specs.Laws.Value.{rest-append, rest-set, rest-unset}
 use Rattle.theory.specs.Rules.{going, Path}
-use Rattle.theory.specs.Laws.Moves.{path-snoc}
-use Rattle.theory.specs.Theorem.{sound, finite, never-stuck}
+use Rattle.theory.specs.Laws.Monotone.{open-within}
+use Rattle.theory.specs.Theorem.{AnyOrder, any-order-from}
 use Rattle.rules.specs.declared.rule.State.the-variants.{Open, Valid, Unsat}
-use Rattle.rules.specs.Search.{standingOf, recordIn}
+use Rattle.rules.specs.Search.{standingOf}
 use Rattle.rules.specs.Inner.Ready.{Bound, Room}
 use Rattle.session.specs.Run.{runFrom}
 use Rattle.session.specs.Laws.Runs.{Travelled, travelled}
@@ -67,18 +67,20 @@ module _ (F : Formula) (ok : Proper F) (bound : Bound (F .prefix)) (work : Trail
   unfolding openingStart
   search-path = rw (begun .held) at (searched .path)
 
+  -- [order.start] and of such paths the theory speaks
+  any : AnyOrder monotoneOpen F (opened F n) (2 ^ (suc (length (F .prefix)) - length (opened F n))) (trueUnder F (opened F n))
+  any = any-order-from open-within F ok (opened F n) (begun .good) (begun .kinds)
+
   -- where it ends, the recursive definition says so
   pub won : openingEnd F preferred budget work n ≡ Valid → wins F n ≡ true
-  won e = sym (wins-under F ok n) ∙ sound F ok (opened F n) (begun .kinds) true (rw e at search-path)
+  won e = sym (wins-under F ok n) ∙ any .right true (rw e at search-path)
 
   pub lost : openingEnd F preferred budget work n ≡ Unsat → wins F n ≡ false
-  lost e = sym (wins-under F ok n) ∙ sound F ok (opened F n) (begun .kinds) false (rw e at search-path)
+  lost e = sym (wins-under F ok n) ∙ any .right false (rw e at search-path)
 
   -- it is still open only if it has used its budget, and then one rule more is due
   pub search-ends : 2 ^ (suc (length (F .prefix)) - firstGroup (F .prefix)) ≤ suc budget → openingEnd F preferred budget work n ≡ Open → ⊥
   search-ends h o =
-      let u = openingSearch F preferred budget work n in
-      let s = never-stuck F ok (recordIn u) in
-      let f = rw (begun .count) at (finite F (opened F n) (begun .good) (begun .kinds) (path-snoc F (rw o at search-path) (s .1))) in
+      let f = rw (begun .count) at (any .fewer (rw o at search-path)) in
       let e = searched .used o in
       omega arith

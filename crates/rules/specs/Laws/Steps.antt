@@ -14,11 +14,10 @@ use Rattle.words.specs.Laws.Bools.{look, clash}
 use Rattle.formula.specs.Formula.{Formula, universal}
 use Rattle.formula.specs.Laws.Prefix.{stands-bound}
 use Rattle.theory.specs.Record.{entry, Record, Assignment, trueIn}
-use Rattle.theory.specs.Tests.{isOpen}
-use Rattle.theory.specs.Rules.{going, Quiet, Step}
+use Rattle.theory.specs.Tests.{monotoneOpen, isOpen}
+use Rattle.theory.specs.Rules.{going, Quiet, StepBy, Step}
 use Rattle.theory.specs.Laws.Tested.{open-e}
-use Rattle.theory.specs.Tests.{monotoneOpen}
-use Rattle.theory.specs.Laws.Monotone.{monotone-open-wide}
+use Rattle.theory.specs.Laws.Monotone.{open-within}
 use Rattle.theory.specs.Laws.Moves.{good-step}
 use Rattle.theory.specs.Laws.Work.{good-taken}
 use Rattle.rules.specs.Trail.{put, recordOf}
@@ -42,8 +41,8 @@ chosen-open p ρ l x (inr e) h = elim (look (eqb (natAbs l) 0)) [ inl z ↦ rw z
 
 decide-step : (F : Formula) (r : Record) → Quiet F r → (x : ℤ) → isOpen (F .prefix) (trueIn r) x ≡ true → Step F r (going (r ++ entry (kindOf (F .prefix) x) x ∷ []))
 decide-step F r q x o = elim (look (universal (F .prefix) x)) [
-  | inl u ↦ rw u (Step.decide-forall q x o u)
-  | inr u ↦ rw u (Step.decide-exists q x o (elim (stands-bound (F .prefix) x (open-e (F .prefix) (trueIn r) x o .bound)) [ inl e ↦ e | inr e ↦ clash e u ]))
+  | inl u ↦ rw u (StepBy.decide-forall q x o u)
+  | inr u ↦ rw u (StepBy.decide-exists q x o (elim (stands-bound (F .prefix) x (open-e (F .prefix) (trueIn r) x o .bound)) [ inl e ↦ e | inr e ↦ clash e u ]))
 ]
 
 -- ---- on the buffers of a guarded call
@@ -58,7 +57,7 @@ module _ (F : Formula) (t : Search) (k : KeptIn (F .prefix) t) where
   module _ (kind : ℕ) (x : ℤ) (s : Step F (recordIn t) (going (recordIn t ++ entry kind x ∷ []))) where
     more : t .count < length (F .prefix)
     more =
-        let g = good-taken F (recordIn t ++ entry kind x ∷ []) (good-step F (passed-good F (t .trail) (t .count) k) s) in
+        let g = good-taken F (recordIn t ++ entry kind x ∷ []) (good-step open-within F (passed-good F (t .trail) (t .count) k) s) in
         let a = length-append (recordIn t) (entry kind x ∷ []) in
         let b = record-length (t .trail) (t .count) (kept-room k) in
         omega arith
@@ -75,7 +74,7 @@ module _ (F : Formula) (t : Search) (k : KeptIn (F .prefix) t) where
           keeps = record {
             prefix = k .prefix;
             room = record { lits = rw length-set (k .room .lits); kinds = rw length-set (k .room .kinds) };
-            good = good-kept F (put (t .trail) (t .count) (entry kind x)) (t .count + 1) (k .prefix) (omega arith) (rw longer (good-step F (passed-good F (t .trail) (t .count) k) s));
+            good = good-kept F (put (t .trail) (t .count) (entry kind x)) (t .count + 1) (k .prefix) (omega arith) (rw longer (good-step open-within F (passed-good F (t .trail) (t .count) k) s));
           };
         }
 
@@ -102,7 +101,7 @@ module _ (F : Formula) (t : Search) (k : KeptIn (F .prefix) t) where
           keeps = record {
             prefix = k .prefix;
             room = record { lits = rw (length-set, wiped-length) (k .room .lits); kinds = rw (length-set, wiped-length) (k .room .kinds) };
-            good = good-kept F (flip i t .trail) (i + 1) (k .prefix) (omega arith) (rw shorter (good-step F (passed-good F (t .trail) (t .count) k) s));
+            good = good-kept F (flip i t .trail) (i + 1) (k .prefix) (omega arith) (rw shorter (good-step open-within F (passed-good F (t .trail) (t .count) k) s));
           };
         }
 
@@ -110,17 +109,17 @@ module _ (F : Formula) (t : Search) (k : KeptIn (F .prefix) t) where
   unfolding monotoneOpen
   done (backtrack-exists i c h e) l a =
       let w = last-at 1 (recordIn t) i e in
-      flipped 1 i w (Step.backtrack-exists h (recordOf (t .trail) i) (drop (suc i) (recordIn t)) (getD (t .trail .lits) i (pos 0)) (split 1 i w) (w .none-after))
-  done (fail c h e) l a = record { fits = omega arith; step = Step.fail h (last-none 1 0 (recordIn t) e); keeps = k }
-  done (unit x c q u) l a = appended 0 (x .0) (Step.unit q (u .clause) (u .inside) (x .0) (u .decides))
-  done (monotone x q h) l a = appended 0 (x .0) (Step.monotone q (x .0) (monotone-open-wide (F .prefix) (F .clauses) (trueIn (recordIn t)) (x .0) h))
+      flipped 1 i w (StepBy.backtrack-exists h (recordOf (t .trail) i) (drop (suc i) (recordIn t)) (getD (t .trail .lits) i (pos 0)) (split 1 i w) (w .none-after))
+  done (fail c h e) l a = record { fits = omega arith; step = StepBy.fail h (last-none 1 0 (recordIn t) e); keeps = k }
+  done (unit x c q u) l a = appended 0 (x .0) (StepBy.unit q (u .clause) (u .inside) (x .0) (u .decides))
+  done (monotone x q h) l a = appended 0 (x .0) (StepBy.monotone q (x .0) h)
   done (decide x q h) l a =
       let y = chosen l (x .0) in
       appended (kindOf (F .prefix) y) y (decide-step F (recordIn t) q y (chosen-open (F .prefix) (trueIn (recordIn t)) l (x .0) a h))
   done (backtrack-forall i q f e) l a =
       let w = last-at 2 (recordIn t) i e in
-      flipped 2 i w (Step.backtrack-forall q f (recordOf (t .trail) i) (drop (suc i) (recordIn t)) (getD (t .trail .lits) i (pos 0)) (split 2 i w) (w .none-after))
-  done (succeed q f e) l a = record { fits = omega arith; step = Step.succeed q f (last-none 2 0 (recordIn t) e); keeps = k }
+      flipped 2 i w (StepBy.backtrack-forall q f (recordOf (t .trail) i) (drop (suc i) (recordIn t)) (getD (t .trail .lits) i (pos 0)) (split 2 i w) (w .none-after))
+  done (succeed q f e) l a = record { fits = omega arith; step = StepBy.succeed q f (last-none 2 0 (recordIn t) e); keeps = k }
 
   -- ---- so does the due rule, with a permitted proposal
   pub due-fits : Fitting (F .prefix) (t .count) (due F (recordIn t))

@@ -32,7 +32,7 @@ asked-first false false false f g = refl
 asked-first true true y f g = g refl refl
 asked-first true false y f g = refl
 
--- "both" fails if one fails; either question fails if both fail
+-- to ask for both fails if one fails; either question fails if both fail
 pub asked-false : (x y : Bool) → (x ≡ false) ⊎ (y ≡ false) → asked true x y ≡ false
 unfolding asked
 asked-false x y (inl h) = rw h
