@@ -5,14 +5,14 @@ use lib.ListN.{length}
 use Rattle.formula.specs.Limits.{limits}
 use Rattle.formula.specs.Laws.Named.{named-part}
 use Rattle.formula.proofs.Looked.{Looked, begin, end, rises, fits, hit, more}
-use Rattle.formula.proofs.marks.clause_with_both_signs.Statement.{statement}
-use Rattle.formula.proofs.marks.clause_with_both_signs.Tie as tie
+use Rattle.formula.proofs.marks.pair_row.Statement.{statement}
+use Rattle.formula.proofs.marks.pair_row.Tie as tie
 
 abbrev Inv-loop : tie.InvT-loop
-Inv-loop literals ends marks₀ from₀ i₀ marks from i = Looked literals ends marks from i
+Inv-loop literals ends marks₀ found₀ from₀ i₀ marks found from i = Looked literals ends marks found from i
 
 abbrev μ-loop : tie.MeasureT-loop
-μ-loop literals ends marks₀ from₀ i₀ marks from i = length ends - i
+μ-loop literals ends marks₀ found₀ from₀ i₀ marks found from i = length ends - i
 
 loop-holds : tie.Need-loop-holds Inv-loop μ-loop
 loop-holds c = begin _ _ (c .pre .1)
@@ -23,28 +23,28 @@ size-at-requires c κs = tt
 -- the clause lies within the literals
 module _ (c : tie.After-size-at Inv-loop μ-loop) where
   start-within : c .before .before .loop .from ≤ c .size-at .result
-  start-within = rises _ _ _ _ _ (c .before .before .loop .inv) (c .before .loop-test .taken) _ (c .size-at .ensures)
+  start-within = rises _ _ _ _ _ _ (c .before .before .loop .inv) (c .before .loop-test .taken) _ (c .size-at .ensures)
 
   end-within : c .size-at .result ≤ length (c .before .before .before .args .literals .now)
-  end-within = fits _ _ _ _ _ (c .before .before .loop .inv) (c .before .loop-test .taken) _ (c .size-at .ensures)
+  end-within = fits _ _ _ _ _ _ (c .before .before .loop .inv) (c .before .loop-test .taken) _ (c .size-at .ensures)
 
-mul-both-signs : tie.Need-mul-both-signs Inv-loop μ-loop
-mul-both-signs c = omega (arith, start-within c, end-within c, c .before .before .before .good)
+mul-pair-in : tie.Need-mul-pair-in Inv-loop μ-loop
+mul-pair-in c = omega (arith, start-within c, end-within c, c .before .before .before .good)
 
-sub-both-signs : tie.Need-sub-both-signs Inv-loop μ-loop
-sub-both-signs c = start-within c
+sub-pair-in : tie.Need-sub-pair-in Inv-loop μ-loop
+sub-pair-in c = start-within c
 
-part-both-signs-start : tie.Need-part-both-signs-start Inv-loop μ-loop
-part-both-signs-start c = start-within c
+part-pair-in-start : tie.Need-part-pair-in-start Inv-loop μ-loop
+part-pair-in-start c = start-within c
 
-part-both-signs-end : tie.Need-part-both-signs-end Inv-loop μ-loop
-part-both-signs-end c = end-within c
+part-pair-in-end : tie.Need-part-pair-in-end Inv-loop μ-loop
+part-pair-in-end c = end-within c
 
-add-both-signs : tie.Need-add-both-signs Inv-loop μ-loop
-add-both-signs c = omega arith
+add-pair-in : tie.Need-add-pair-in Inv-loop μ-loop
+add-pair-in c = omega arith
 
-both-signs-requires : tie.Need-both-signs-requires Inv-loop μ-loop
-both-signs-requires c κs =
+pair-in-requires : tie.Need-pair-in-requires Inv-loop μ-loop
+pair-in-requires c κs =
     let read = c .before .before in
     let head = read .before .before in
     (named-part (limits .variables) (head .before .args .literals .now) (read .size-at .result - head .loop .from) (head .loop .from) (head .before .pre .0), head .loop .inv .fresh)
@@ -54,7 +54,7 @@ returns c =
     let called = c .before in
     let read = called .before .before .before in
     let turn = read .before in
-    hit _ _ _ _ _ (turn .before .loop .inv) (turn .loop-test .taken) _ (read .size-at .ensures) _ (called .both-signs .ensures .0) (c .if1 .taken)
+    hit _ _ _ _ _ _ (turn .before .loop .inv) (turn .loop-test .taken) _ (read .size-at .ensures) _ (called .pair-in .ensures .0) (c .if1 .taken)
 
 add-i : tie.Need-add-i Inv-loop μ-loop
 add-i c = omega arith
@@ -67,26 +67,26 @@ loop-again c =
     let called = c .before in
     let read = called .before .before .before in
     let turn = read .before in
-    more _ _ _ _ _ (turn .before .loop .inv) (turn .loop-test .taken) _ (read .size-at .ensures) _ (called .both-signs .ensures .0) (c .if1 .left) _
-    (called .both-signs .ensures .1)
+    more _ _ _ _ _ _ (turn .before .loop .inv) (turn .loop-test .taken) _ (read .size-at .ensures) _ (called .pair-in .ensures .0) (c .if1 .left) _
+    (called .pair-in .ensures .1)
 
 returns-2 : tie.Need-returns-2 Inv-loop μ-loop
-returns-2 c = end _ _ _ _ _ (c .before .loop .inv) (c .loop-test .left)
+returns-2 c = end _ _ _ _ _ _ (c .before .loop .inv) (c .loop-test .left)
 
-pub clause-with-both-signs-spec : {M : Type 1} → statement M
-clause-with-both-signs-spec =
+pub pair-row-spec : {M : Type 1} → statement M
+pair-row-spec =
     tie.close
     (tie.spec
     Inv-loop
     μ-loop
     loop-holds
     size-at-requires
-    mul-both-signs
-    sub-both-signs
-    part-both-signs-start
-    part-both-signs-end
-    add-both-signs
-    both-signs-requires
+    mul-pair-in
+    sub-pair-in
+    part-pair-in-start
+    part-pair-in-end
+    add-pair-in
+    pair-in-requires
     returns
     add-i
     loop-less
