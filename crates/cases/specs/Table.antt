@@ -141,6 +141,24 @@ caseK = record {
   state = Open;
 }
 
+-- [case.n] prefix 1, 2 and clauses {1,1} {2,-1}: refused with 23
+unfoldable pub caseN : Case
+caseN = record {
+  block = pos 2 ∷ pos 2 ∷ pos 4 ∷ pos 6 ∷ pos 8 ∷ pos 10 ∷ pos 1 ∷ pos 2 ∷ pos 2 ∷ pos 4 ∷ pos 1 ∷ pos 1 ∷ pos 2 ∷ neg 1 ∷ [];
+  calls = [];
+  said = refused 23 ∷ [];
+  state = Open;
+}
+
+-- [case.o] prefix 1, 2 and clauses {1,1} {2,-2}: refused with 10, though the clause before repeats a literal
+unfoldable pub caseO : Case
+caseO = record {
+  block = pos 2 ∷ pos 2 ∷ pos 4 ∷ pos 6 ∷ pos 8 ∷ pos 10 ∷ pos 1 ∷ pos 2 ∷ pos 2 ∷ pos 4 ∷ pos 1 ∷ pos 1 ∷ pos 2 ∷ neg 2 ∷ [];
+  calls = [];
+  said = refused 10 ∷ [];
+  state = Open;
+}
+
 unfoldable pub table : List Case
 table =
-    caseA ∷ caseB ∷ caseC ∷ caseD ∷ caseE ∷ caseF ∷ caseG ∷ caseH ∷ caseI ∷ caseJ ∷ caseK ∷ []
+    caseA ∷ caseB ∷ caseC ∷ caseD ∷ caseE ∷ caseF ∷ caseG ∷ caseH ∷ caseI ∷ caseJ ∷ caseK ∷ caseN ∷ caseO ∷ []

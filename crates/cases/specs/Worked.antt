@@ -10,7 +10,7 @@ use Rattle.words.specs.Outcomes.{Outcome}
 use Rattle.words.specs.Words.{eqZ, mem}
 use Rattle.formula.specs.Limits.{limits}
 use Rattle.formula.specs.Formula.{formulaOf, variablesOf, clausesFrom, existential, universal, change, levelOf, level, run, firstGroup}
-use Rattle.formula.specs.Block.{refusal, twice, badEnds, bothSigns}
+use Rattle.formula.specs.Block.{refusal, twice, badEnds, bothSigns, repeats}
 use Rattle.theory.specs.Record.{literals, assigned}
 use Rattle.theory.specs.Tests.{unassignedE, unassignedU, inConflict, unitOn, occurs, oneSign, monotone as isMonotone, isOpen}
 use Rattle.rules.specs.declared.rule.State.{State}
@@ -33,7 +33,7 @@ use Rattle.listing.specs.declared.Paged as paged
 use Rattle.listing.specs.Opening.{valuesOf, openingStart}
 use Rattle.listing.specs.Page.{PageMemory, pageRefusal, pageFrom, pageOf}
 use Rattle.cases.specs.Table as said
-use Rattle.cases.specs.Table.{Asked, Said, Case, table, all-0, blockA, blockG, caseA, caseB, caseC, caseD, caseE, caseF, caseG, caseH, caseI, caseJ, caseK}
+use Rattle.cases.specs.Table.{Asked, Said, Case, table, all-0, blockA, blockG, caseA, caseB, caseC, caseD, caseE, caseF, caseG, caseH, caseI, caseJ, caseK, caseN, caseO}
 
 -- a rule by its name, with the literal that it wrote
 abbrev pub named : Rule → ℤ → Said
@@ -85,5 +85,5 @@ worked c =
     opened (c .block) (c .calls) o (o .answer)
 
 pub worked-by-hand : map worked table ≡ map (λ (c : Case). seen (c .said) (c .state)) table
-unfolding table caseA caseB caseC caseD caseE caseF caseG caseH caseI caseJ caseK blockA blockG all-0 worked calling stepOutcome openOutcome stepRefusal openRefusal pageOf pageRefusal pageFrom valuesOf openingStart advance runFrom refusal limits twice badEnds bothSigns all any eqZ mem formulaOf clausesFrom existential universal change levelOf level run firstGroup literals assigned unassignedE unassignedU inConflict unitOn occurs oneSign isMonotone isOpen due lowest last candidate lowestUnit firstMonotone firstUnassigned firstOpen entries zipWith recordOf wiped apply badEntries badRecord ones
+unfolding table caseA caseB caseC caseD caseE caseF caseG caseH caseI caseJ caseK caseN caseO blockA blockG all-0 worked calling stepOutcome openOutcome stepRefusal openRefusal pageOf pageRefusal pageFrom valuesOf openingStart advance runFrom refusal limits twice badEnds bothSigns repeats all any eqZ mem formulaOf clausesFrom existential universal change levelOf level run firstGroup literals assigned unassignedE unassignedU inConflict unitOn occurs oneSign isMonotone isOpen due lowest last candidate lowestUnit firstMonotone firstUnassigned firstOpen entries zipWith recordOf wiped apply badEntries badRecord ones
 worked-by-hand = refl
