@@ -80,8 +80,11 @@ module _ (ls : List ℤ) (stamp earlier : ℕ) (marks : List ℕ) (found i : ℕ
     pub hit : getD marks other 0 ≡ stamp → 10 ≡ pairRow earlier ls
     hit e = rw (signs-drop j ls (passed ∙ rw (eq-eqb (getD marks other 0) stamp e)))
 
-    -- 23 is found at the literal's own mark, and else nothing is
-    tell : (found′ : ℕ) → ((getD marks own 0 ≡ stamp) × (found′ ≡ 23)) ⊎ ((getD marks own 0 ≡ stamp → ⊥) × (found′ ≡ found)) → found′ ≡ cond (repeats (drop j ls)) 23 earlier
+    -- 23 is found where the literal's own place is marked, and else nothing new is
+    abbrev Found : ℕ → Type 0
+    Found found′ = ((getD marks own 0 ≡ stamp) × (found′ ≡ 23)) ⊎ ((getD marks own 0 ≡ stamp → ⊥) × (found′ ≡ found))
+
+    tell : (found′ : ℕ) → Found found′ → found′ ≡ cond (repeats (drop j ls)) 23 earlier
     tell found′ (inl (e, is)) = rw (again, eq-eqb (getD marks own 0) stamp e) is
     tell found′ (inr (e, is)) = rw (again, ne-eqb (getD marks own 0) stamp e) (is ∙ p .told)
 
@@ -94,7 +97,7 @@ module _ (ls : List ℤ) (stamp earlier : ℕ) (marks : List ℕ) (found i : ℕ
             let differ : wordAt k ≡ getD ls j (pos 0) → ⊥ = λ e. d (sym (place-word k) ∙ ap placeOf e ∙ sym is-own) in
             rw (getD-set-other marks own k stamp 0 d, eqZ-ne differ) (p .marked k)
 
-    pub more : (getD marks other 0 ≡ stamp → ⊥) → (found′ : ℕ) → ((getD marks own 0 ≡ stamp) × (found′ ≡ 23)) ⊎ ((getD marks own 0 ≡ stamp → ⊥) × (found′ ≡ found)) → Stamped ls stamp earlier (set marks own stamp) found′ j
+    pub more : (getD marks other 0 ≡ stamp → ⊥) → (found′ : ℕ) → Found found′ → Stamped ls stamp earlier (set marks own stamp) found′ j
     unfolding mem
     more e found′ came =
         let room : own < length marks = omega (arith, p .fresh .room, own-within (getD ls j (pos 0)) small own is-own) in

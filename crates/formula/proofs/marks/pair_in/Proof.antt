@@ -64,7 +64,7 @@ mul-if2 : tie.Need-mul-if2 Inv-loop μ-loop
 mul-if2 c = omega (arith, placed (c .before .before))
 
 element-copy-out-if2 : tie.Need-element-copy-out-if2 Inv-loop μ-loop
-element-copy-out-if2 c = placed (c .before .before)
+element-copy-out-if2 c = omega (arith, placed (c .before .before))
 
 mul-marks : tie.Need-mul-marks Inv-loop μ-loop
 mul-marks c = omega (arith, placed (c .before .before .before .before))
