@@ -1,5 +1,5 @@
-//! The formula block: its check (refusals 1 to 10 and 23) and what an accepted block
-//! stands for.
+//! The formula block: its check (refusals 1 to 10 and 23) and what an accepted
+//! block stands for.
 //!
 //! "A slice of signed 32-bit words with a header of counts and offsets". All
 //! sums here are made in 64 bits, so that no word, the least 32-bit number

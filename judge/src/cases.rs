@@ -56,12 +56,12 @@ pub fn l() -> Vec<i32> {
     lay_out(&[1], &[vec![1], vec![i32::MIN]])
 }
 
-/// "prefix 1 2, clauses {1,1} {2,-1}".
+/// Prefix 1 2, the clauses 1 1 and 2 -1: only row 23 refuses.
 pub fn n() -> Vec<i32> {
     lay_out(&[1, 2], &[vec![1, 1], vec![2, -1]])
 }
 
-/// "prefix 1 2, clauses {1,1} {2,-2}".
+/// Prefix 1 2, the clauses 1 1 and 2 -2: 23 in the first, 10 in the second.
 pub fn o() -> Vec<i32> {
     lay_out(&[1, 2], &[vec![1, 1], vec![2, -2]])
 }

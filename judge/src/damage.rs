@@ -11,8 +11,12 @@ pub const EDGES: [i32; 8] = [0, 1, -1, i32::MIN, i32::MIN + 1, i32::MAX, i32::MA
 
 /// One damage for a random row, now and then a second one on top.
 pub fn damaged(dice: &mut Dice, block: &[i32]) -> Vec<i32> {
-    let row = ROWS[dice.weighted(&[6, 7, 6, 6, 6, 9, 7, 12, 8, 15, 15])];
+    let row = ROWS[dice.weighted(&[6, 7, 6, 6, 6, 9, 7, 12, 8, 15, 20])];
     let once = broken(dice, block, row);
+    if row >= 10 && dice.chance(1, 4) {
+        // A literal repeated and one beside its opposite, in any order.
+        return broken(dice, &once, if row == 10 { 23 } else { 10 });
+    }
     if once.len() >= 6 && dice.chance(1, 6) {
         // Laid over a sound header, so that the second damage finds its part.
         let again = dice.pick(&ROWS[2..]);

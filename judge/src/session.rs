@@ -86,8 +86,8 @@ impl Session {
         })
     }
 
-    /// A run, refusals 1 to 10, 23 and 11 to 15. "it pauses exactly if it isn't ended when the
-    /// budget is used": the session that comes back is then still open.
+    /// A run, refusals 1 to 10, 23 and 11 to 15. "it pauses exactly if it isn't
+    /// ended when the budget is used": the session that comes back is then still open.
     pub fn run(
         self,
         block: &[i32],
