@@ -8,12 +8,9 @@ mod yardstick;
 use core::slice::{from_raw_parts, from_raw_parts_mut};
 use yardstick::{run, Session};
 
-/// The status of a call whose answer has fewer places than numbers.
-const NO_ROOM: u32 = 100;
-
 /// # Safety
 ///
-/// Each pointer leads to as many places as the number after it says.
+/// Each pointer of a slice leads to as many places as the number after it says.
 #[no_mangle]
 pub unsafe extern "C" fn yardstick_run(
     length: u64,
@@ -21,16 +18,15 @@ pub unsafe extern "C" fn yardstick_run(
     state: u32,
     block: *const i32,
     block_length: usize,
-    literals: *mut i32,
-    literals_length: usize,
+    lits: *mut i32,
+    lits_length: usize,
     kinds: *mut u8,
     kinds_length: usize,
     seen: u64,
     budget: u32,
     preferred: *const i32,
     preferred_length: usize,
-    answer: *mut u64,
-    answer_length: usize,
+    answer: &mut [u64; 4],
 ) -> u32 {
     let session = Session {
         length,
@@ -38,17 +34,12 @@ pub unsafe extern "C" fn yardstick_run(
         state: state.min(2) as u8,
     };
     let block = unsafe { from_raw_parts(block, block_length) };
-    let literals = unsafe { from_raw_parts_mut(literals, literals_length) };
+    let lits = unsafe { from_raw_parts_mut(lits, lits_length) };
     let kinds = unsafe { from_raw_parts_mut(kinds, kinds_length) };
     let preferred = unsafe { from_raw_parts(preferred, preferred_length) };
-    let answer = unsafe { from_raw_parts_mut(answer, answer_length) };
-    if answer.len() < 4 {
-        return NO_ROOM;
-    }
-    match run(session, block, literals, kinds, seen, budget, preferred) {
+    match run(session, block, lits, kinds, seen, budget, preferred) {
         Ok((next, count)) => {
-            let words = [next.length, next.revision, next.state.into(), count.into()];
-            answer[..4].copy_from_slice(&words);
+            *answer = [next.length, next.revision, next.state.into(), count.into()];
             0
         }
         Err(number) => number.into(),

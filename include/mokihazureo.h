@@ -1,12 +1,12 @@
 /* Mokihazureo for C: a proved solver for quantified Boolean formulas, one rule
-   at a time. docs/bindings.md is the guide; the rules, the formula block and the
-   refusals' numbers are document 01's.
+   at a time. docs/bindings.md is the guide; docs/SPEC.md has the rules, the formula
+   block and the table of refusals.
 
-   Every call answers 0 if it is accepted, the number of its refusal, or
-   MOKI_NO_ROOM; in the last two cases nothing is written anywhere. Any words may
-   stand in any buffer and any number in any place. Of the memory itself this is
-   asked: no pointer is null, each buffer has at least its length, and a buffer
-   that is written overlaps no other. */
+   Every call answers its status: 0 if it is accepted, else the number of its
+   refusal, and then nothing is written anywhere. Any words may stand in any buffer
+   and any number in any place. Of the memory itself this is asked: no pointer is
+   null, each is aligned for its type, each buffer has at least its length, and a
+   buffer that is written overlaps no other. */
 #ifndef MOKIHAZUREO_H
 #define MOKIHAZUREO_H
 
@@ -20,41 +20,38 @@ extern "C" {
 /* The state of a session. A number over MOKI_UNSAT counts as MOKI_UNSAT. */
 enum { MOKI_OPEN = 0, MOKI_VALID = 1, MOKI_UNSAT = 2 };
 
-/* How many words a call's answer has. */
+/* How many words a call's answer has. Its array must have as many places or more;
+   it comes as a pointer alone, so no call can see how many there are. */
 enum { MOKI_SESSION_WORDS = 3, MOKI_RUN_WORDS = 4, MOKI_PAGE_WORDS = 3 };
-
-/* The status of a call whose answer has fewer places than that; no refusal has
-   this number. */
-enum { MOKI_NO_ROOM = 100 };
 
 /* Refusals 1 to 10 and 23. */
 uint32_t moki_check(const int32_t *block, size_t block_length);
 
 /* Refusals 1 to 11 and 23. The answer is the session: length, revision, state. */
 uint32_t moki_open(const int32_t *block, size_t block_length,
-                   int32_t *literals, size_t literals_length,
+                   int32_t *lits, size_t lits_length,
                    uint8_t *kinds, size_t kinds_length,
                    uint64_t first_revision,
-                   uint64_t *answer, size_t answer_length);
+                   uint64_t answer[MOKI_SESSION_WORDS]);
 
 /* Refusals 1 to 17 and 23. The session goes in as three numbers; the answer is the
    next session. Proposal 0 leaves the choice to the solver. */
 uint32_t moki_step(size_t length, uint64_t revision, uint32_t state,
                    const int32_t *block, size_t block_length,
-                   int32_t *literals, size_t literals_length,
+                   int32_t *lits, size_t lits_length,
                    uint8_t *kinds, size_t kinds_length,
                    uint64_t seen_revision, int32_t proposal,
-                   uint64_t *answer, size_t answer_length);
+                   uint64_t answer[MOKI_SESSION_WORDS]);
 
 /* Refusals 1 to 15 and 23. The answer is the next session, then the count of
    accepted steps. */
 uint32_t moki_run(size_t length, uint64_t revision, uint32_t state,
                   const int32_t *block, size_t block_length,
-                  int32_t *literals, size_t literals_length,
+                  int32_t *lits, size_t lits_length,
                   uint8_t *kinds, size_t kinds_length,
                   uint64_t seen_revision, uint32_t budget,
                   const int32_t *preferred, size_t preferred_length,
-                  uint64_t *answer, size_t answer_length);
+                  uint64_t answer[MOKI_RUN_WORDS]);
 
 /* Refusals 1 to 11, 18 to 21 and 23. The openings from start on that win, two words
    of output each: the opening, and how many ones its number has. The answer is where
@@ -62,13 +59,13 @@ uint32_t moki_run(size_t length, uint64_t revision, uint32_t state,
    because the search of that next opening didn't end within the budget, else 0. The
    record is for work: its first V places are 0 afterwards. */
 uint32_t moki_page(const int32_t *block, size_t block_length,
-                   int32_t *literals, size_t literals_length,
+                   int32_t *lits, size_t lits_length,
                    uint8_t *kinds, size_t kinds_length,
                    uint32_t start,
                    const int32_t *preferred, size_t preferred_length,
                    uint32_t budget,
                    uint32_t *output, size_t output_length,
-                   uint64_t *answer, size_t answer_length);
+                   uint64_t answer[MOKI_PAGE_WORDS]);
 
 #ifdef __cplusplus
 }

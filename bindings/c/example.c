@@ -15,42 +15,43 @@ static void expect(const char *what, int holds)
     failures += !holds;
 }
 
-/* Document 01's case A: a is 1, d is 2 (universal), b is 3, c is 4. */
+/* Case A of docs/SPEC.md: a is 1, d is 2 (universal), b is 3, c is 4. */
 static const int32_t block[] = {4, 5, 13, 6, 10, 15, 1, -2, 3, 4, 3, 5, 7, 10, 13, -1, -2, 3, -2, -3, 3, 4, 1, -2, -4, 2, 3, -4};
 
 static void two_administrators(void)
 {
-    int32_t literals[4];
+    int32_t lits[4];
     uint8_t kinds[4];
-    uint64_t session[MOKI_RUN_WORDS];
+    uint64_t session[MOKI_RUN_WORDS] = {7, 7, 7, 7};
 
     expect("the block is accepted", moki_check(block, COUNT(block)) == 0);
-    expect("a session is opened", moki_open(block, COUNT(block), literals, 4, kinds, 4, 0, session, COUNT(session)) == 0);
+    expect("a session is opened", moki_open(block, COUNT(block), lits, 4, kinds, 4, 0, session) == 0);
     expect("it is empty, at revision 0, open", session[0] == 0 && session[1] == 0 && session[2] == MOKI_OPEN);
+    expect("and has no fourth number", session[3] == 7);
 
-    expect("Ada puts 1 to true, as seen at revision 0", moki_step(session[0], session[1], (uint32_t)session[2], block, COUNT(block), literals, 4, kinds, 4, 0, 1, session, COUNT(session)) == 0);
-    expect("the record has it", session[0] == 1 && session[1] == 1 && literals[0] == 1 && kinds[0] == 1);
+    expect("Ada puts 1 to true, as seen at revision 0", moki_step(session[0], session[1], (uint32_t)session[2], block, COUNT(block), lits, 4, kinds, 4, 0, 1, session) == 0);
+    expect("the record has it", session[0] == 1 && session[1] == 1 && lits[0] == 1 && kinds[0] == 1);
 
-    expect("Ben's move from revision 0 is refused with 14", moki_step(session[0], session[1], (uint32_t)session[2], block, COUNT(block), literals, 4, kinds, 4, 0, -1, session, COUNT(session)) == 14);
-    expect("nothing is changed", session[0] == 1 && session[1] == 1 && literals[0] == 1 && literals[1] == 0);
+    expect("Ben's move from revision 0 is refused with 14", moki_step(session[0], session[1], (uint32_t)session[2], block, COUNT(block), lits, 4, kinds, 4, 0, -1, session) == 14);
+    expect("nothing is changed", session[0] == 1 && session[1] == 1 && lits[0] == 1 && lits[1] == 0);
 
-    expect("he goes on from revision 1", moki_step(session[0], session[1], (uint32_t)session[2], block, COUNT(block), literals, 4, kinds, 4, 1, -2, session, COUNT(session)) == 0);
-    expect("a run with preferences", moki_run(session[0], session[1], (uint32_t)session[2], block, COUNT(block), literals, 4, kinds, 4, 2, 100, (const int32_t[]){3, INT32_MIN}, 2, session, COUNT(session)) == 0);
+    expect("he goes on from revision 1", moki_step(session[0], session[1], (uint32_t)session[2], block, COUNT(block), lits, 4, kinds, 4, 1, -2, session) == 0);
+    expect("a run with preferences", moki_run(session[0], session[1], (uint32_t)session[2], block, COUNT(block), lits, 4, kinds, 4, 2, 100, (const int32_t[]){3, INT32_MIN}, 2, session) == 0);
     expect("the formula is false", session[2] == MOKI_UNSAT);
     expect("the revision counts the steps", session[1] == 2 + session[3]);
-    expect("an ended session is refused with 13", moki_step(session[0], session[1], (uint32_t)session[2], block, COUNT(block), literals, 4, kinds, 4, session[1], 0, session, COUNT(session)) == 13);
+    expect("an ended session is refused with 13", moki_step(session[0], session[1], (uint32_t)session[2], block, COUNT(block), lits, 4, kinds, 4, session[1], 0, session) == 13);
 }
 
-/* Document 01's case G: the openings are of the variables 1 and 2. */
+/* Case G of docs/SPEC.md: the openings are of the variables 1 and 2. */
 static const int32_t openings[] = {4, 3, 6, 6, 10, 13, 1, 2, -3, 4, 2, 4, 6, 1, 2, -3, 4, 3, -4};
 
 /* The listing's work record. */
-static int32_t work_literals[4] = {9, 9, 9, 9};
+static int32_t work_lits[4] = {9, 9, 9, 9};
 static uint8_t work_kinds[4] = {9, 9, 9, 9};
 
 static uint32_t page(uint32_t start, uint32_t budget, uint32_t *output, size_t words, uint64_t *answer)
 {
-    return moki_page(openings, COUNT(openings), work_literals, 4, work_kinds, 4, start, block, 0, budget, output, words, answer, MOKI_PAGE_WORDS);
+    return moki_page(openings, COUNT(openings), work_lits, 4, work_kinds, 4, start, block, 0, budget, output, words, answer);
 }
 
 static int holds(const uint32_t *output, const uint32_t *words)
@@ -77,7 +78,7 @@ static void a_listing(void)
     expect("it holds 3", page((uint32_t)answer[0], 100, output + 4, 4, answer) == 0 && holds(output, (uint32_t[]){1, 1, 2, 1, 3, 2, 7, 7}));
     expect("and ends the listing", answers(answer, 4, 1, 0));
     expect("eight words hold it whole", page(0, 100, whole, 8, answer) == 0 && holds(whole, output) && answers(answer, 4, 3, 0));
-    expect("the work record is wiped", memcmp(work_literals, (int32_t[4]){0}, sizeof work_literals) == 0 && memcmp(work_kinds, (uint8_t[4]){0}, sizeof work_kinds) == 0);
+    expect("the work record is wiped", memcmp(work_lits, (int32_t[4]){0}, sizeof work_lits) == 0 && memcmp(work_kinds, (uint8_t[4]){0}, sizeof work_kinds) == 0);
     expect("a start past the end is refused with 20", page(5, 100, whole, 8, answer) == 20);
     expect("room for no entry is refused with 21", page(0, 100, whole, 1, answer) == 21);
     expect("nothing is changed", holds(whole, output) && answers(answer, 4, 3, 0));
@@ -85,7 +86,7 @@ static void a_listing(void)
 
 static void bad_input(void)
 {
-    int32_t literals[4] = {7, 7, 7, 7};
+    int32_t lits[4] = {7, 7, 7, 7};
     uint8_t kinds[4] = {7, 7, 7, 7};
     uint64_t answer[MOKI_RUN_WORDS] = {7, 7, 7, 7};
     uint32_t output[2] = {7, 7};
@@ -95,11 +96,11 @@ static void bad_input(void)
     wrong[9] = INT32_MIN;
     expect("the least word in the prefix is refused with 5", moki_check(wrong, COUNT(wrong)) == 5);
     expect("too few words are refused with 1", moki_check(block, 5) == 1);
-    expect("a short record is refused with 11", moki_open(block, COUNT(block), literals, 3, kinds, 4, 0, answer, COUNT(answer)) == 11);
-    expect("an answer of two places is too short for a session", moki_open(block, COUNT(block), literals, 4, kinds, 4, 0, answer, 2) == MOKI_NO_ROOM);
-    expect("and one of three for a run", moki_run(0, 0, MOKI_OPEN, block, COUNT(block), literals, 4, kinds, 4, 0, 9, literals, 0, answer, 3) == MOKI_NO_ROOM);
-    expect("and one of two for a page", moki_page(openings, COUNT(openings), literals, 4, kinds, 4, 0, block, 0, 100, output, 2, answer, 2) == MOKI_NO_ROOM);
-    expect("nothing is written", literals[0] == 7 && kinds[0] == 7 && output[0] == 7 && answer[0] == 7 && answer[3] == 7);
+    expect("a short record is refused with 11", moki_open(block, COUNT(block), lits, 3, kinds, 4, 0, answer) == 11);
+    expect("in a step too", moki_step(0, 0, MOKI_OPEN, block, COUNT(block), lits, 4, kinds, 3, 0, 1, answer) == 11);
+    expect("in a run", moki_run(0, 0, MOKI_OPEN, block, COUNT(block), lits, 3, kinds, 4, 0, 9, block, 0, answer) == 11);
+    expect("and in a page", moki_page(openings, COUNT(openings), lits, 4, kinds, 3, 0, block, 0, 100, output, 2, answer) == 11);
+    expect("nothing is written", lits[0] == 7 && kinds[0] == 7 && output[0] == 7 && answer[0] == 7 && answer[3] == 7);
 }
 
 int main(void)

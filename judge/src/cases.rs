@@ -1,4 +1,4 @@
-//! Document 01's formulas worked by hand, as blocks; the cases of the check:
+//! The worked cases of docs/SPEC.md, as blocks; the cases of the check:
 //! for each row blocks that only this row refuses, and for each two neighbouring
 //! rows a block that breaks both; and talks, which ask for more than a check.
 

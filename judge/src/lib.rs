@@ -1,4 +1,4 @@
-//! The judge: an independent reading of the solver's scope (document 01), to
+//! The judge: an independent reading of the solver's rules (docs/SPEC.md), to
 //! compare answers with. It shares nothing with the solver.
 
 pub mod bench;

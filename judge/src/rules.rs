@@ -185,14 +185,15 @@ impl<'a> Values<'a> {
             .all(|&other| self.formula.level(other) > level)
     }
 
-    /// "the first unassigned variable in prefix order that occurs with one sign
-    /// only over the whole matrix. An existential one takes that sign, a
-    /// universal one the opposite." One that occurs nowhere has no sign to take.
+    /// [monotone]: the first unassigned variable in prefix order with one sign in
+    /// the clauses that have no true literal. An existential one takes that sign,
+    /// a universal one the opposite. [monotone.absent]: one that stands in none of
+    /// them has no sign to take.
     fn monotone(&self) -> Option<i32> {
-        let occurs = |literal| {
-            let mut clauses = self.formula.clauses.iter();
-            clauses.any(|clause| clause.contains(&literal))
-        };
+        let is_true = |literal: &i32| self.is_true(*literal);
+        let clauses = self.formula.clauses.iter();
+        let counting: Vec<_> = clauses.filter(|clause| !clause.iter().any(is_true)).collect();
+        let occurs = |literal| counting.iter().any(|clause| clause.contains(&literal));
         let free = self.formula.order().filter(|&v| !self.assigned(v));
         free.filter_map(|variable| match (occurs(variable), occurs(-variable)) {
             (true, false) => Some(variable),

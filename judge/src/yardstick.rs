@@ -195,8 +195,6 @@ fn size(word: i32) -> usize {
 struct Tables {
     existential: [bool; PLACES],
     level: [u16; PLACES],
-    /// The value that Monotone gives: 1 true, -1 false, 0 if it gives none.
-    monotone: [i8; PLACES],
     /// 1 true, -1 false, 0 unassigned.
     value: [i8; PLACES],
 }
@@ -206,7 +204,6 @@ impl Tables {
         let mut tables = Tables {
             existential: [false; PLACES],
             level: [0; PLACES],
-            monotone: [0; PLACES],
             value: [0; PLACES],
         };
         let mut level = 0;
@@ -217,24 +214,7 @@ impl Tables {
             tables.existential[size(word)] = word > 0;
             tables.level[size(word)] = level;
         }
-        tables.fill_monotone(parts);
         tables
-    }
-
-    fn fill_monotone(&mut self, parts: &Parts) {
-        let mut occurs = [[false; 2]; PLACES];
-        for &word in parts.words {
-            occurs[size(word)][usize::from(word > 0)] = true;
-        }
-        for (variable, signs) in occurs.iter().enumerate() {
-            let sign = match signs {
-                [false, true] => 1,
-                [true, false] => -1,
-                _ => 0,
-            };
-            let existential = self.existential[variable];
-            self.monotone[variable] = if existential { sign } else { -sign };
-        }
     }
 
     /// Refusals 11 and 12; the values of an accepted record.
@@ -363,13 +343,36 @@ impl Search<'_> {
         0
     }
 
+    /// The signs of each variable in the clauses with no true literal: 1 plus, 2
+    /// minus, 3 both, 0 none.
+    fn signs(&self) -> [u8; PLACES] {
+        let mut signs = [0; PLACES];
+        let mut start = 0;
+        for &end in self.parts.ends {
+            let clause = &self.parts.words[start..end as usize];
+            start = end as usize;
+            if clause.iter().any(|&literal| self.tables.truth(literal) > 0) {
+                continue;
+            }
+            for &literal in clause {
+                signs[size(literal)] |= if literal > 0 { 1 } else { 2 };
+            }
+        }
+        signs
+    }
+
     /// The literal of the first monotone unassigned variable, 0 if there is none.
     fn monotone(&self) -> i32 {
+        let signs = self.signs();
         for &word in self.parts.prefix {
             let variable = size(word);
-            let sign = self.tables.monotone[variable];
-            if sign != 0 && self.tables.value[variable] == 0 {
-                return variable as i32 * i32::from(sign);
+            if self.tables.value[variable] != 0 {
+                continue;
+            }
+            let existential = self.tables.existential[variable];
+            if let sign @ 1..=2 = signs[variable] {
+                let positive = (sign == 1) == existential;
+                return variable as i32 * if positive { 1 } else { -1 };
             }
         }
         0

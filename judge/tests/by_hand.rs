@@ -1,4 +1,4 @@
-//! Document 01's "Formulas worked by hand", A to L (M is in the check's cases).
+//! The worked cases of docs/SPEC.md, A to L (M is in the check's cases).
 
 use judge::cases;
 use judge::page::{page, Ask, Page};

@@ -3,12 +3,12 @@
 
 use mokihazureo::{check, open, page, Literal, Page, Refusal, Revision, State};
 
-/// Document 01's case A: a is 1, d is 2 (universal), b is 3, c is 4.
+/// Case A of docs/SPEC.md: a is 1, d is 2 (universal), b is 3, c is 4.
 const BLOCK: [i32; 28] = [
     4, 5, 13, 6, 10, 15, 1, -2, 3, 4, 3, 5, 7, 10, 13, -1, -2, 3, -2, -3, 3, 4, 1, -2, -4, 2, 3, -4,
 ];
 
-/// Document 01's case G: the openings are of the variables 1 and 2.
+/// Case G of docs/SPEC.md: the openings are of the variables 1 and 2.
 const OPENINGS: [i32; 19] = [4, 3, 6, 6, 10, 13, 1, 2, -3, 4, 2, 4, 6, 1, 2, -3, 4, 3, -4];
 
 fn main() -> Result<(), Refusal> {
@@ -20,41 +20,23 @@ fn main() -> Result<(), Refusal> {
 }
 
 fn two_administrators() -> Result<(), Refusal> {
-    let (mut literals, mut kinds) = ([9; 4], [9; 4]);
+    let (mut lits, mut kinds) = ([9; 4], [9; 4]);
     check(&BLOCK)?;
-    let fresh = open(&BLOCK, &mut literals, &mut kinds, Revision(0))?;
-    assert_eq!((literals, kinds), ([0; 4], [0; 4]));
+    let fresh = open(&BLOCK, &mut lits, &mut kinds, Revision(0))?;
+    assert_eq!((lits, kinds), ([0; 4], [0; 4]));
     // Ada puts variable 1 to true, as seen at revision 0.
-    let after = fresh.step(
-        &BLOCK,
-        &mut literals,
-        &mut kinds,
-        fresh.revision,
-        Literal(1),
-    )?;
+    let after = fresh.step(&BLOCK, &mut lits, &mut kinds, fresh.revision, Literal(1))?;
     assert_eq!((after.length, after.revision), (1, Revision(1)));
-    assert_eq!((literals, kinds), ([1, 0, 0, 0], [1, 0, 0, 0]));
+    assert_eq!((lits, kinds), ([1, 0, 0, 0], [1, 0, 0, 0]));
     // Ben still has the page of revision 0.
-    let stale = after.step(
-        &BLOCK,
-        &mut literals,
-        &mut kinds,
-        fresh.revision,
-        Literal(-1),
-    );
+    let stale = after.step(&BLOCK, &mut lits, &mut kinds, fresh.revision, Literal(-1));
     assert_eq!(stale, Err(Refusal(14)));
-    assert_eq!(literals, [1, 0, 0, 0]);
+    assert_eq!(lits, [1, 0, 0, 0]);
     // He looks again, and goes on from revision 1.
-    let next = after.step(
-        &BLOCK,
-        &mut literals,
-        &mut kinds,
-        after.revision,
-        Literal(-2),
-    )?;
+    let next = after.step(&BLOCK, &mut lits, &mut kinds, after.revision, Literal(-2))?;
     let ran = next.run(
         &BLOCK,
-        &mut literals,
+        &mut lits,
         &mut kinds,
         next.revision,
         100,
@@ -66,17 +48,9 @@ fn two_administrators() -> Result<(), Refusal> {
 }
 
 fn a_listing() -> Result<(), Refusal> {
-    let (mut literals, mut kinds, mut output) = ([9; 4], [9; 4], [7; 8]);
+    let (mut lits, mut kinds, mut output) = ([9; 4], [9; 4], [7; 8]);
     let mut list = |start, budget, output: &mut [u32]| {
-        page(
-            &OPENINGS,
-            &mut literals,
-            &mut kinds,
-            start,
-            &[],
-            budget,
-            output,
-        )
+        page(&OPENINGS, &mut lits, &mut kinds, start, &[], budget, output)
     };
     // Case H: with no budget the first search doesn't end; at the end there is none.
     assert_eq!(list(0, 0, &mut output)?, told(0, 0, true));
@@ -96,7 +70,7 @@ fn a_listing() -> Result<(), Refusal> {
     assert_eq!(list(5, 100, &mut whole), Err(Refusal(20)));
     assert_eq!(list(0, 100, &mut whole[..1]), Err(Refusal(21)));
     assert_eq!(whole, output);
-    assert_eq!((literals, kinds), ([0; 4], [0; 4]));
+    assert_eq!((lits, kinds), ([0; 4], [0; 4]));
     Ok(())
 }
 
@@ -109,12 +83,12 @@ fn told(next: u32, entries: u32, paused: bool) -> Page {
 }
 
 fn bad_input() {
-    let (mut literals, mut kinds) = ([7; 4], [7; 4]);
+    let (mut lits, mut kinds) = ([7; 4], [7; 4]);
     let mut wrong = BLOCK;
     wrong[9] = i32::MIN;
     assert_eq!(check(&wrong), Err(Refusal(5)));
     assert_eq!(check(&[]), Err(Refusal(1)));
-    let short = open(&BLOCK, &mut literals[..3], &mut kinds, Revision(0));
+    let short = open(&BLOCK, &mut lits[..3], &mut kinds, Revision(0));
     assert_eq!(short, Err(Refusal(11)));
-    assert_eq!((literals, kinds), ([7; 4], [7; 4]));
+    assert_eq!((lits, kinds), ([7; 4], [7; 4]));
 }

@@ -9,13 +9,12 @@ mod c {
         pub fn moki_open(
             block: *const i32,
             block_length: usize,
-            literals: *mut i32,
-            literals_length: usize,
+            lits: *mut i32,
+            lits_length: usize,
             kinds: *mut u8,
             kinds_length: usize,
             first: u64,
-            answer: *mut u64,
-            answer_length: usize,
+            answer: &mut [u64; 3],
         ) -> u32;
         pub fn moki_step(
             length: usize,
@@ -23,14 +22,13 @@ mod c {
             state: u32,
             block: *const i32,
             block_length: usize,
-            literals: *mut i32,
-            literals_length: usize,
+            lits: *mut i32,
+            lits_length: usize,
             kinds: *mut u8,
             kinds_length: usize,
             seen: u64,
             proposal: i32,
-            answer: *mut u64,
-            answer_length: usize,
+            answer: &mut [u64; 3],
         ) -> u32;
         pub fn moki_run(
             length: usize,
@@ -38,22 +36,21 @@ mod c {
             state: u32,
             block: *const i32,
             block_length: usize,
-            literals: *mut i32,
-            literals_length: usize,
+            lits: *mut i32,
+            lits_length: usize,
             kinds: *mut u8,
             kinds_length: usize,
             seen: u64,
             budget: u32,
             preferred: *const i32,
             preferred_length: usize,
-            answer: *mut u64,
-            answer_length: usize,
+            answer: &mut [u64; 4],
         ) -> u32;
         pub fn moki_page(
             block: *const i32,
             block_length: usize,
-            literals: *mut i32,
-            literals_length: usize,
+            lits: *mut i32,
+            lits_length: usize,
             kinds: *mut u8,
             kinds_length: usize,
             start: u32,
@@ -62,13 +59,12 @@ mod c {
             budget: u32,
             output: *mut u32,
             output_length: usize,
-            answer: *mut u64,
-            answer_length: usize,
+            answer: &mut [u64; 3],
         ) -> u32;
     }
 }
 
-/// A status is 0, or the refusal's number: the answers here always have room.
+/// A status is 0, or the refusal's number.
 fn accepted(status: u32) -> Result<(), Refusal> {
     match status {
         0 => Ok(()),
@@ -100,7 +96,7 @@ fn session(answer: &[u64]) -> Session {
 }
 
 /// Calls a C function: `in` a slice that it reads, `out` one that it writes, each as
-/// pointer and length, or a number.
+/// pointer and length; a number, or the answer's array, as it is.
 macro_rules! call {
     ($name:ident($($given:tt)*)) => { call!(@ $name [] $($given)*,) };
     (@ $name:ident [$($c:tt)*] in $slice:ident, $($rest:tt)*) => {
@@ -109,8 +105,8 @@ macro_rules! call {
     (@ $name:ident [$($c:tt)*] out $slice:ident, $($rest:tt)*) => {
         call!(@ $name [$($c)* $slice.as_mut_ptr(), $slice.len(),] $($rest)*)
     };
-    (@ $name:ident [$($c:tt)*] $number:expr, $($rest:tt)*) => {
-        call!(@ $name [$($c)* $number,] $($rest)*)
+    (@ $name:ident [$($c:tt)*] $plain:expr, $($rest:tt)*) => {
+        call!(@ $name [$($c)* $plain,] $($rest)*)
     };
     (@ $name:ident [$($c:tt)*]) => { accepted(unsafe { c::$name($($c)*) }) };
 }
@@ -124,12 +120,12 @@ pub fn check(block: &[i32]) -> Result<(), Refusal> {
 /// become 0.
 pub fn open(
     block: &[i32],
-    literals: &mut [i32],
+    lits: &mut [i32],
     kinds: &mut [u8],
     first: Revision,
 ) -> Result<Session, Refusal> {
     let mut answer = [0; 3];
-    call!(moki_open(in block, out literals, out kinds, first.0, out answer))?;
+    call!(moki_open(in block, out lits, out kinds, first.0, &mut answer))?;
     Ok(session(&answer))
 }
 
@@ -138,14 +134,14 @@ impl Session {
     pub fn step(
         self,
         block: &[i32],
-        literals: &mut [i32],
+        lits: &mut [i32],
         kinds: &mut [u8],
         seen: Revision,
         proposal: Literal,
     ) -> Result<Session, Refusal> {
         let (length, revision, state) = numbers(self);
         let mut answer = [0; 3];
-        call!(moki_step(length, revision, state, in block, out literals, out kinds, seen.0, proposal.0, out answer))?;
+        call!(moki_step(length, revision, state, in block, out lits, out kinds, seen.0, proposal.0, &mut answer))?;
         Ok(session(&answer))
     }
 
@@ -153,7 +149,7 @@ impl Session {
     pub fn run(
         self,
         block: &[i32],
-        literals: &mut [i32],
+        lits: &mut [i32],
         kinds: &mut [u8],
         seen: Revision,
         budget: u32,
@@ -161,7 +157,7 @@ impl Session {
     ) -> Result<Ran, Refusal> {
         let (length, revision, state) = numbers(self);
         let mut answer = [0; 4];
-        call!(moki_run(length, revision, state, in block, out literals, out kinds, seen.0, budget, in preferred, out answer))?;
+        call!(moki_run(length, revision, state, in block, out lits, out kinds, seen.0, budget, in preferred, &mut answer))?;
         Ok(Ran {
             session: session(&answer),
             steps: answer[3] as u32,
@@ -174,7 +170,7 @@ impl Session {
 /// work: its first V places become 0.
 pub fn page(
     block: &[i32],
-    literals: &mut [i32],
+    lits: &mut [i32],
     kinds: &mut [u8],
     start: u32,
     preferred: &[i32],
@@ -182,7 +178,7 @@ pub fn page(
     output: &mut [u32],
 ) -> Result<Page, Refusal> {
     let mut answer = [0; 3];
-    call!(moki_page(in block, out literals, out kinds, start, in preferred, budget, out output, out answer))?;
+    call!(moki_page(in block, out lits, out kinds, start, in preferred, budget, out output, &mut answer))?;
     Ok(Page {
         next: answer[0] as u32,
         entries: answer[1] as u32,

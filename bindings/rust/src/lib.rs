@@ -1,6 +1,6 @@
 //! Mokihazureo for Rust: safe calls of the proved static library.
 //!
-//! The rules, the formula block and the refusals' numbers are document 01's. Any
+//! docs/SPEC.md has the rules, the formula block and the table of refusals. Any
 //! words may be handed in; a refused call changes nothing. The caller lends all
 //! memory: the record is two buffers of at least V places.
 

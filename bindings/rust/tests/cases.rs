@@ -1,4 +1,4 @@
-//! Document 01's cases A, G and K.
+//! Cases A, G and K of docs/SPEC.md.
 
 use mokihazureo::{open, page, Literal, Page, Refusal, Revision, Session, State};
 
@@ -10,26 +10,26 @@ const G: [i32; 19] = [4, 3, 6, 6, 10, 13, 1, 2, -3, 4, 2, 4, 6, 1, 2, -3, 4, 3, 
 
 /// A's record and where its session is.
 struct Desk {
-    literals: [i32; 4],
+    lits: [i32; 4],
     kinds: [u8; 4],
     session: Session,
 }
 
 impl Desk {
     fn opened() -> Desk {
-        let (mut literals, mut kinds) = ([9; 4], [9; 4]);
-        let session = open(&A, &mut literals, &mut kinds, Revision(0)).unwrap();
+        let (mut lits, mut kinds) = ([9; 4], [9; 4]);
+        let session = open(&A, &mut lits, &mut kinds, Revision(0)).unwrap();
         Desk {
-            literals,
+            lits,
             kinds,
             session,
         }
     }
 
     fn step(&mut self, seen: u64, proposal: i32) -> Result<(), Refusal> {
-        let (literals, kinds) = (&mut self.literals, &mut self.kinds);
+        let (lits, kinds) = (&mut self.lits, &mut self.kinds);
         let (seen, proposal) = (Revision(seen), Literal(proposal));
-        self.session = self.session.step(&A, literals, kinds, seen, proposal)?;
+        self.session = self.session.step(&A, lits, kinds, seen, proposal)?;
         Ok(())
     }
 }
@@ -50,7 +50,7 @@ fn a_step_by_step() {
     for (seen, record) in (0..).zip(records) {
         assert_eq!(desk.session.state, State::Open);
         assert_eq!(desk.step(seen, 0), Ok(()));
-        assert_eq!(desk.literals, record);
+        assert_eq!(desk.lits, record);
     }
     assert_eq!(desk.kinds, [0, 2, 0, 0]);
     assert_eq!(desk.session.state, State::Unsat);
@@ -61,11 +61,11 @@ fn a_step_by_step() {
 #[test]
 fn a_in_one_run() {
     let Desk {
-        mut literals,
+        mut lits,
         mut kinds,
         session,
     } = Desk::opened();
-    let ran = session.run(&A, &mut literals, &mut kinds, Revision(0), 100, &[]);
+    let ran = session.run(&A, &mut lits, &mut kinds, Revision(0), 100, &[]);
     let ran = ran.unwrap();
     assert_eq!((ran.steps, ran.session.state), (8, State::Unsat));
 }
@@ -102,12 +102,12 @@ fn k_is_refused_and_changes_nothing() {
     let mut desk = Desk::opened();
     let fresh = desk.session;
     assert_eq!(desk.step(0, 3), Err(Refusal(17)));
-    assert_eq!((desk.session, desk.literals), (fresh, [0; 4]));
+    assert_eq!((desk.session, desk.lits), (fresh, [0; 4]));
     assert_eq!(desk.step(0, 1), Ok(()));
     let taken = desk.session;
     assert_eq!(desk.step(0, -2), Err(Refusal(14)));
-    assert_eq!((desk.session, desk.literals), (taken, [1, 0, 0, 0]));
+    assert_eq!((desk.session, desk.lits), (taken, [1, 0, 0, 0]));
     assert_eq!(desk.step(1, -2), Ok(()));
-    assert_eq!(desk.literals, [1, -2, 0, 0]);
+    assert_eq!(desk.lits, [1, -2, 0, 0]);
     assert_eq!(desk.kinds, [1, 2, 0, 0]);
 }

@@ -1,3 +1,3 @@
--- Document 01's "Formulas worked by hand": the starred cases as one table, and one claim about the definitions.
+-- [cases] The cases worked by hand as one table, and one claim about the definitions.
 pub mod Table
 pub mod Worked

@@ -1,4 +1,4 @@
--- The starred cases, written by hand from document 01: opened at revision 0, the calls, and what is said of each.
+-- [cases] The cases, written by hand from docs/SPEC.md: opened at revision 0, the calls, and what is said of each.
 use mathlib.Core.Bool.{Bool, true, false}
 use mathlib.Core.List.{List, [], _∷_}
 use Prim.Native.Nat.{ℕ, zero, suc, _+_}
@@ -6,16 +6,18 @@ use lib.IntN.{ℤ, pos, negℤ}
 use Rattle.rules.specs.declared.rule.State.{State}
 use Rattle.rules.specs.declared.rule.State.the-variants.{Open, Valid, Unsat}
 
--- a step at a revision with a proposal; a page from a start, with a budget, on an output
+-- a step at a revision with a proposal; a run at a revision, with a budget and preferences; a page from a start, with a budget, on an output
 pub data Asked : Type 0 where
   step : ℕ → ℤ → Asked
+  run : ℕ → ℕ → List ℤ → Asked
   page : ℕ → ℕ → List ℕ → Asked
 
--- what is said of a call: the rule that a step took with the literal that it wrote; a page's next, entries, paused or not, and output; or
--- the number that the call was refused with
+-- what is said of a call: the rule that a step took with the literal that it wrote; a run's steps and the last literal of the record; a
+-- page's next, entries, paused or not, and output; or the number that the call was refused with
 pub data Said : Type 0 where
   decide unit monotone backtrack-exists backtrack-forall : ℤ → Said
   fail succeed : Said
+  ran : ℕ → ℤ → Said
   listed : ℕ → ℕ → Bool → List ℕ → Said
   refused : ℕ → Said
 
@@ -30,7 +32,7 @@ pub record Case : Type 0 where
 abbrev neg : ℕ → ℤ
 neg n = negℤ (pos n)
 
--- "All proposals 0": n steps from revision r
+-- proposals 0: n steps from revision r
 unfoldable pub all-0 : ℕ → ℕ → List Asked
 all-0 r zero = []
 all-0 r (suc n) = step r (pos 0) ∷ all-0 (r + 1) n
@@ -39,7 +41,7 @@ all-0 r (suc n) = step r (pos 0) ∷ all-0 (r + 1) n
 unfoldable pub blockA : List ℤ
 blockA = pos 4 ∷ pos 5 ∷ pos 13 ∷ pos 6 ∷ pos 10 ∷ pos 15 ∷ pos 1 ∷ neg 2 ∷ pos 3 ∷ pos 4 ∷ pos 3 ∷ pos 5 ∷ pos 7 ∷ pos 10 ∷ pos 13 ∷ neg 1 ∷ neg 2 ∷ pos 3 ∷ neg 2 ∷ neg 3 ∷ pos 3 ∷ pos 4 ∷ pos 1 ∷ neg 2 ∷ neg 4 ∷ pos 2 ∷ pos 3 ∷ neg 4 ∷ []
 
--- "Decide 1, Decide 2, Unit 3, Backtrack-exists to -1, Decide 2, Unit -3, Unit 4, Fail. Unsat, 8 steps."
+-- [case.a]
 unfoldable pub caseA : Case
 caseA = record {
   block = blockA;
@@ -48,7 +50,16 @@ caseA = record {
   state = Unsat;
 }
 
--- "prefix -1 2, clauses {2,-1} {-2,1}: Valid, 5 steps."
+-- [case.a.monotone]
+unfoldable pub caseA-monotone : Case
+caseA-monotone = record {
+  block = blockA;
+  calls = step 0 (pos 1) ∷ step 1 (neg 2) ∷ step 2 (pos 0) ∷ [];
+  said = decide (pos 1) ∷ decide (neg 2) ∷ monotone (pos 3) ∷ [];
+  state = Open;
+}
+
+-- [case.b]
 unfoldable pub caseB : Case
 caseB = record {
   block = pos 2 ∷ pos 2 ∷ pos 4 ∷ pos 6 ∷ pos 8 ∷ pos 10 ∷ neg 1 ∷ pos 2 ∷ pos 2 ∷ pos 4 ∷ pos 2 ∷ neg 1 ∷ neg 2 ∷ pos 1 ∷ [];
@@ -57,7 +68,7 @@ caseB = record {
   state = Valid;
 }
 
--- "the same clauses, prefix 1 -2: refused 7."
+-- [case.c]
 unfoldable pub caseC : Case
 caseC = record {
   block = pos 2 ∷ pos 2 ∷ pos 4 ∷ pos 6 ∷ pos 8 ∷ pos 10 ∷ pos 1 ∷ neg 2 ∷ pos 2 ∷ pos 4 ∷ pos 2 ∷ neg 1 ∷ neg 2 ∷ pos 1 ∷ [];
@@ -66,7 +77,7 @@ caseC = record {
   state = Open;
 }
 
--- "prefix 1 -2 3, clauses {1,-2} {-1,2}: Unit 1, Fail. Unsat, 2 steps."
+-- [case.d]
 unfoldable pub caseD : Case
 caseD = record {
   block = pos 3 ∷ pos 2 ∷ pos 4 ∷ pos 6 ∷ pos 9 ∷ pos 11 ∷ pos 1 ∷ neg 2 ∷ pos 3 ∷ pos 2 ∷ pos 4 ∷ pos 1 ∷ neg 2 ∷ neg 1 ∷ pos 2 ∷ [];
@@ -75,7 +86,7 @@ caseD = record {
   state = Unsat;
 }
 
--- "0 0 0 6 6 6: Valid, 1 step."
+-- [case.e]
 unfoldable pub caseE : Case
 caseE = record {
   block = pos 0 ∷ pos 0 ∷ pos 0 ∷ pos 6 ∷ pos 6 ∷ pos 6 ∷ [];
@@ -84,7 +95,7 @@ caseE = record {
   state = Valid;
 }
 
--- "0 1 0 6 6 7 0: Unsat, 1 step."
+-- [case.f]
 unfoldable pub caseF : Case
 caseF = record {
   block = pos 0 ∷ pos 1 ∷ pos 0 ∷ pos 6 ∷ pos 6 ∷ pos 7 ∷ pos 0 ∷ [];
@@ -96,7 +107,7 @@ caseF = record {
 unfoldable pub blockG : List ℤ
 blockG = pos 4 ∷ pos 3 ∷ pos 6 ∷ pos 6 ∷ pos 10 ∷ pos 13 ∷ pos 1 ∷ pos 2 ∷ neg 3 ∷ pos 4 ∷ pos 2 ∷ pos 4 ∷ pos 6 ∷ pos 1 ∷ pos 2 ∷ neg 3 ∷ pos 4 ∷ pos 3 ∷ neg 4 ∷ []
 
--- "start 0, budget 100, 8 words of room: 1 1 2 1 3 2, next 4. With 4 words: 1 1 2 1, next 3."
+-- [case.g]
 unfoldable pub caseG : Case
 caseG = record {
   block = blockG;
@@ -105,7 +116,7 @@ caseG = record {
   state = Open;
 }
 
--- "G with budget 0: paused, nothing written, next 0; from start 4: not paused, next 4."
+-- [case.h]
 unfoldable pub caseH : Case
 caseH = record {
   block = blockG;
@@ -114,7 +125,7 @@ caseH = record {
   state = Open;
 }
 
--- "prefix -1 2, clauses {2,1} {-2,-1}: Valid."
+-- [case.i]
 unfoldable pub caseI : Case
 caseI = record {
   block = pos 2 ∷ pos 2 ∷ pos 4 ∷ pos 6 ∷ pos 8 ∷ pos 10 ∷ neg 1 ∷ pos 2 ∷ pos 2 ∷ pos 4 ∷ pos 2 ∷ pos 1 ∷ neg 2 ∷ neg 1 ∷ [];
@@ -123,7 +134,7 @@ caseI = record {
   state = Valid;
 }
 
--- "prefix -1 2, clause {1}: Unsat, 1 step."
+-- [case.j]
 unfoldable pub caseJ : Case
 caseJ = record {
   block = pos 2 ∷ pos 1 ∷ pos 1 ∷ pos 6 ∷ pos 8 ∷ pos 9 ∷ neg 1 ∷ pos 2 ∷ pos 1 ∷ pos 1 ∷ [];
@@ -132,12 +143,41 @@ caseJ = record {
   state = Unsat;
 }
 
--- "A opened at revision 0. Proposal 3 at 0: refused 17. Proposal 1 at 0: taken. Proposal -2 at 0: refused 14; at 1: taken."
+-- [case.k]
 unfoldable pub caseK : Case
 caseK = record {
   block = blockA;
   calls = step 0 (pos 3) ∷ step 0 (pos 1) ∷ step 0 (neg 2) ∷ step 1 (neg 2) ∷ [];
   said = refused 17 ∷ decide (pos 1) ∷ refused 14 ∷ decide (neg 2) ∷ [];
+  state = Open;
+}
+
+-- [case.l] as a literal word; as a proposal, and as a preference
+unfoldable pub leastWord : ℤ
+leastWord = neg 2147483648
+
+unfoldable pub caseL : Case
+caseL = record {
+  block = pos 1 ∷ pos 2 ∷ pos 2 ∷ pos 6 ∷ pos 7 ∷ pos 9 ∷ pos 1 ∷ pos 1 ∷ pos 2 ∷ pos 1 ∷ leastWord ∷ [];
+  calls = [];
+  said = refused 9 ∷ [];
+  state = Open;
+}
+
+unfoldable pub caseL-calls : Case
+caseL-calls = record {
+  block = blockA;
+  calls = step 0 leastWord ∷ run 0 1 (leastWord ∷ neg 1 ∷ []) ∷ [];
+  said = refused 17 ∷ ran 1 (neg 1) ∷ [];
+  state = Open;
+}
+
+-- [case.m] the counts of a block with nothing after its header, and the refusal
+unfoldable pub caseM : ℕ → ℕ → ℕ → ℕ → Case
+caseM v c t n = record {
+  block = pos v ∷ pos c ∷ pos t ∷ pos 6 ∷ pos 262 ∷ pos 1286 ∷ [];
+  calls = [];
+  said = refused n ∷ [];
   state = Open;
 }
 
@@ -161,4 +201,4 @@ caseO = record {
 
 unfoldable pub table : List Case
 table =
-    caseA ∷ caseB ∷ caseC ∷ caseD ∷ caseE ∷ caseF ∷ caseG ∷ caseH ∷ caseI ∷ caseJ ∷ caseK ∷ caseN ∷ caseO ∷ []
+    caseA ∷ caseA-monotone ∷ caseB ∷ caseC ∷ caseD ∷ caseE ∷ caseF ∷ caseG ∷ caseH ∷ caseI ∷ caseJ ∷ caseK ∷ caseL ∷ caseL-calls ∷ caseM 256 1024 4096 4 ∷ caseM 257 1024 4096 2 ∷ caseM 256 1025 4096 2 ∷ caseM 256 1024 4097 2 ∷ caseN ∷ caseO ∷ []

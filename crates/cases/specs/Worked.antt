@@ -12,12 +12,12 @@ use Rattle.formula.specs.Limits.{limits}
 use Rattle.formula.specs.Formula.{formulaOf, variablesOf, clausesFrom, existential, universal, change, levelOf, level, run, firstGroup}
 use Rattle.formula.specs.Block.{refusal, twice, badEnds, bothSigns, repeats}
 use Rattle.theory.specs.Record.{literals, assigned}
-use Rattle.theory.specs.Tests.{unassignedE, unassignedU, inConflict, unitOn, occurs, oneSign, monotone as isMonotone, isOpen}
+use Rattle.theory.specs.Tests.{unassignedE, unassignedU, inConflict, unitOn, occurs, oneSign, untrueOf, monotone as isMonotone, isOpen}
 use Rattle.rules.specs.declared.rule.State.{State}
 use Rattle.rules.specs.declared.rule.State.the-variants.{Open}
 use Rattle.rules.specs.declared.rule.Rule.{Rule}
 use Rattle.rules.specs.declared.rule.Rule.the-variants.{BacktrackExists, Fail, Unit, Monotone, Decide, BacktrackForall, Succeed}
-use Rattle.rules.specs.Due.{literal, due, lowest, last, candidate, lowestUnit, firstMonotone, firstUnassigned}
+use Rattle.rules.specs.Due.{literal, due, lowest, last, candidate, lowestUnit, firstOf, firstMonotone, firstUnassigned}
 use Rattle.rules.specs.Preferred.{firstOpen}
 use Rattle.rules.specs.Trail.{recordOf, wiped, Trail, entries}
 use Rattle.rules.specs.Apply.{apply}
@@ -25,15 +25,17 @@ use Rattle.rules.specs.Check.{badEntries, badRecord}
 use Rattle.session.specs.declared.Session.{Session}
 use Rattle.session.specs.declared.Answer.{Answer}
 use Rattle.session.specs.declared.Answer.the-variants.{To, Refused}
-use Rattle.session.specs.Refusals.{openRefusal, stepRefusal}
+use Rattle.session.specs.declared.Ran.{Ran}
+use Rattle.session.specs.declared.Ran.the-variants.{Until, Stopped}
+use Rattle.session.specs.Refusals.{openRefusal, stepRefusal, runRefusal}
 use Rattle.session.specs.Memory.{Memory, memory}
 use Rattle.session.specs.Outcome.{openOutcome, stepOutcome}
-use Rattle.session.specs.Run.{advance, runFrom}
+use Rattle.session.specs.Run.{advance, runFrom, runOf}
 use Rattle.listing.specs.declared.Paged as paged
 use Rattle.listing.specs.Opening.{valuesOf, openingStart}
 use Rattle.listing.specs.Page.{PageMemory, pageRefusal, pageFrom, pageOf}
 use Rattle.cases.specs.Table as said
-use Rattle.cases.specs.Table.{Asked, Said, Case, table, all-0, blockA, blockG, caseA, caseB, caseC, caseD, caseE, caseF, caseG, caseH, caseI, caseJ, caseK, caseN, caseO}
+use Rattle.cases.specs.Table.{Asked, Said, Case, table, all-0, blockA, blockG, caseA, caseA-monotone, caseB, caseC, caseD, caseE, caseF, caseG, caseH, caseI, caseJ, caseK, leastWord, caseL, caseL-calls, caseM, caseN, caseO}
 
 -- a rule by its name, with the literal that it wrote
 abbrev pub named : Rule → ℤ → Said
@@ -60,6 +62,10 @@ abbrev pub stepped : Session → Rule → Outcome Memory Answer → Answer → (
 stepped s r o (To t) rest = next (named r (getD (o .memory .trail .lits) (t .length - 1) (pos 0))) (rest t (o .memory .trail))
 stepped s r o (Refused n) rest = next (said.refused n) (rest s (o .memory .trail))
 
+abbrev pub run-as : Session → Outcome Memory Ran → Ran → (Session → Trail → Seen) → Seen
+run-as s o (Until t n) rest = next (said.ran n (getD (o .memory .trail .lits) (t .length - 1) (pos 0))) (rest t (o .memory .trail))
+run-as s o (Stopped n) rest = next (said.refused n) (rest s (o .memory .trail))
+
 abbrev pub paged-as : PageMemory → paged.Paged → Said
 paged-as m (paged.the-variants.Page n e p) = said.listed n e p (m .output)
 paged-as m (paged.the-variants.Refused n) = said.refused n
@@ -69,6 +75,9 @@ calling b [] s t = seen [] (s .state)
 calling b (said.step rev l ∷ rest) s t =
     let o = stepOutcome s b (record { trail = t }) (record { 0 = rev }) (literal l) in
     stepped s (due (formulaOf b) (recordOf t (s .length))) o (o .answer) (calling b rest)
+calling b (said.run rev budget preferred ∷ rest) s t =
+    let o = runOf s b (record { trail = t }) (record { 0 = rev }) budget preferred in
+    run-as s o (o .answer) (calling b rest)
 calling b (said.page start budget out ∷ rest) s t =
     let o = pageOf b (record { work = t; output = out }) start [] budget in
     next (paged-as (o .memory) (o .answer)) (calling b rest s (o .memory .work))
@@ -85,5 +94,5 @@ worked c =
     opened (c .block) (c .calls) o (o .answer)
 
 pub worked-by-hand : map worked table ≡ map (λ (c : Case). seen (c .said) (c .state)) table
-unfolding table caseA caseB caseC caseD caseE caseF caseG caseH caseI caseJ caseK caseN caseO blockA blockG all-0 worked calling stepOutcome openOutcome stepRefusal openRefusal pageOf pageRefusal pageFrom valuesOf openingStart advance runFrom refusal limits twice badEnds bothSigns repeats all any eqZ mem formulaOf clausesFrom existential universal change levelOf level run firstGroup literals assigned unassignedE unassignedU inConflict unitOn occurs oneSign isMonotone isOpen due lowest last candidate lowestUnit firstMonotone firstUnassigned firstOpen entries zipWith recordOf wiped apply badEntries badRecord ones
+unfolding table caseA caseA-monotone caseB caseC caseD caseE caseF caseG caseH caseI caseJ caseK leastWord caseL caseL-calls caseM caseN caseO blockA blockG all-0 worked calling stepOutcome openOutcome runOf stepRefusal openRefusal runRefusal pageOf pageRefusal pageFrom valuesOf openingStart advance runFrom refusal limits twice badEnds bothSigns repeats all any eqZ mem formulaOf clausesFrom existential universal change levelOf level run firstGroup literals assigned unassignedE unassignedU inConflict unitOn occurs oneSign untrueOf isMonotone isOpen due lowest last candidate lowestUnit firstOf firstMonotone firstUnassigned firstOpen entries zipWith recordOf wiped apply badEntries badRecord ones
 worked-by-hand = refl

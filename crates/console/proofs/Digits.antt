@@ -6,15 +6,15 @@ use mathlib.Core.List.{List, [], _∷_}
 use Prim.Native.Nat.{ℕ, _+_, _-_, _/_, _^_, _≤_, _<_}
 use native.Mathlib.Nat.{pow-le-pow-right}
 use native.Mathlib.Omega.{arith}
-use lib.Dec.{leb}
+use lib.Dec.{leb, eqb}
 use lib.ListN.{length, getD, take, drop}
-use borrow.Author.Tests.{le-leb, lt-leb, eq-eqb, ne-eqb, leb-true, leb-false}
+use borrow.Author.Tests.{le-leb, lt-leb, leb-true, leb-false}
 use lib.Seq.{take-all}
 use Rattle.words.specs.Laws.Bools.{look}
 use Rattle.words.specs.Laws.Lists.{next, ended}
 use Rattle.console.specs.declared.numbers.Natural.the-variants.{Value, NoNatural}
-use Rattle.console.specs.declared.numbers.Number.the-variants.{NoNumber}
-use Rattle.console.specs.Numbers.{valueOf, naturalOf, grown, withSign, numberOf}
+use Rattle.console.specs.Room.{longMost}
+use Rattle.console.specs.Numbers.{valueOf, naturalOf, grown, signed, numberOf}
 
 pub begins : (w : List ℕ) → (length w ≡ 0 → ⊥) → valueOf 0 w ≡ naturalOf w
 unfolding naturalOf
@@ -40,36 +40,36 @@ module _ (n : ℕ) (w : List ℕ) (i : ℕ) (h : i < length w) where
   high g l = rw (next w i 0 h, le-leb 48 (getD w i 0) g, lt-leb (getD w i 0) 57 l)
 
   module _ (g : 48 ≤ getD w i 0) (l : getD w i 0 ≤ 57) where
-    pub over : (18446744073709551615 - (getD w i 0 - 48)) / 10 < n → valueOf n (drop i w) ≡ NoNatural
+    pub over : (longMost - (getD w i 0 - 48)) / 10 < n → valueOf n (drop i w) ≡ NoNatural
     unfolding valueOf
     over o =
-        let z : 18446744073709551615 < grown n (getD w i 0) = omega arith in
-        rw (next w i 0 h, le-leb 48 (getD w i 0) g, le-leb (getD w i 0) 57 l, lt-leb (grown n (getD w i 0)) 18446744073709551615 z)
+        let z : longMost < grown n (getD w i 0) = omega arith in
+        rw (next w i 0 h, le-leb 48 (getD w i 0) g, le-leb (getD w i 0) 57 l, lt-leb (grown n (getD w i 0)) longMost z)
 
-    pub goes : n ≤ (18446744073709551615 - (getD w i 0 - 48)) / 10 → valueOf n (drop i w) ≡ valueOf (grown n (getD w i 0)) (drop (i + 1) w)
+    pub goes : n ≤ (longMost - (getD w i 0 - 48)) / 10 → valueOf n (drop i w) ≡ valueOf (grown n (getD w i 0)) (drop (i + 1) w)
     unfolding valueOf
     goes o =
-        let z : grown n (getD w i 0) ≤ 18446744073709551615 = omega arith in
-        rw (next w i 0 h, le-leb 48 (getD w i 0) g, le-leb (getD w i 0) 57 l, le-leb (grown n (getD w i 0)) 18446744073709551615 z)
+        let z : grown n (getD w i 0) ≤ longMost = omega arith in
+        rw (next w i 0 h, le-leb 48 (getD w i 0) g, le-leb (getD w i 0) 57 l, le-leb (grown n (getD w i 0)) longMost z)
 
 -- the number of a word, by its first byte
-pub none : (w : List ℕ) → length w ≡ 0 → NoNumber ≡ numberOf w
+pub minus : (w : List ℕ) → 0 < length w → eqb (getD w 0 0) 45 ≡ true → signed true (naturalOf (take (length w - 1) (drop 1 w))) ≡ numberOf w
 unfolding numberOf
-none [] e = refl
-none (b ∷ bs) e = absurd (omega arith)
+minus [] h e = absurd (omega arith)
+minus (b ∷ bs) h e = rw (e, take-all (length (b ∷ bs) - 1) bs (omega arith))
 
-pub minus : (w : List ℕ) → (length w ≡ 0 → ⊥) → getD w 0 0 ≡ 45 → withSign true (naturalOf (take (length w - 1) (drop 1 w))) ≡ numberOf w
-unfolding numberOf
-minus [] f e = absurd (f refl)
-minus (b ∷ bs) f e = rw (eq-eqb b 45 e, take-all (length (b ∷ bs) - 1) bs (omega arith))
+pub plain : (w : List ℕ) → eqb (getD w 0 0) 45 ≡ false → signed false (naturalOf w) ≡ numberOf w
+unfolding naturalOf numberOf
+plain [] e = refl
+plain (b ∷ bs) e = rw e
 
-pub plain : (w : List ℕ) → (length w ≡ 0 → ⊥) → (getD w 0 0 ≡ 45 → ⊥) → withSign false (naturalOf w) ≡ numberOf w
-unfolding numberOf
-plain [] f e = absurd (f refl)
-plain (b ∷ bs) f e = rw (ne-eqb b 45 e)
+pub bare : (w : List ℕ) → length w ≤ 0 → signed false (naturalOf w) ≡ numberOf w
+unfolding naturalOf numberOf
+bare [] h = refl
+bare (b ∷ bs) h = absurd (omega arith)
 
 -- a number of 64 bits has at most 20 digits
-pub twenty : (n k : ℕ) → n < 18446744073709551616 → (1 < k → 10 ^ (k - 1) ≤ n) → k ≤ 20
+pub twenty : (n k : ℕ) → n ≤ longMost → (1 < k → 10 ^ (k - 1) ≤ n) → k ≤ 20
 twenty n k h f = ⊎-elim (λ e. leb-true k 20 e) (λ e. absurd (many (leb-false k 20 e))) (look (leb k 20))
   where
     many : 20 < k → ⊥

@@ -3,54 +3,43 @@ ghost use lib.ListN.{length};
 ghost use Rattle.console.specs.Desk.{Within};
 use crate::command::Command;
 use crate::desk::Counts;
-use formula::Checked;
-use listing::Paged;
-use session::Answer;
-use session::Ran;
+use crate::names;
+use crate::reply;
+use crate::reply::Reply;
 use session::Session;
 
-// What the library answers.
-pub(crate) enum Called {
-    Checked(Checked),
-    Opened(Answer),
-    Stepped(Answer),
-    Ran(Ran),
-    Paged(Paged),
-    // The command asks for no call.
-    Nothing,
-}
-
-// The library's call that a command asks for.
+// The library's call that a command asks for, and its answer.
 fn call(
     command: Command,
     session: Session,
+    counts: Counts,
     block: &[i32],
     literals: &mut [i32],
     kinds: &mut [u8],
     output: &mut [u32],
     preferred: &[i32],
-) -> Called {
+) -> Reply {
     match command {
-        Command::Block(_) => Called::Checked(formula::check(block)),
-        Command::Open(first) => Called::Opened(session::open(block, literals, kinds, first)),
-        Command::Step { seen, proposal } => Called::Stepped(session.step(
-            block,
-            literals,
-            kinds,
-            seen,
-            proposal,
-        )),
-        Command::Run {
-            seen,
-            budget,
-            from: _,
-        } => Called::Ran(session.run(block, literals, kinds, seen, budget, preferred)),
-        Command::Page {
-            start,
-            budget,
-            from: _,
-        } => Called::Paged(listing::page(block, literals, kinds, start, preferred, budget, output)),
-        _ => Called::Nothing,
+        Command::Block(_) => reply::checked(session, formula::check(block)),
+        Command::Open(first) => reply::answered(
+            session,
+            names::OPEN,
+            session::open(block, literals, kinds, first),
+        ),
+        Command::Step { seen, proposal } => reply::answered(
+            session,
+            names::STEP,
+            session.step(block, literals, kinds, seen, proposal),
+        ),
+        Command::Run { seen, budget, .. } => reply::ran(
+            session,
+            session.run(block, literals, kinds, seen, budget, preferred),
+        ),
+        Command::Page { start, budget, .. } => reply::paged(
+            session,
+            listing::page(block, literals, kinds, start, preferred, budget, output),
+        ),
+        _ => reply::told(command, session, counts),
     }
 }
 
@@ -64,7 +53,7 @@ pub(crate) fn act(
     kinds: &mut [u8],
     output: &mut [u32],
     preferred: &[i32],
-) -> Called
+) -> Reply
     requires { ⌜ Within counts (length (now block)) (length (now literals)) (length (now kinds)) (length (now output)) (length (now preferred)) ⌝ }
 {
     let b = counts.block;
@@ -75,6 +64,7 @@ pub(crate) fn act(
     call(
         command,
         session,
+        counts,
         &block[0..b],
         &mut literals[0..l],
         &mut kinds[0..k],

@@ -1,29 +1,26 @@
 // What a line asks for, read from its bytes alone.
+use crate::desk::state_of;
 use crate::fill::all_fit;
 use crate::line::next_word;
+use crate::names;
 use crate::names::Name;
-use crate::names::named;
-use crate::numbers::Next;
-use crate::numbers::NextCount;
-use crate::numbers::NextWord;
-use crate::numbers::Place;
-use crate::numbers::count_at;
+use crate::numbers::ends;
 use crate::numbers::next_number;
-use crate::numbers::word_at;
-use rules::State;
+use crate::numbers::word_of;
+use crate::room::BLOCK_WORDS;
+use crate::room::COUNT_MOST;
+use crate::room::KIND_MOST;
+use crate::room::LONG_MOST;
+use crate::room::NONE_BELOW;
+use crate::room::OUTPUT_WORDS;
+use crate::room::PREFERRED_WORDS;
+use crate::room::RECORD_PLACES;
+use crate::room::STATE_MOST;
+use crate::room::WORD_BELOW;
+use crate::room::WORD_MOST;
 use session::Revision;
 use session::Session;
 use words::Literal;
-
-// "16,384 block words, 2,048 places of record, 8,192 of output". A line has at most half as many words as bytes, which is room enough for
-// preferences.
-const BLOCK_ROOM: usize = 16384;
-
-const RECORD_ROOM: usize = 2048;
-
-const OUTPUT_ROOM: usize = 8192;
-
-const PREFERRED_ROOM: usize = 131072;
 
 // Words for a buffer are left in the line: the command says where they begin.
 pub(crate) enum Command {
@@ -53,187 +50,97 @@ pub(crate) enum Command {
     Show,
 }
 
-// 0 open, 1 Valid, 2 Unsat.
-fn state_of(number: u64) -> State {
-    if number == 0 {
-        return State::Open;
-    }
-    if number == 1 {
-        return State::Valid;
-    }
-    State::Unsat
+// A command, if its words fit.
+fn only(fits: bool, command: Command) -> Command {
+    if fits { command } else { Command::Unknown }
 }
 
 // `session LENGTH REVISION STATE`
 fn session(line: &[u8], from: usize) -> Command {
-    let Next::Fit {
-        negative: _,
-        size: length,
-        next: second,
-    } = next_number(line, from, Place::Long)
-    else {
-        return Command::Unknown;
+    let length = next_number(line, from, NONE_BELOW, LONG_MOST);
+    let revision = next_number(line, length.next, NONE_BELOW, LONG_MOST);
+    let state = next_number(line, revision.next, NONE_BELOW, STATE_MOST);
+    let next = Session {
+        length: length.size as usize,
+        revision: Revision(revision.size),
+        state: state_of(state.size),
     };
-    let Next::Fit {
-        negative: _,
-        size: revision,
-        next: third,
-    } = next_number(line, second, Place::Long)
-    else {
-        return Command::Unknown;
-    };
-    let Next::Fit {
-        negative: _,
-        size: number,
-        next: end,
-    } = next_number(line, third, Place::State)
-    else {
-        return Command::Unknown;
-    };
-    let Next::End = next_number(line, end, Place::State) else {
-        return Command::Unknown;
-    };
-    Command::Session(Session {
-        length: length as usize,
-        revision: Revision(revision),
-        state: state_of(number),
-    })
+    only(ends(line, state.next), Command::Session(next))
 }
 
 // `open REVISION`
 fn open(line: &[u8], from: usize) -> Command {
-    let Next::Fit {
-        negative: _,
-        size: first,
-        next: end,
-    } = next_number(line, from, Place::Long)
-    else {
-        return Command::Unknown;
-    };
-    let Next::End = next_number(line, end, Place::Long) else {
-        return Command::Unknown;
-    };
-    Command::Open(Revision(first))
+    let first = next_number(line, from, NONE_BELOW, LONG_MOST);
+    only(ends(line, first.next), Command::Open(Revision(first.size)))
 }
 
 // `step SEEN PROPOSAL`
 fn step(line: &[u8], from: usize) -> Command {
-    let Next::Fit {
-        negative: _,
-        size: seen,
-        next: second,
-    } = next_number(line, from, Place::Long)
-    else {
-        return Command::Unknown;
+    let seen = next_number(line, from, NONE_BELOW, LONG_MOST);
+    let proposal = next_number(line, seen.next, WORD_BELOW, WORD_MOST);
+    let command = Command::Step {
+        seen: Revision(seen.size),
+        proposal: Literal(word_of(proposal.negative, proposal.size)),
     };
-    let NextWord::Is {
-        word: proposal,
-        next: end,
-    } = word_at(line, second)
-    else {
-        return Command::Unknown;
-    };
-    let Next::End = next_number(line, end, Place::Word) else {
-        return Command::Unknown;
-    };
-    Command::Step {
-        seen: Revision(seen),
-        proposal: Literal(proposal),
-    }
+    only(ends(line, proposal.next), command)
 }
 
 // `run SEEN BUDGET P..`
 fn run(line: &[u8], from: usize) -> Command {
-    let Next::Fit {
-        negative: _,
-        size: seen,
-        next: second,
-    } = next_number(line, from, Place::Long)
-    else {
-        return Command::Unknown;
+    let seen = next_number(line, from, NONE_BELOW, LONG_MOST);
+    let budget = next_number(line, seen.next, NONE_BELOW, COUNT_MOST);
+    let command = Command::Run {
+        seen: Revision(seen.size),
+        budget: budget.size as u32,
+        from: budget.next,
     };
-    let NextCount::Is {
-        count: budget,
-        next: third,
-    } = count_at(line, second)
-    else {
-        return Command::Unknown;
-    };
-    if !all_fit(line, third, Place::Word, PREFERRED_ROOM) {
-        return Command::Unknown;
-    }
-    Command::Run {
-        seen: Revision(seen),
-        budget,
-        from: third,
-    }
+    only(
+        all_fit(line, budget.next, WORD_BELOW, WORD_MOST, PREFERRED_WORDS),
+        command,
+    )
 }
 
 // `page START BUDGET P..`
 fn page(line: &[u8], from: usize) -> Command {
-    let NextCount::Is {
-        count: start,
-        next: second,
-    } = count_at(line, from)
-    else {
-        return Command::Unknown;
+    let start = next_number(line, from, NONE_BELOW, COUNT_MOST);
+    let budget = next_number(line, start.next, NONE_BELOW, COUNT_MOST);
+    let command = Command::Page {
+        start: start.size as u32,
+        budget: budget.size as u32,
+        from: budget.next,
     };
-    let NextCount::Is {
-        count: budget,
-        next: third,
-    } = count_at(line, second)
-    else {
-        return Command::Unknown;
-    };
-    if !all_fit(line, third, Place::Word, PREFERRED_ROOM) {
-        return Command::Unknown;
-    }
-    Command::Page {
-        start,
-        budget,
-        from: third,
-    }
-}
-
-// `show`
-fn show(line: &[u8], from: usize) -> Command {
-    let Next::End = next_number(line, from, Place::Word) else {
-        return Command::Unknown;
-    };
-    Command::Show
+    only(
+        all_fit(line, budget.next, WORD_BELOW, WORD_MOST, PREFERRED_WORDS),
+        command,
+    )
 }
 
 // The command whose name is read, from the words behind it.
 fn behind(name: Name, line: &[u8], from: usize) -> Command {
     match name {
-        Name::Block => if all_fit(line, from, Place::Word, BLOCK_ROOM) {
-            Command::Block(from)
-        } else {
-            Command::Unknown
-        },
-        Name::Literals => if all_fit(line, from, Place::Word, RECORD_ROOM) {
-            Command::Literals(from)
-        } else {
-            Command::Unknown
-        },
-        Name::Kinds => if all_fit(line, from, Place::Kind, RECORD_ROOM) {
-            Command::Kinds(from)
-        } else {
-            Command::Unknown
-        },
-        Name::Output => if all_fit(line, from, Place::Count, OUTPUT_ROOM) {
-            Command::Output(from)
-        } else {
-            Command::Unknown
-        },
-        Name::Session => session(line, from),
-        Name::Open => open(line, from),
-        Name::Step => step(line, from),
-        Name::Run => run(line, from),
-        Name::Page => page(line, from),
-        Name::Show => show(line, from),
-        Name::Unknown => Command::Unknown,
-        Name::Nothing => Command::Nothing,
+        names::BLOCK => only(
+            all_fit(line, from, WORD_BELOW, WORD_MOST, BLOCK_WORDS),
+            Command::Block(from),
+        ),
+        names::LITERALS => only(
+            all_fit(line, from, WORD_BELOW, WORD_MOST, RECORD_PLACES),
+            Command::Literals(from),
+        ),
+        names::KINDS => only(
+            all_fit(line, from, NONE_BELOW, KIND_MOST, RECORD_PLACES),
+            Command::Kinds(from),
+        ),
+        names::OUTPUT => only(
+            all_fit(line, from, NONE_BELOW, COUNT_MOST, OUTPUT_WORDS),
+            Command::Output(from),
+        ),
+        names::SESSION => session(line, from),
+        names::OPEN => open(line, from),
+        names::STEP => step(line, from),
+        names::RUN => run(line, from),
+        names::PAGE => page(line, from),
+        names::SHOW => only(ends(line, from), Command::Show),
+        _ => Command::Unknown,
     }
 }
 
@@ -251,5 +158,5 @@ pub(crate) fn asked(line: &[u8], long: bool) -> Command {
     if line[0] == b'#' {
         return Command::Nothing;
     }
-    behind(named(&line[start..end]), line, end)
+    behind(names::named(&line[start..end]), line, end)
 }

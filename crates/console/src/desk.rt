@@ -1,5 +1,5 @@
 // The desk between two lines.
-ghost use Rattle.console.specs.Desk.{Within};
+ghost use Rattle.console.specs.Desk.{InRoom};
 use rules::State;
 use session::Revision;
 use session::Session;
@@ -13,23 +13,47 @@ pub(crate) struct Counts {
     pub(crate) preferred: usize,
 }
 
+// The desk, and whether it goes on to the next line: the answer could be written, and the input has not ended.
+pub(crate) struct Desk {
+    pub(crate) counts: Counts,
+    pub(crate) session: Session,
+    pub(crate) on: bool,
+}
+
 // "At the start everything is empty and the session is 0 0 0."
-pub(crate) fn empty() -> Counts
-    ensures { λ r. ⌜ Within r 0 0 0 0 0 ⌝ }
+pub(crate) fn empty() -> Desk
+    ensures { λ r. ⌜ InRoom (r .counts) ⌝ }
 {
-    Counts {
-        block: 0,
-        literals: 0,
-        kinds: 0,
-        output: 0,
-        preferred: 0,
+    Desk {
+        counts: Counts {
+            block: 0,
+            literals: 0,
+            kinds: 0,
+            output: 0,
+            preferred: 0,
+        },
+        session: Session {
+            length: 0,
+            revision: Revision(0),
+            state: State::Open,
+        },
+        on: true,
     }
 }
 
-pub(crate) fn fresh() -> Session {
-    Session {
-        length: 0,
-        revision: Revision(0),
-        state: State::Open,
+// "0 open, 1 Valid, 2 Unsat": a state's number, and a number's state.
+pub(crate) fn number_of(state: State) -> u64 {
+    match state {
+        State::Open => 0,
+        State::Valid => 1,
+        State::Unsat => 2,
+    }
+}
+
+pub(crate) fn state_of(number: u64) -> State {
+    match number {
+        0 => State::Open,
+        1 => State::Valid,
+        _ => State::Unsat,
     }
 }

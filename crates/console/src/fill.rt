@@ -1,37 +1,32 @@
 // The numbers of a line, for a buffer. All are looked at before the first is stored, so that a line that doesn't fit changes nothing.
 ghost use Prim.Native.Nat.{_≤_};
 ghost use lib.ListN.{length};
-use crate::numbers::Next;
-use crate::numbers::NextCount;
-use crate::numbers::NextKind;
-use crate::numbers::NextWord;
-use crate::numbers::Place;
-use crate::numbers::count_at;
-use crate::numbers::kind_at;
+ghost use Rattle.console.specs.Room.{recordPlaces, outputWords};
+use crate::numbers::NOWHERE;
+use crate::numbers::ends;
 use crate::numbers::next_number;
-use crate::numbers::word_at;
+use crate::numbers::word_of;
+use crate::room::COUNT_MOST;
+use crate::room::KIND_MOST;
+use crate::room::NONE_BELOW;
+use crate::room::OUTPUT_WORDS;
+use crate::room::RECORD_PLACES;
+use crate::room::WORD_BELOW;
+use crate::room::WORD_MOST;
 
 // Whether every word from a place on is a number that fits, and they are no more than there is room for.
-pub(crate) fn all_fit(line: &[u8], from: usize, place: Place, room: usize) -> bool {
+pub(crate) fn all_fit(line: &[u8], from: usize, below: u64, most: u64, room: usize) -> bool {
     let mut at = from;
     let mut count = 0;
-    loop {
-        match next_number(line, at, place) {
-            Next::Fit {
-                negative: _,
-                size: _,
-                next,
-            } => {
-                if count == room {
-                    return false;
-                }
-                count += 1;
-                at = next;
-            }
-            Next::Unfit => return false,
-            Next::End => return true,
+    while count < room {
+        let number = next_number(line, at, below, most);
+        if number.next == NOWHERE {
+            return ends(line, at);
         }
+        at = number.next;
+        count += 1;
     }
+    ends(line, at)
 }
 
 // Each of these stores the numbers from a place on, as far as they fit, and answers how many there are.
@@ -41,44 +36,47 @@ pub(crate) fn store_words(line: &[u8], from: usize, buffer: &mut [i32]) -> usize
     let mut at = from;
     let mut count = 0;
     while count < buffer.len() {
-        let NextWord::Is { word, next } = word_at(line, at) else {
+        let number = next_number(line, at, WORD_BELOW, WORD_MOST);
+        at = number.next;
+        if at == NOWHERE {
             return count;
-        };
-        buffer[count] = word;
+        }
+        buffer[count] = word_of(number.negative, number.size);
         count += 1;
-        at = next;
     }
     count
 }
 
-pub(crate) fn store_kinds(line: &[u8], from: usize, buffer: &mut [u8]) -> usize
-    ensures { λ r. ⌜ r ≤ length (now (buffer .entry)) ⌝ }
+pub(crate) fn store_kinds(line: &[u8], from: usize, buffer: &mut [u8; RECORD_PLACES]) -> usize
+    ensures { λ r. ⌜ r ≤ recordPlaces ⌝ }
 {
     let mut at = from;
     let mut count = 0;
-    while count < buffer.len() {
-        let NextKind::Is { kind, next } = kind_at(line, at) else {
+    while count < RECORD_PLACES {
+        let number = next_number(line, at, NONE_BELOW, KIND_MOST);
+        at = number.next;
+        if at == NOWHERE {
             return count;
-        };
-        buffer[count] = kind;
+        }
+        buffer[count] = number.size as u8;
         count += 1;
-        at = next;
     }
     count
 }
 
-pub(crate) fn store_counts(line: &[u8], from: usize, buffer: &mut [u32]) -> usize
-    ensures { λ r. ⌜ r ≤ length (now (buffer .entry)) ⌝ }
+pub(crate) fn store_counts(line: &[u8], from: usize, buffer: &mut [u32; OUTPUT_WORDS]) -> usize
+    ensures { λ r. ⌜ r ≤ outputWords ⌝ }
 {
     let mut at = from;
     let mut count = 0;
-    while count < buffer.len() {
-        let NextCount::Is { count: word, next } = count_at(line, at) else {
+    while count < OUTPUT_WORDS {
+        let number = next_number(line, at, NONE_BELOW, COUNT_MOST);
+        at = number.next;
+        if at == NOWHERE {
             return count;
-        };
-        buffer[count] = word;
+        }
+        buffer[count] = number.size as u32;
         count += 1;
-        at = next;
     }
     count
 }

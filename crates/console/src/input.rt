@@ -1,7 +1,10 @@
 // The lines of the input.
 ghost use Prim.Native.Nat.{_≤_};
 ghost use Rattle.console.specs.Line.{Takes};
+ghost use Rattle.console.specs.Room.{partBytes};
 use crate::line::gather;
+use crate::room::LINE_BYTES;
+use crate::room::PART_BYTES;
 use libc::STDIN_FILENO;
 
 // What of the part that was read last is still to be taken in, from one place up to another.
@@ -20,9 +23,9 @@ pub(crate) struct Taken {
 }
 
 // Reads once, where nothing is left. Where nothing comes the input has ended, or can't be read.
-fn refill(part: &mut [u8; 65536], left: Left) -> Left
-    requires { ⌜ left .size ≤ 65536 ⌝ }
-    ensures { λ r. ⌜ r .size ≤ 65536 ⌝ }
+fn refill(part: &mut [u8; PART_BYTES], left: Left) -> Left
+    requires { ⌜ left .size ≤ partBytes ⌝ }
+    ensures { λ r. ⌜ r .size ≤ partBytes ⌝ }
 {
     if left.at < left.size {
         return left;
@@ -35,42 +38,40 @@ fn refill(part: &mut [u8; 65536], left: Left) -> Left
 }
 
 // Takes in a line. The last one need not have its line feed.
-pub(crate) fn next_line(part: &mut [u8; 65536], line: &mut [u8; 262144], first: Left) -> Taken
-    requires { ⌜ first .size ≤ 65536 ⌝ }
-    ensures { λ r. ⌜ Takes r 65536 262144 ⌝ }
+pub(crate) fn next_line(
+    part: &mut [u8; PART_BYTES],
+    line: &mut [u8; LINE_BYTES],
+    first: Left,
+) -> Taken
+    requires { ⌜ first .size ≤ partBytes ⌝ }
+    ensures { λ r. ⌜ Takes r ⌝ }
 {
-    let mut left = first;
-    let mut count = 0;
-    let mut long = false;
+    let mut taken = Taken {
+        count: 0,
+        long: false,
+        ended: false,
+        left: first,
+    };
     let mut turns = u64::MAX;
     while 0 < turns {
         turns -= 1;
-        left = refill(part, left);
+        let left = refill(part, taken.left);
         if left.size == 0 {
-            return Taken {
-                count,
-                long,
-                ended: false,
-                left,
-            };
+            return taken;
         }
-        let gathered = gather(part, left.at, left.size, line, count, long);
-        count = gathered.count;
-        long = gathered.long;
-        left.at = gathered.next;
+        let gathered = gather(part, left.at, left.size, line, taken.count, taken.long);
+        taken = Taken {
+            count: gathered.count,
+            long: gathered.long,
+            ended: gathered.ended,
+            left: Left {
+                at: gathered.next,
+                size: left.size,
+            },
+        };
         if gathered.ended {
-            return Taken {
-                count,
-                long,
-                ended: true,
-                left,
-            };
+            return taken;
         }
     }
-    Taken {
-        count,
-        long,
-        ended: false,
-        left,
-    }
+    taken
 }

@@ -2,6 +2,9 @@
 ghost use Prim.Native.Nat.{_≤_};
 ghost use lib.ListN.{length};
 ghost use Rattle.console.specs.Line.{Ahead};
+ghost use Rattle.console.specs.Room.{lineBytes, partBytes};
+use crate::room::LINE_BYTES;
+use crate::room::PART_BYTES;
 
 // How far a line has come in: where the input goes on, how many bytes of the line are kept, whether there were more than it has room for,
 // and whether its line feed has come.
@@ -20,16 +23,16 @@ pub(crate) struct Word {
 
 // Puts the bytes of a part of the input, from one place up to another or to the next line feed, behind those that the line has.
 pub(crate) fn gather(
-    part: &[u8; 65536],
+    part: &[u8; PART_BYTES],
     from: usize,
     to: usize,
-    line: &mut [u8; 262144],
+    line: &mut [u8; LINE_BYTES],
     held: usize,
     over: bool,
 ) -> Gathered
-    requires { ⌜ to ≤ 65536 ⌝ }
-    requires { ⌜ held ≤ 262144 ⌝ }
-    ensures { λ r. ⌜ r .count ≤ 262144 ⌝ }
+    requires { ⌜ to ≤ partBytes ⌝ }
+    requires { ⌜ held ≤ lineBytes ⌝ }
+    ensures { λ r. ⌜ r .count ≤ lineBytes ⌝ }
 {
     let mut i = from;
     let mut count = held;
@@ -45,7 +48,7 @@ pub(crate) fn gather(
                 ended: true,
             };
         }
-        if count < 262144 {
+        if count < LINE_BYTES {
             line[count] = b;
             count += 1;
         } else {

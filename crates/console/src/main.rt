@@ -1,7 +1,7 @@
 // The console: one desk, served line by line on standard input until that ends.
 ghost use Prim.Native.Nat.{_≤_};
 ghost use lib.ListN.{length};
-ghost use Rattle.console.specs.Desk.{Within};
+ghost use Rattle.console.specs.Desk.{InRoom};
 
 mod act; // a command, done on the desk
 mod command; // what a line asks for
@@ -12,57 +12,49 @@ mod line; // a line's bytes and words
 mod names; // the names that a line begins with
 mod numbers; // a word's number
 mod reply; // what a line is answered
+mod room; // how large all that is
 mod set; // the words of a line, put into a buffer
 mod text; // the text of an answer
 
 use act::act;
 use command::asked;
-use desk::Counts;
+use desk::Desk;
 use input::Left;
+use input::Taken;
 use input::next_line;
-use reply::answer;
-use session::Session;
-
-// What a line leaves: the desk, and whether the answer could be written.
-struct Served {
-    counts: Counts,
-    session: Session,
-    on: bool,
-}
+use room::BLOCK_WORDS;
+use room::LINE_BYTES;
+use room::OUTPUT_WORDS;
+use room::PART_BYTES;
+use room::PREFERRED_WORDS;
+use room::RECORD_PLACES;
+use room::TEXT_BYTES;
 
 // Answers a line.
 fn serve_line(
     bytes: &[u8],
-    count: usize,
-    long: bool,
-    session: Session,
-    old: Counts,
-    block: &mut [i32; 16384],
-    literals: &mut [i32; 2048],
-    kinds: &mut [u8; 2048],
-    output: &mut [u32; 8192],
-    preferred: &mut [i32; 131072],
-    text: &mut [u8; 262144],
-) -> Served
-    requires { ⌜ count ≤ length (now bytes) ⌝ }
-    requires { ⌜ Within old 16384 2048 2048 8192 131072 ⌝ }
-    ensures { λ r. ⌜ Within (r .counts) 16384 2048 2048 8192 131072 ⌝ }
+    taken: Taken,
+    desk: Desk,
+    block: &mut [i32; BLOCK_WORDS],
+    literals: &mut [i32; RECORD_PLACES],
+    kinds: &mut [u8; RECORD_PLACES],
+    output: &mut [u32; OUTPUT_WORDS],
+    preferred: &mut [i32; PREFERRED_WORDS],
+    text: &mut [u8; TEXT_BYTES],
+) -> Desk
+    requires { ⌜ taken .count ≤ length (now bytes) ⌝ }
+    requires { ⌜ InRoom (desk .counts) ⌝ }
+    ensures { λ r. ⌜ InRoom (r .counts) ⌝ }
 {
+    let count = taken.count;
     let line = &bytes[0..count];
-    let command = asked(line, long);
-    let counts = set::buffers(
-        command,
-        line,
-        old,
-        block,
-        literals,
-        kinds,
-        output,
-        preferred,
-    );
-    let called = act(
-        command,
-        session,
+    let asks = asked(line, taken.long);
+    let old = desk.counts;
+    let before = desk.session;
+    let counts = set::buffers(asks, line, old, block, literals, kinds, output, preferred);
+    let reply = act(
+        asks,
+        before,
         counts,
         block,
         literals,
@@ -70,42 +62,36 @@ fn serve_line(
         output,
         preferred,
     );
-    let done = answer(command, session, counts, called);
-    let reply = done.reply;
-    let on = text::write(text, reply, counts, literals, kinds, output);
-    let session = done.session;
-    Served {
+    let written = text::write(text, reply, counts, literals, kinds, output);
+    let session = reply.session;
+    Desk {
         counts,
         session,
-        on,
+        on: written & taken.ended,
     }
 }
 
 // A proved loop has to end, and nothing says that the input does. So the loop counts its turns down, from a number that no run uses up.
-// "Room: 16,384 block words, 2,048 places of record, 8,192 of output, lines of 262,144 bytes."
 fn serve(
-    part: &mut [u8; 65536],
-    line: &mut [u8; 262144],
-    block: &mut [i32; 16384],
-    literals: &mut [i32; 2048],
-    kinds: &mut [u8; 2048],
-    output: &mut [u32; 8192],
-    preferred: &mut [i32; 131072],
-    text: &mut [u8; 262144],
+    part: &mut [u8; PART_BYTES],
+    line: &mut [u8; LINE_BYTES],
+    block: &mut [i32; BLOCK_WORDS],
+    literals: &mut [i32; RECORD_PLACES],
+    kinds: &mut [u8; RECORD_PLACES],
+    output: &mut [u32; OUTPUT_WORDS],
+    preferred: &mut [i32; PREFERRED_WORDS],
+    text: &mut [u8; TEXT_BYTES],
 ) {
-    let mut counts = desk::empty();
-    let mut session = desk::fresh();
+    let mut desk = desk::empty();
     let mut left = Left { at: 0, size: 0 };
     let mut turns = u64::MAX;
     while 0 < turns {
         turns -= 1;
         let taken = next_line(part, line, left);
-        let served = serve_line(
+        desk = serve_line(
             line,
-            taken.count,
-            taken.long,
-            session,
-            counts,
+            taken,
+            desk,
             block,
             literals,
             kinds,
@@ -113,27 +99,22 @@ fn serve(
             preferred,
             text,
         );
-        if !served.on {
-            return;
-        }
-        if !taken.ended {
+        if !desk.on {
             return;
         }
         left = taken.left;
-        counts = served.counts;
-        session = served.session;
     }
 }
 
 fn main() {
-    let mut part = [0; 65536];
-    let mut line = [0; 262144];
-    let mut block = [0; 16384];
-    let mut literals = [0; 2048];
-    let mut kinds = [0; 2048];
-    let mut output = [0; 8192];
-    let mut preferred = [0; 131072];
-    let mut text = [0; 262144];
+    let mut part = [0; PART_BYTES];
+    let mut line = [0; LINE_BYTES];
+    let mut block = [0; BLOCK_WORDS];
+    let mut literals = [0; RECORD_PLACES];
+    let mut kinds = [0; RECORD_PLACES];
+    let mut output = [0; OUTPUT_WORDS];
+    let mut preferred = [0; PREFERRED_WORDS];
+    let mut text = [0; TEXT_BYTES];
     serve(
         &mut part,
         &mut line,

@@ -1,21 +1,25 @@
-// The text of an answer, put together in a buffer. Each function answers where the text goes on. No answer is cut short: a number with
-// the space before it takes at most 21 bytes, a signed one 22, so 2,048 words take 45,056, as many kinds 43,008, and 8,192 words of the
-// output 172,032.
+// The text of an answer, put together in a buffer that has room for every answer. Each function answers where the text goes on.
 ghost use mathlib.Core.Path.{_≡_};
-ghost use Prim.Native.Nat.{_+_, _≤_, _<_};
+ghost use Prim.Native.Nat.{_+_, _*_, _≤_, _<_};
 ghost use lib.ListN.{length};
+ghost use Rattle.console.specs.Room.{textBytes, recordPlaces, outputWords, answerNumbers, numberBytes, namesBytes};
 use crate::desk::Counts;
+use crate::names::NOTHING;
 use crate::names::Name;
 use crate::names::list;
 use crate::names::name_at;
-use crate::names::place_of;
 use crate::reply::After;
 use crate::reply::Reply;
+use crate::room::ANSWER_NUMBERS;
+use crate::room::DIGITS;
+use crate::room::OUTPUT_WORDS;
+use crate::room::RECORD_PLACES;
+use crate::room::TEXT_BYTES;
 use libc::STDOUT_FILENO;
 
 // Puts bytes as they are.
-fn put(text: &mut [u8; 262144], at: usize, bytes: &[u8]) -> usize
-    requires { ⌜ at + length (now bytes) ≤ 262144 ⌝ }
+fn put(text: &mut [u8; TEXT_BYTES], at: usize, bytes: &[u8]) -> usize
+    requires { ⌜ at + length (now bytes) ≤ textBytes ⌝ }
     ensures { λ r. ⌜ r ≡ at + length (now (bytes .entry)) ⌝ }
 {
     let mut i = 0;
@@ -26,31 +30,18 @@ fn put(text: &mut [u8; 262144], at: usize, bytes: &[u8]) -> usize
     at + i
 }
 
-// Puts a number, with a space before it.
-fn natural(text: &mut [u8; 262144], at: usize, n: u64) -> usize
-    requires { ⌜ at + 21 ≤ 262144 ⌝ }
-    ensures { λ r. ⌜ r ≤ at + 21 ⌝ }
+// Puts a number of a sign and a size, with a space before it.
+fn number(text: &mut [u8; TEXT_BYTES], at: usize, negative: bool, size: u64) -> usize
+    requires { ⌜ at + numberBytes ≤ textBytes ⌝ }
+    ensures { λ r. ⌜ r ≤ at + numberBytes ⌝ }
 {
-    let mut digits = [0u8; 20];
-    let k = io::decimal(n, &mut digits);
+    let mut digits = [0u8; DIGITS];
+    let k = io::decimal(size, &mut digits);
     text[at] = b' ';
-    put(text, at + 1, &digits[..k])
-}
-
-// Puts the word at an index, with a space before it.
-fn word(text: &mut [u8; 262144], at: usize, ws: &[i32; 2048], i: usize) -> usize
-    requires { ⌜ at + 22 ≤ 262144 ⌝ }
-    ensures { λ r. ⌜ r ≤ at + 22 ⌝ }
-{
-    let size = words::size_at(ws, i) as u64;
-    if words::negative_at(ws, i) {
-        let end = natural(text, at + 1, size);
-        text[at] = b' ';
-        text[at + 1] = b'-';
-        end
-    } else {
-        natural(text, at, size)
-    }
+    // Where the number has no sign, its first digit is put over this one.
+    text[at + 1] = b'-';
+    let first = if negative { at + 2 } else { at + 1 };
+    put(text, first, &digits[..k])
 }
 
 // A cast by a call asks for no proof that an element of an array fits.
@@ -63,112 +54,112 @@ fn of_count(count: u32) -> u64 {
 }
 
 // Each of these puts the first numbers of a buffer, as many as it has room for or as are asked for.
-fn words(text: &mut [u8; 262144], from: usize, ws: &[i32; 2048], count: usize) -> usize
-    requires { ⌜ from + 45056 ≤ 262144 ⌝ }
-    ensures { λ r. ⌜ r ≤ from + 45056 ⌝ }
+fn words(text: &mut [u8; TEXT_BYTES], from: usize, ws: &[i32; RECORD_PLACES], count: usize) -> usize
+    requires { ⌜ from + numberBytes * recordPlaces ≤ textBytes ⌝ }
+    ensures { λ r. ⌜ r ≤ from + numberBytes * recordPlaces ⌝ }
 {
     let mut at = from;
     let mut i = 0;
-    while i < 2048 && i < count {
-        at = word(text, at, ws, i);
+    while i < RECORD_PLACES && i < count {
+        at = number(
+            text,
+            at,
+            words::negative_at(ws, i),
+            words::size_at(ws, i) as u64,
+        );
         i += 1;
     }
     at
 }
 
-fn kinds(text: &mut [u8; 262144], from: usize, bs: &[u8; 2048], count: usize) -> usize
-    requires { ⌜ from + 43008 ≤ 262144 ⌝ }
-    ensures { λ r. ⌜ r ≤ from + 43008 ⌝ }
+fn kinds(text: &mut [u8; TEXT_BYTES], from: usize, bs: &[u8; RECORD_PLACES], count: usize) -> usize
+    requires { ⌜ from + numberBytes * recordPlaces ≤ textBytes ⌝ }
+    ensures { λ r. ⌜ r ≤ from + numberBytes * recordPlaces ⌝ }
 {
     let mut at = from;
     let mut i = 0;
-    while i < 2048 && i < count {
-        at = natural(text, at, of_kind(bs[i]));
+    while i < RECORD_PLACES && i < count {
+        at = number(text, at, false, of_kind(bs[i]));
         i += 1;
     }
     at
 }
 
-fn counts(text: &mut [u8; 262144], from: usize, ns: &[u32; 8192], count: usize) -> usize
-    requires { ⌜ from + 172032 ≤ 262144 ⌝ }
-    ensures { λ r. ⌜ r ≤ from + 172032 ⌝ }
+fn counts(text: &mut [u8; TEXT_BYTES], from: usize, ns: &[u32; OUTPUT_WORDS], count: usize) -> usize
+    requires { ⌜ from + numberBytes * outputWords ≤ textBytes ⌝ }
+    ensures { λ r. ⌜ r ≤ from + numberBytes * outputWords ⌝ }
 {
     let mut at = from;
     let mut i = 0;
-    while i < 8192 && i < count {
-        at = natural(text, at, of_count(ns[i]));
+    while i < OUTPUT_WORDS && i < count {
+        at = number(text, at, false, of_count(ns[i]));
         i += 1;
     }
     at
 }
 
-// Puts the first few of five numbers, each with a space before it.
-fn numbers(text: &mut [u8; 262144], from: usize, ns: [u64; 5], count: usize) -> usize
-    requires { ⌜ from + 105 ≤ 262144 ⌝ }
-    ensures { λ r. ⌜ r ≤ from + 105 ⌝ }
+fn numbers(
+    text: &mut [u8; TEXT_BYTES],
+    from: usize,
+    ns: [u64; ANSWER_NUMBERS],
+    count: usize,
+) -> usize
+    requires { ⌜ from + numberBytes * answerNumbers ≤ textBytes ⌝ }
+    ensures { λ r. ⌜ r ≤ from + numberBytes * answerNumbers ⌝ }
 {
     let mut at = from;
     let mut i = 0;
-    while i < 5 && i < count {
-        at = natural(text, at, ns[i]);
+    while i < ANSWER_NUMBERS && i < count {
+        at = number(text, at, false, ns[i]);
         i += 1;
     }
     at
 }
 
 // Puts a name.
-fn name(text: &mut [u8; 262144], at: usize, name: Name) -> usize
-    requires { ⌜ at + 54 ≤ 262144 ⌝ }
-    ensures { λ r. ⌜ r ≤ at + 54 ⌝ }
+fn name(text: &mut [u8; TEXT_BYTES], at: usize, name: Name) -> usize
+    requires { ⌜ at + namesBytes ≤ textBytes ⌝ }
+    ensures { λ r. ⌜ r ≤ at + namesBytes ⌝ }
 {
     let names = list();
-    let word = name_at(&names, place_of(name));
+    let word = name_at(&names, name);
     let start = word.start;
     let end = word.end;
     put(text, at, &names[start..end])
 }
 
-// Puts a name, with a space before it.
-fn heading(text: &mut [u8; 262144], at: usize, of: Name) -> usize
-    requires { ⌜ at + 55 ≤ 262144 ⌝ }
-    ensures { λ r. ⌜ r ≤ at + 55 ⌝ }
-{
-    let from = put(text, at, b" ");
-    name(text, from, of)
-}
-
 // Puts ` lits W.. kinds B.. out W..`.
 fn buffers(
-    text: &mut [u8; 262144],
+    text: &mut [u8; TEXT_BYTES],
     from: usize,
     used: Counts,
-    literals: &[i32; 2048],
-    bytes: &[u8; 2048],
-    output: &[u32; 8192],
+    literals: &[i32; RECORD_PLACES],
+    bytes: &[u8; RECORD_PLACES],
+    output: &[u32; OUTPUT_WORDS],
 ) -> usize
-    requires { ⌜ from ≤ 159 ⌝ }
-    ensures { λ r. ⌜ r < 262144 ⌝ }
+    requires { ⌜ from ≤ namesBytes + numberBytes * answerNumbers ⌝ }
+    ensures { λ r. ⌜ r < textBytes ⌝ }
 {
-    let first = heading(text, from, Name::Literals);
+    let first = put(text, from, b" lits");
     let second = words(text, first, literals, used.literals);
-    let third = heading(text, second, Name::Kinds);
+    let third = put(text, second, b" kinds");
     let fourth = kinds(text, third, bytes, used.kinds);
-    let last = heading(text, fourth, Name::Output);
+    let last = put(text, fourth, b" out");
     counts(text, last, output, used.output)
 }
 
 // Puts the words that follow an answer's numbers.
 fn words_after(
-    text: &mut [u8; 262144],
+    text: &mut [u8; TEXT_BYTES],
     from: usize,
     after: After,
     used: Counts,
-    literals: &[i32; 2048],
-    bytes: &[u8; 2048],
-    output: &[u32; 8192],
+    literals: &[i32; RECORD_PLACES],
+    bytes: &[u8; RECORD_PLACES],
+    output: &[u32; OUTPUT_WORDS],
 ) -> usize
-    requires { ⌜ from ≤ 159 ⌝ }
-    ensures { λ r. ⌜ r < 262144 ⌝ }
+    requires { ⌜ from ≤ namesBytes + numberBytes * answerNumbers ⌝ }
+    ensures { λ r. ⌜ r < textBytes ⌝ }
 {
     match after {
         After::Nothing => from,
@@ -186,15 +177,15 @@ fn written(text: &[u8], size: usize) -> bool
 
 // Puts an answer with its line feed, and writes it.
 pub(crate) fn write(
-    text: &mut [u8; 262144],
+    text: &mut [u8; TEXT_BYTES],
     reply: Reply,
     used: Counts,
-    literals: &[i32; 2048],
-    bytes: &[u8; 2048],
-    output: &[u32; 8192],
+    literals: &[i32; RECORD_PLACES],
+    bytes: &[u8; RECORD_PLACES],
+    output: &[u32; OUTPUT_WORDS],
 ) -> bool {
     let first = reply.name;
-    if let Name::Nothing = first {
+    if first == NOTHING {
         return true;
     }
     let named = name(text, 0, first);

@@ -14,7 +14,7 @@ use Rattle.words.specs.Words.{negative}
 use Rattle.formula.specs.Formula.{word, formulaOf, firstGroup, prefixOf}
 use Rattle.rules.specs.Inner.Ready.{formula}
 use Rattle.session.specs.Refusals.{openRows, openRefusal}
-use Rattle.listing.specs.Page.{ofPage, pageRefusal, PageMemory}
+use Rattle.listing.specs.Page.{workOf, ofPage, pageRefusal, PageMemory}
 use Rattle.formula.specs.Limits.{limits}
 
 -- ---- rows 18 to 21
@@ -46,11 +46,11 @@ module _ (p : List ℤ) (start : ℕ) (out : List ℕ) {u : Bool} (is : u ≡ ne
         openings-pass r = rw (first-word p, ← is, x, ← e, le-ltb (limits .group) k h, ← t, le-ltb m start l, le-ltb (length out) 2 r)
 
 -- ---- rows 1 to 11, and then these
-module _ (b : List ℤ) (m : PageMemory) (start : ℕ) {r : ℕ} (e : r ≡ openRefusal b (record { trail = m .work })) where
+module _ (b : List ℤ) (m : PageMemory) (start : ℕ) {r : ℕ} (e : r ≡ openRefusal b (workOf m)) where
   pub page-buffers : (r ≡ 0 → ⊥) → r ≡ pageRefusal b m start
   unfolding pageRefusal openRefusal
-  page-buffers f = stops (openRows b (record { trail = m .work })) (ofPage (formulaOf b) start (m .output)) e f
+  page-buffers f = stops (openRows b (workOf m)) (ofPage (formulaOf b) start (m .output)) e f
 
   pub page-openings : (z : r ≡ 0) {p : List ℤ} → p ≡ prefixOf b → {q : ℕ} → q ≡ refusalOf (rowsOf p start (m .output)) → q ≡ pageRefusal b m start
   unfolding pageRefusal openRefusal formulaOf
-  page-openings z is p = p ∙ rw is (sym (goes-on (openRows b (record { trail = m .work })) (ofPage (formulaOf b) start (m .output)) refl (sym e ∙ z)))
+  page-openings z is p = p ∙ rw is (sym (goes-on (openRows b (workOf m)) (ofPage (formulaOf b) start (m .output)) refl (sym e ∙ z)))

@@ -1,5 +1,4 @@
 -- What only the proofs of this crate need.
 pub mod Groups
 pub mod Guards
-pub mod Begun
-pub mod Exits
+pub mod Pages

@@ -1,112 +1,74 @@
--- One accepted page: what it writes, exactly when it pauses, that a budget of 2^(V+1-k) - 1 is always enough, and what it leaves in the work
--- record. From the sheet of its openings and the search of each.
-use Prim.Native.Nat.{ℕ, suc, _+_, _*_, _-_, _^_, _≤_, _<_}
+-- An accepted page is as claimed. From the sheet of its openings and the search of each.
+use Prim.Native.Nat.{ℕ, suc, _+_, _-_, _^_, _≤_, _<_}
 use mathlib.Core.Path.{_≡_}
 use mathlib.Core.Logic.{_↔_, inl, inr}
 use mathlib.Core.Bool.{Bool, true, false}
-use mathlib.Core.List.{List, _++_, append-nil}
+use mathlib.Core.List.{List}
 use native.Mathlib.Omega.{arith}
 use lib.IntN.{ℤ}
-use lib.ListN.{length, take, drop}
+use lib.ListN.{length}
 use Rattle.words.specs.Laws.Bools.{clash, look}
-use Rattle.formula.specs.Formula.{Formula, formulaOf, variablesOf, prefixOf, firstGroup}
+use Rattle.formula.specs.Formula.{formulaOf, variablesOf, prefixOf, firstGroup}
 use Rattle.formula.specs.Proper.{Proper}
+use Rattle.rules.specs.declared.rule.State.{State}
 use Rattle.rules.specs.declared.rule.State.the-variants.{Open}
-use Rattle.rules.specs.Trail.{Trail, wipedTrail}
-use Rattle.rules.specs.Inner.Ready.{Bound, Room}
-use Rattle.listing.specs.declared.Paged.the-variants.{Page}
-use Rattle.listing.specs.Opening.{openingSearch}
-use Rattle.listing.specs.Page.{Sheet, sheet, openings, pageOf, sheetOf, PageMemory}
-use Rattle.listing.specs.Wins.{listing}
-use Rattle.listing.specs.Laws.Searched.{ends}
-use Rattle.listing.specs.Laws.Beyond.{Beyond, wiped-beyond}
-use Rattle.listing.specs.Laws.Sheets.{Stops, at-end, no-room, unended, Filled, filled}
-use Rattle.listing.specs.Rows.{PageGuarded, page-guarded}
-use Rattle.listing.specs.Refused.{page-accepted, answered-accepted}
-use Rattle.rules.specs.Laws.Accepted.{prefix-length, accepted-bound, accepted-proper}
-use Rattle.rules.specs.Laws.Records.{entryAt, noEntry}
+use Rattle.rules.specs.Trail.{wipedTrail}
+use Rattle.rules.specs.Inner.Ready.{Bound}
+use Rattle.rules.specs.Laws.Accepted.{prefix-length, accepted-proper}
 use Rattle.rules.specs.Laws.Untouched.{wiped-blank}
+use Rattle.listing.specs.declared.Paged.the-variants.{Page}
+use Rattle.listing.specs.Opening.{openings, openingEnd}
+use Rattle.listing.specs.Page.{Sheet, sheet, pageOf, sheetOf, PageMemory}
+use Rattle.listing.specs.Rows.{PageGuarded, page-guarded, page-bound}
+use Rattle.listing.specs.Refused.{page-accepted, answered-accepted}
+use Rattle.listing.specs.Claims.{Unended, Stops, at-end, no-room, unended, PageClaims}
+use Rattle.listing.specs.Laws.Searched.{won, lost, search-ends}
+use Rattle.listing.specs.Laws.Beyond.{wiped-beyond}
+use Rattle.listing.specs.Laws.Sheets.{filled-none, Done, done}
 
--- ---- why a sheet stopped, and whether it is paused
-module _ (F : Formula) (preferred : List ℤ) (budget : ℕ) (work : Trail) (total size : ℕ) (s : Sheet) where
-  -- there is an opening at next, there was room for its entry, and its search doesn't end within the budget
-  pub record Unended : Type 0 where
-    pub left : s .next < total
-    pub room : 2 * s .entries + 2 ≤ size
-    pub live : openingSearch F preferred budget work (s .next) .state ≡ Open
-
-  stops-paused : Stops F preferred budget work total size s → (s .paused ≡ true) ↔ Unended
+-- ---- what the reason to stop says
+module _ {ends : ℕ → State} {total size : ℕ} {s : Sheet} where
+  stops-paused : Stops ends total size s → (s .paused ≡ true) ↔ Unended ends total size s
   stops-paused (at-end p e) = (λ q. clash q p, λ u. absurd (let h = u .left in omega arith))
   stops-paused (no-room p h r g l) = (λ q. clash q p, λ u. absurd (let x = u .room in omega arith))
-  stops-paused (unended p h r o) = (λ q. record { left = h; room = r; live = o }, λ u. p)
+  stops-paused (unended p u) = (λ q. u, λ u. p)
 
--- ---- what is claimed of a page that is answered
--- from `start` on the output `out`: the sheet s is its answer and the output after it, work′ is the work record after it
-pub record PageClaims (b : List ℤ) (m : PageMemory) (start : ℕ) (preferred : List ℤ) (budget : ℕ) (s : Sheet) (work′ : Trail) : Type 0 where
-  pub from : start ≤ s .next
-  pub upTo : s .next ≤ openings (formulaOf b)
-  -- at most one entry for each opening
-  pub few : s .entries + start ≤ s .next
-  -- with its entries the listing below its start is the listing below next
-  pub listed : listing (formulaOf b) start ++ take (2 * s .entries) (s .output) ≡ listing (formulaOf b) (s .next)
-  -- "Output past the entries is untouched"
-  pub fits : 2 * s .entries ≤ length (m .output)
-  pub long : length (s .output) ≡ length (m .output)
-  pub untouched : drop (2 * s .entries) (s .output) ≡ drop (2 * s .entries) (m .output)
-  -- why it stops; "paused is said in the budget case only"
-  pub stops : Stops (formulaOf b) preferred budget (m .work) (openings (formulaOf b)) (length (m .output)) s
-  pub paused-exactly : (s .paused ≡ true) ↔ Unended (formulaOf b) preferred budget (m .work) (openings (formulaOf b)) (length (m .output)) s
-  -- a budget of 2^(V+1-k) - 1 steps is enough for every opening
-  pub never-pauses : 2 ^ (variablesOf b + 1 - firstGroup (prefixOf b)) - 1 ≤ budget → s .paused ≡ false
-  -- and a page that isn't paused goes on
-  pub moves : s .paused ≡ false → start < openings (formulaOf b) → start < s .next
-  -- "the first V places of the work record are 0 after it", and no other is written
-  pub zeros : (j : ℕ) → j < variablesOf b → entryAt work′ j ≡ noEntry
-  pub beyond : Beyond (variablesOf b) (m .work) work′
+  stops-moves : Stops ends total size s → {start : ℕ} → s .entries + start ≤ s .next → s .paused ≡ false → start < total → start < s .next
+  stops-moves (at-end p e) f q h = omega arith
+  stops-moves (no-room p i r g l) f q h = omega arith
+  stops-moves (unended p u) f q h = clash p q
 
 module _ (b : List ℤ) (m : PageMemory) (start : ℕ) (preferred : List ℤ) (budget : ℕ) (g : PageGuarded b m start) where
   ok : Proper (formulaOf b)
   ok = accepted-proper b (g .block)
 
   bound : Bound (formulaOf b .prefix)
-  unfolding formulaOf
-  bound = accepted-bound b (g .block)
+  bound = page-bound b m start g
 
-  lent : Room (length (formulaOf b .prefix)) (m .work)
+  all-done : Done (formulaOf b) start (m .output) (openingEnd (formulaOf b) preferred budget (m .work)) (won (formulaOf b) ok bound (m .work) (g .lent) preferred budget) (lost (formulaOf b) ok bound (m .work) (g .lent) preferred budget) (sheetOf (formulaOf b) m start preferred budget)
   unfolding formulaOf
-  lent = g .lent
-
-  all-filled : Filled (formulaOf b) preferred budget (m .work) start 0 (m .output) (openings (formulaOf b)) (sheetOf (formulaOf b) m start preferred budget)
-  unfolding formulaOf
-  all-filled =
+  all-done =
       let i = g .inside in
-      let r = g .room in
-      filled (formulaOf b) ok bound (m .work) lent preferred budget (openings (formulaOf b) - start) start 0 (m .output) (openings (formulaOf b)) (omega arith) (omega arith) (inl r)
+      done (formulaOf b) start (m .output) _ _ _ (openings (formulaOf b) - start) start 0 (m .output) (omega arith) (filled-none (formulaOf b) start (m .output) i) (inl (g .room))
 
-  enough : 2 ^ (variablesOf b + 1 - firstGroup (prefixOf b)) - 1 ≤ budget → (n : ℕ) → openingSearch (formulaOf b) preferred budget (m .work) n .state ≡ Open → ⊥
+  enough : 2 ^ (variablesOf b + 1 - firstGroup (prefixOf b)) - 1 ≤ budget → (n : ℕ) → openingEnd (formulaOf b) preferred budget (m .work) n ≡ Open → ⊥
   unfolding formulaOf
   enough h n o =
       let e : suc (length (prefixOf b)) ≡ variablesOf b + 1 = omega (arith, prefix-length b (g .block)) in
-      ends (formulaOf b) ok bound (m .work) lent preferred budget n (rw e (omega arith)) o
+      search-ends (formulaOf b) ok bound (m .work) (g .lent) preferred budget n (rw e (omega arith)) o
 
-  claimed : PageClaims b m start preferred budget (sheetOf (formulaOf b) m start preferred budget) (wipedTrail (m .work) 0 (variablesOf b))
+  -- a page that breaks no row
+  pub claimed : PageClaims b m start preferred budget (sheetOf (formulaOf b) m start preferred budget) (wipedTrail (m .work) 0 (variablesOf b))
   claimed =
-      let f = all-filled in
-      let F = formulaOf b in
-      let s = sheetOf F m start preferred budget in
-      let x = stops-paused F preferred budget (m .work) (openings F) (length (m .output)) s (f .stops) in
+      let s = sheetOf (formulaOf b) m start preferred budget in
+      let f = all-done .filled in
+      let w = all-done .stops in
       record {
-        from = f .from;
-        upTo = f .upTo;
-        few = (let c = f .few in omega arith);
-        listed = f .listed (listing F start) (append-nil (listing F start));
-        fits = f .fits;
-        long = f .long;
-        untouched = f .untouched;
-        stops = f .stops;
-        paused-exactly = x;
-        never-pauses = λ h. elim (look (s .paused)) [ inl p ↦ absurd (enough h (s .next) (x .0 p .live)) | inr p ↦ p ];
-        moves = λ p h. f .moves p h (let r = g .room in omega arith);
+        filled = f;
+        stops = w;
+        paused-exactly = stops-paused w;
+        never-pauses = λ h. elim (look (s .paused)) [ inl p ↦ absurd (enough h (s .next) (stops-paused w .0 p .live)) | inr p ↦ p ];
+        moves = stops-moves w (f .few);
         zeros = λ j h. wiped-blank (m .work) 0 (variablesOf b) j (omega arith) h;
         beyond = wiped-beyond (variablesOf b) (m .work);
       }

@@ -3,7 +3,7 @@
 -- and a number below 2^k has the bits of any k values.
 use Prim.Native.Nat.{ℕ, suc, _+_, _*_, _-_, _^_, _/_, _%_, _≤_, _<_}
 use mathlib.Core.Path.{_≡_, refl, sym, _∙_, ap, fun-ext}
-use mathlib.Core.Logic.{_↔_, _⊎_, inl, inr}
+use mathlib.Core.Logic.{_↔_, inl, inr}
 use mathlib.Core.Bool.{Bool, true, false, cond, _&&_, _||_, or-false, Bool·beq}
 use mathlib.Core.List.{List, [], _∷_, _++_}
 use native.Mathlib.Nat.{pow-suc, add-comm, add-mul-div-right, add-mul-mod-self-right, div-eq-of-lt}
@@ -20,8 +20,8 @@ use Rattle.words.specs.Words.{negative, eqZ, mem}
 use Rattle.formula.specs.Formula.{Formula, word, run, firstGroup}
 use Rattle.formula.specs.Truth.{asked, truth, true?}
 use Rattle.theory.specs.Record.{among}
-use Rattle.listing.specs.Opening.{groupOf, valuesOf, valueAt}
-use Rattle.listing.specs.Page.{firstUniversal, openings}
+use Rattle.listing.specs.Opening.{groupOf, openings, valuesOf}
+use Rattle.listing.specs.Page.{firstUniversal}
 use Rattle.listing.specs.Laws.Values.{group-length}
 use Rattle.listing.specs.Wins.{wins, winners, entries, listing, winners-exactly}
 
@@ -50,43 +50,9 @@ onto-among (v ∷ vs) σ x = onto-among vs (v ∷ σ) x ∙ swap (mem x vs) (eqZ
     swap false true c = refl
     swap false false c = refl
 
--- ---- values of a group: each word or its opposite
-data Fits : List ℤ → List ℤ → Type 0 where
-  none : Fits [] []
-  more : {v q : ℤ} {vs g : List ℤ} → (v ≡ q) ⊎ (v ≡ negℤ q) → Fits vs g → Fits (v ∷ vs) (q ∷ g)
-
+-- ---- an existential group asks for values, and those of some number are such
 abbrev Existential : List ℤ → Type 0
 Existential g = (x : ℤ) → In x g → negative x ≡ false
-
-module _ (p : List ℤ) (m : List (List ℤ)) where
-  -- an existential group asks for some values
-  some-values : (g σ : List ℤ) → Existential g → truth (g ++ p) m σ ≡ true → (vs : List ℤ) × Fits vs g × (truth p m (onto vs σ) ≡ true)
-  unfolding truth asked onto
-  some-values [] σ e h = ([], none, h)
-  some-values (q ∷ g) σ e h =
-      go (or-e (truth (g ++ p) m (q ∷ σ)) (truth (g ++ p) m (negℤ q ∷ σ)) (rw (e q (here refl)) at h)) (λ l. some-values g (l ∷ σ) (λ x i. e x (there i)))
-    where
-      go : (truth (g ++ p) m (q ∷ σ) ≡ true) ⊎ (truth (g ++ p) m (negℤ q ∷ σ) ≡ true) → ((l : ℤ) → truth (g ++ p) m (l ∷ σ) ≡ true → (vs : List ℤ) × Fits vs g × (truth p m (onto vs (l ∷ σ)) ≡ true))
-          → (vs : List ℤ) × Fits vs (q ∷ g) × (truth p m (onto vs σ) ≡ true)
-      go (inl t) ih = let r = ih q t in (q ∷ r .0, more (inl refl) (r .1), r .2)
-      go (inr t) ih = let r = ih (negℤ q) t in (negℤ q ∷ r .0, more (inr refl) (r .1), r .2)
-
-  values-some : {vs g : List ℤ} (σ : List ℤ) → Existential g → Fits vs g → truth p m (onto vs σ) ≡ true → truth (g ++ p) m σ ≡ true
-  unfolding truth asked onto
-  values-some σ e none h = h
-  values-some σ e (more {v = v} {q = q} {vs = vs} {g = g} c f) h =
-      rw (e q (here refl)) (go c (values-some (v ∷ σ) (λ x i. e x (there i)) f h))
-    where
-      go : (v ≡ q) ⊎ (v ≡ negℤ q) → truth (g ++ p) m (v ∷ σ) ≡ true → (truth (g ++ p) m (q ∷ σ) || truth (g ++ p) m (negℤ q ∷ σ)) ≡ true
-      go (inl z) t = or-l (truth (g ++ p) m (negℤ q ∷ σ)) (rw z at t)
-      go (inr z) t = or-r (truth (g ++ p) m (q ∷ σ)) (rw z at t)
-
--- ---- they are the values of a number
-values-fit : (n : ℕ) (g : List ℤ) → Existential g → Fits (valuesOf n g) g
-unfolding valuesOf
-values-fit n [] e = none
-values-fit n (pos a ∷ g) e = more {v = valueAt n (length g) (pos a)} {q = pos a} (elim (look (eqb (n / 2 ^ length g % 2) 1)) [ inl z ↦ rw z (inl refl) | inr z ↦ rw z (inr refl) ]) (values-fit n g (λ x i. e x (there i)))
-values-fit n (negsuc a ∷ g) e = clash refl (e (negsuc a) (here refl))
 
 -- a bit above leaves the bits below
 bit-high : (r t d : ℕ) → (2 ^ (suc d + t) + r) / 2 ^ t % 2 ≡ r / 2 ^ t % 2
@@ -100,25 +66,42 @@ values-high i r (q ∷ g) h =
     let e : suc (i - suc (length g)) + length g ≡ i = omega arith in
     rw (rw e at (bit-high r (length g) (i - suc (length g))), values-high i r g (omega arith))
 
-number-fit : {vs g : List ℤ} → Existential g → Fits vs g → (n : ℕ) × (n < 2 ^ length g) × (valuesOf n g ≡ vs)
-unfolding valuesOf
-number-fit e none = (0, omega arith, refl)
-number-fit e (more {v = v} {q = q} {vs = vs} {g = g} c f) = go q (e q (here refl)) c (number-fit (λ x i. e x (there i)) f)
-  where
-    two : 2 ^ suc (length g) ≡ 2 ^ length g + 2 ^ length g
-    two = let z = pow-suc 2 (length g) in omega arith
+module _ (p : List ℤ) (m : List (List ℤ)) where
+  -- the number has the bit of the value that makes the rest true, before the bits of the values after it
+  some-number : (g σ : List ℤ) → Existential g → truth (g ++ p) m σ ≡ true → (n : ℕ) × (n < 2 ^ length g) × (truth p m (onto (valuesOf n g) σ) ≡ true)
+  unfolding truth asked onto valuesOf
+  some-number [] σ e h = (0, omega arith, h)
+  some-number (negsuc a ∷ g) σ e h = clash refl (e (negsuc a) (here refl))
+  some-number (pos a ∷ g) σ e h = elim (or-e (truth (g ++ p) m (pos a ∷ σ)) (truth (g ++ p) m (negℤ (pos a) ∷ σ)) h) [
+    | inl t ↦ high (some-number g (pos a ∷ σ) (λ x i. e x (there i)) t)
+    | inr t ↦ low (some-number g (negℤ (pos a) ∷ σ) (λ x i. e x (there i)) t)
+  ]
+    where
+      two : 2 ^ suc (length g) ≡ 2 ^ length g + 2 ^ length g
+      two = let z = pow-suc 2 (length g) in omega arith
 
-    go : (q : ℤ) → negative q ≡ false → (v ≡ q) ⊎ (v ≡ negℤ q) → (n : ℕ) × (n < 2 ^ length g) × (valuesOf n g ≡ vs) → (n : ℕ) × (n < 2 ^ suc (length g)) × (valuesOf n (q ∷ g) ≡ v ∷ vs)
-    go (pos a) z (inl y) (r, h, w) =
-        let t = two in
-        let x : 2 ^ length g + r ≡ 1 * 2 ^ length g + r = omega arith in
-        let b : (2 ^ length g + r) / 2 ^ length g ≡ 1 = rw x (digits-div 1 h) in
-        (2 ^ length g + r, omega arith, rw (values-high (length g) r g (omega arith), b, w, y))
-    go (pos a) z (inr y) (r, h, w) =
-        let t = two in
-        let b : r / 2 ^ length g ≡ 0 = div-eq-of-lt h in
-        (r, omega arith, rw (b, w, y))
-    go (negsuc a) z c r = clash refl z
+      high : (n : ℕ) × (n < 2 ^ length g) × (truth p m (onto (valuesOf n g) (pos a ∷ σ)) ≡ true) → (n : ℕ) × (n < 2 ^ suc (length g)) × (truth p m (onto (valuesOf n (pos a ∷ g)) σ) ≡ true)
+      high (r, l, t) =
+          let d = two in
+          let x : 2 ^ length g + r ≡ 1 * 2 ^ length g + r = omega arith in
+          let b : (2 ^ length g + r) / 2 ^ length g ≡ 1 = rw x (digits-div 1 l) in
+          (2 ^ length g + r, omega arith, rw (values-high (length g) r g (omega arith), b) t)
+
+      low : (n : ℕ) × (n < 2 ^ length g) × (truth p m (onto (valuesOf n g) (negℤ (pos a) ∷ σ)) ≡ true) → (n : ℕ) × (n < 2 ^ suc (length g)) × (truth p m (onto (valuesOf n (pos a ∷ g)) σ) ≡ true)
+      low (r, l, t) =
+          let d = two in
+          let b : r / 2 ^ length g ≡ 0 = div-eq-of-lt l in
+          (r, omega arith, rw b t)
+
+  -- whichever bit it has, the first value is one of the two that are asked for
+  number-some : (n : ℕ) (g σ : List ℤ) → Existential g → truth p m (onto (valuesOf n g) σ) ≡ true → truth (g ++ p) m σ ≡ true
+  unfolding truth asked onto valuesOf
+  number-some n [] σ e h = h
+  number-some n (negsuc a ∷ g) σ e h = clash refl (e (negsuc a) (here refl))
+  number-some n (pos a ∷ g) σ e h = elim (look (eqb (n / 2 ^ length g % 2) 1)) [
+    | inl z ↦ or-l (truth (g ++ p) m (negℤ (pos a) ∷ σ)) (number-some n g (pos a ∷ σ) (λ x i. e x (there i)) (rw z at h))
+    | inr z ↦ or-r (truth (g ++ p) m (pos a ∷ σ)) (number-some n g (negℤ (pos a) ∷ σ) (λ x i. e x (there i)) (rw z at h))
+  ]
 
 -- ---- the first group of an accepted listing is existential
 run-sign : (s : Bool) (p : List ℤ) (x : ℤ) → In x (take (run s p) p) → negative x ≡ s
@@ -158,23 +141,21 @@ module _ (F : Formula) (exists : firstUniversal F ≡ false) where
   unfolding wins mem
   wins-onto n = truth-among _ (F .clauses) (onto (valuesOf n (groupOf F)) []) (valuesOf n (groupOf F)) (fun-ext (λ x. onto-among (valuesOf n (groupOf F)) [] x ∙ or-false (mem x (valuesOf n (groupOf F)))))
 
-  -- "An existential outermost variable asks for one of its two values": the formula is true exactly if some opening wins
+  -- [demand.3.some] the formula is true exactly if some opening wins
   pub some-opening : (true? F ≡ true) ↔ ((n : ℕ) × (n < openings F) × (wins F n ≡ true))
   unfolding true?
   some-opening = (there-is, λ r. is-true (r .0) (r .2))
     where
       there-is : truth (F .prefix) (F .clauses) [] ≡ true → (n : ℕ) × (n < openings F) × (wins F n ≡ true)
       there-is h =
-          let (vs, f, t) = some-values (drop (firstGroup (F .prefix)) (F .prefix)) (F .clauses) (groupOf F) [] (group-exists F exists) (rw whole h) in
-          let (n, l, e) = number-fit (group-exists F exists) f in
-          (n, rw (group-length F) at l, sym (wins-onto n) ∙ rw e t)
+          let (n, l, t) = some-number (drop (firstGroup (F .prefix)) (F .prefix)) (F .clauses) (groupOf F) [] (group-exists F exists) (rw whole h) in
+          (n, rw (group-length F) at l, sym (wins-onto n) ∙ t)
 
       is-true : (n : ℕ) → wins F n ≡ true → truth (F .prefix) (F .clauses) [] ≡ true
       is-true n w =
-          let t = values-some (drop (firstGroup (F .prefix)) (F .prefix)) (F .clauses) [] (group-exists F exists) (values-fit n (groupOf F) (group-exists F exists)) (wins-onto n ∙ w) in
-          rw whole at t
+          rw whole at (number-some (drop (firstGroup (F .prefix)) (F .prefix)) (F .clauses) n (groupOf F) [] (group-exists F exists) (wins-onto n ∙ w))
 
-  -- so the whole listing is empty exactly if the formula is false
+  -- [demand.3.some] so the whole listing is empty exactly if the formula is false
   pub empty-listing : (listing F (openings F) ≡ []) ↔ (true? F ≡ false)
   empty-listing = (λ e. to-false (true? F) (λ t. listed-one e (in-list (some-opening .0 t))), λ e. listed-none (winners F (openings F)) (λ n i. clash (won n i) e))
     where

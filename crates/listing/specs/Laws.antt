@@ -1,11 +1,12 @@
 -- What is proved about the definitions, for use in proofs. To be read in this order.
 
+-- lists alone; a search depends on its record alone
+pub mod Lists
+pub mod Alike
 -- an opening's values, where its search starts, where it ends
 pub mod Values
 pub mod Start
 pub mod Searched
--- a page: its ways, what it writes, which places of the work record it leaves, its loop
-pub mod Ways
-pub mod Sheets
+-- a page: which places of the work record it leaves, what it writes
 pub mod Beyond
-pub mod Rounds
+pub mod Sheets

@@ -10,9 +10,13 @@ pub mod Promises
 pub mod Rows
 pub mod Refused
 -- an accepted page; any list of pages; all openings together
+pub mod Claims
 pub mod Accepted
 pub mod Pages
 pub mod Covers
+-- a page's searches are runs, and what the work record held before doesn't matter
+pub mod AsRun
+pub mod AnyWork
 -- what functions say to each other; what is proved of all these
 pub mod Inner
 pub mod Laws

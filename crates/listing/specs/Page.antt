@@ -1,6 +1,5 @@
--- A page: "A page takes a start, preferences, a budget of steps for each opening (32 bits, unsigned) and an output of unsigned 32-bit words. Each winner fills
--- two words: the opening, and how many ones its number has."
-use Prim.Native.Nat.{ℕ, zero, suc, _+_, _*_, _-_, _^_}
+-- [page] A page: when it is refused, what it writes, and its answer with every lent buffer.
+use Prim.Native.Nat.{ℕ, zero, suc, _+_, _*_, _-_}
 use mathlib.Core.Bool.{Bool, true, false, _&&_, cond}
 use mathlib.Core.List.{List, [], _∷_, _++_}
 use lib.Count.{ones}
@@ -15,10 +14,11 @@ use Rattle.rules.specs.declared.rule.State.the-variants.{Open, Valid, Unsat}
 use Rattle.rules.specs.Trail.{Trail, trail, wipedTrail}
 use Rattle.words.specs.Outcomes.{Outcome, outcome, unless}
 use Rattle.formula.specs.Limits.{limits}
+use Rattle.session.specs.Memory.{Memory}
 use Rattle.session.specs.Refusals.{openRows}
 use Rattle.listing.specs.declared.Paged.{Paged}
 use Rattle.listing.specs.declared.Paged.the-variants.{Page, Refused}
-use Rattle.listing.specs.Opening.{openingSearch}
+use Rattle.listing.specs.Opening.{openings, openingEnd}
 
 -- ---- what is lent: the work record's two buffers, and the output
 pub record PageMemory : Type 0 where
@@ -28,15 +28,16 @@ pub record PageMemory : Type 0 where
 abbrev pub pageMemory : List ℤ → List ℕ → List ℕ → PageMemory
 pageMemory ls ks out = record { work = trail ls ks; output = out }
 
--- ---- when a page is turned away: rows 18 to 21, after rows 1 to 11
--- 18: "first group universal"
+-- the work record, as a session's memory
+abbrev pub workOf : PageMemory → Memory
+workOf m = record { trail = m .work }
+
+-- ---- [calls.page] when a page is refused: rows 18 to 21, after rows 1 to 11
+-- [row.18]
 abbrev pub firstUniversal : Formula → Bool
 firstUniversal F = ltb 0 (length (F .prefix)) && negative (word (F .prefix) 0)
 
--- how many openings there are, 2^k
-abbrev pub openings : Formula → ℕ
-openings F = 2 ^ firstGroup (F .prefix)
-
+-- [row.18] [row.19] [row.20] [row.21]
 abbrev pub ofPage : Formula → ℕ → List ℕ → List Row
 ofPage F start out =
     row 18 (firstUniversal F)
@@ -46,7 +47,7 @@ ofPage F start out =
     ∷ []
 
 abbrev pub pageRows : List ℤ → PageMemory → ℕ → List Row
-pageRows b m start = openRows b (record { trail = m .work }) ++ ofPage (formulaOf b) start (m .output)
+pageRows b m start = openRows b (workOf m) ++ ofPage (formulaOf b) start (m .output)
 
 unfoldable pub pageRefusal : List ℤ → PageMemory → ℕ → ℕ
 pageRefusal b m start = refusalOf (pageRows b m start)
@@ -62,7 +63,7 @@ pub record Sheet : Type 0 where
 abbrev pub sheet : ℕ → ℕ → Bool → List ℕ → Sheet
 sheet n e p out = record { next = n; entries = e; paused = p; output = out }
 
--- "the opening, and how many ones its number has"
+-- [page.entry] the opening's number, and how many of its binary digits are 1, after e entries
 abbrev pub written : ℕ → ℕ → List ℕ → List ℕ
 written n e out = set (set out (2 * e) n) (2 * e + 1) (ones n)
 
@@ -71,29 +72,29 @@ bySearch Valid won lost unended = won
 bySearch Unsat won lost unended = lost
 bySearch Open won lost unended = unended
 
-module _ (F : Formula) (preferred : List ℤ) (budget : ℕ) (work : Trail) where
-  -- the m openings from n on, with e entries written. "It stops when no whole entry is left (next = last written + 1), when a search
-  -- doesn't end within the budget (paused, next = that opening), or at the end (next = 2^k)"; "room is looked at before the next search
-  -- begins"
+-- `ends n` is the state that the search of the opening n comes to
+module _ (ends : ℕ → State) where
+  -- [page.stops] [page.room] [page.next] [page.paused] the m openings from n on, with e entries written: the room is looked at first, then the
+  -- opening n is searched
   unfoldable pub pageFrom : ℕ → ℕ → ℕ → List ℕ → Sheet
   pageFrom zero n e out = sheet n e false out
   pageFrom (suc m) n e out =
       cond (leb (2 * e + 2) (length out))
-      (bySearch (openingSearch F preferred budget work n .state)
+      (bySearch (ends n)
       (pageFrom m (n + 1) (e + 1) (written n e out))
       (pageFrom m (n + 1) e out)
       (sheet n e true out))
       (sheet n e false out)
 
 -- ---- the answer and every lent buffer
--- "the first V places of the work record are 0 after it"
+-- [page.answer] [page.after] the first V places of the work record are 0
 abbrev pub paged : Formula → Trail → Sheet → Outcome PageMemory Paged
 paged F work s =
     outcome (Page (s .next) (s .entries) (s .paused)) (record { work = wipedTrail work 0 (length (F .prefix)); output = s .output })
 
 -- a page's sheet: all openings from its start on
 abbrev pub sheetOf : Formula → PageMemory → ℕ → List ℤ → ℕ → Sheet
-sheetOf F m start preferred budget = pageFrom F preferred budget (m .work) (openings F - start) start 0 (m .output)
+sheetOf F m start preferred budget = pageFrom (openingEnd F preferred budget (m .work)) (openings F - start) start 0 (m .output)
 
 unfoldable pub pageOf : List ℤ → PageMemory → ℕ → List ℤ → ℕ → Outcome PageMemory Paged
 pageOf b m start preferred budget =

@@ -1,6 +1,5 @@
--- Demand 3: "any list of pages from opening 0 on, each begun where the last stopped, with any room, budgets and preferences, even different ones
--- on each page". Each page takes the listing below its start to the listing below its next; so after any pages what was written is the
--- listing below next.
+-- Any list of pages. Each takes the listing below its start to the listing below its next; so after any pages what was written is the listing
+-- below next.
 use Prim.Native.Nat.{ℕ, _+_, _*_, _-_, _^_, _≤_, _<_}
 use mathlib.Core.Path.{_≡_, refl, sym, _∙_, ap}
 use mathlib.Core.Bool.{false}
@@ -16,16 +15,18 @@ use Rattle.formula.specs.Formula.{formulaOf, variablesOf, prefixOf, firstGroup}
 use Rattle.formula.specs.Block.{refusal}
 use Rattle.listing.specs.declared.Paged.{Paged}
 use Rattle.listing.specs.declared.Paged.the-variants.{Page, Refused}
-use Rattle.listing.specs.Page.{Sheet, sheet, firstUniversal, openings, pageOf, sheetOf, paged, PageMemory}
+use Rattle.listing.specs.Page.{Sheet, firstUniversal, pageOf, sheetOf, PageMemory}
+use Rattle.listing.specs.Opening.{openings, openingEnd}
 use Rattle.listing.specs.Wins.{winners, entries, listing}
-use Rattle.listing.specs.Laws.Sheets.{Stops, at-end, no-room, unended}
-use Rattle.listing.specs.Rows.{page-passes}
+use Rattle.listing.specs.Claims.{Stops, at-end, no-room, unended, PageClaims}
+use Rattle.listing.specs.Rows.{PageGuarded, page-passes}
 use Rattle.listing.specs.Refused.{page-accepted}
-use Rattle.listing.specs.Accepted.{accepted-page, PageClaims}
+use Rattle.listing.specs.Accepted.{claimed, accepted-page}
+use Rattle.rules.specs.Trail.{wipedTrail}
 use Rattle.rules.specs.Inner.Ready.{Room}
 use Rattle.words.specs.Outcomes.{Outcome}
 
--- ---- what a page is given besides the block and its start: a work record, preferences, a budget and an output, each its own
+-- ---- [demand.3.pages] what a page is given besides the block and its start: a work record, preferences, a budget and an output, each its own
 pub record Given : Type 0 where
   pub memory : PageMemory
   pub preferred : List ℤ
@@ -44,7 +45,7 @@ abbrev pub afterPage : Ledger → Paged → List ℕ → Ledger
 afterPage l (Page n e p) out = ledger n (l .written ++ take (2 * e) out)
 afterPage l (Refused n) out = l
 
--- "each begun where the last stopped"
+-- [demand.3.pages] each begins where the last one said
 unfoldable pub nextPage : List ℤ → Ledger → Given → Ledger
 nextPage b l p =
     let o = pageOf b (p .memory) (l .next) (p .preferred) (p .budget) in
@@ -54,16 +55,16 @@ unfoldable pub pages : List ℤ → Ledger → List Given → Ledger
 pages b l [] = l
 pages b l (p ∷ ps) = pages b (nextPage b l p) ps
 
--- "from opening 0 on"
+-- the first from opening 0
 abbrev pub pagesFrom0 : List ℤ → List Given → Ledger
 pagesFrom0 b ps = pages b (ledger 0 []) ps
 
 -- ---- what is claimed of it
 pub record Listed (b : List ℤ) (l : Ledger) : Type 0 where
   pub upTo : l .next ≤ openings (formulaOf b)
-  -- "what was written so far is exactly the winners below next, ascending, each once, with their counts of ones"
+  -- [demand.3.exactly]
   pub exactly : l .written ≡ listing (formulaOf b) (l .next)
-  -- "if next is 2^k it is the whole listing"
+  -- [demand.3.whole]
   pub whole : l .next ≡ openings (formulaOf b) → l .written ≡ listing (formulaOf b) (openings (formulaOf b))
 
 module _ (b : List ℤ) where
@@ -80,7 +81,7 @@ module _ (b : List ℤ) where
       go : (a : Paged) → o .answer ≡ a → Listed b (afterPage l a (o .memory .output))
       go (Page n e q) z =
           let t = accepted-page b (p .memory) (l .next) (p .preferred) (p .budget) n e q z in
-          listed (ledger n (l .written ++ take (2 * e) (o .memory .output))) (t .upTo) (rw (h .exactly) (t .listed))
+          listed (ledger n (l .written ++ take (2 * e) (o .memory .output))) (t .filled .upTo) (rw (h .exactly) (t .filled .listed))
       go (Refused n) z = h
 
   pages-listed : (ps : List Given) (l : Ledger) → Listed b l → Listed b (pages b l ps)
@@ -88,74 +89,60 @@ module _ (b : List ℤ) where
   pages-listed [] l h = h
   pages-listed (p ∷ ps) l h = pages-listed ps (nextPage b l p) (next-listed l p h)
 
-  -- Demand 3
+  -- [demand.3]
   pub any-pages : (ps : List Given) → Listed b (pagesFrom0 b ps)
   unfolding winners entries
   any-pages ps = pages-listed ps (ledger 0 []) (listed (ledger 0 []) (omega arith) refl)
 
-  -- "So two listings that finish give the same list."
+  -- [demand.3.same]
   pub same-listing : (ps qs : List Given) → pagesFrom0 b ps .next ≡ openings (formulaOf b) → pagesFrom0 b qs .next ≡ openings (formulaOf b) → pagesFrom0 b ps .written ≡ pagesFrom0 b qs .written
   same-listing ps qs x y = any-pages ps .whole x ∙ sym (any-pages qs .whole y)
 
--- ---- a listing does finish: pages with room for an entry and with the budget that is always enough, one for each opening at most
+-- ---- [demand.3.finishes] pages with room for an entry and with the budget that is always enough, one for each opening at most
 -- what a page needs, wherever it begins, to be accepted and not to pause
 pub record Ample (b : List ℤ) (p : Given) : Type 0 where
-  pub lent : Room (length (prefixOf b)) (p .memory .work)
+  pub lent : Room (length (formulaOf b .prefix)) (p .memory .work)
   pub room : 2 ≤ length (p .memory .output)
   pub enough : 2 ^ (variablesOf b + 1 - firstGroup (prefixOf b)) - 1 ≤ p .budget
 
 module _ (b : List ℤ) (block : refusal limits b ≡ 0) (exists : firstUniversal (formulaOf b) ≡ false) (narrow : firstGroup (prefixOf b) ≤ limits .group) where
   module _ (l : Ledger) (p : Given) (h : l .next ≤ openings (formulaOf b)) (a : Ample b p) where
+    guard : PageGuarded b (p .memory) (l .next)
+    guard = record { block = block; lent = a .lent; exists = exists; narrow = narrow; inside = h; room = a .room }
+
     -- its sheet
     s : Sheet
     s = sheetOf (formulaOf b) (p .memory) (l .next) (p .preferred) (p .budget)
 
-    taken : pageOf b (p .memory) (l .next) (p .preferred) (p .budget) ≡ paged (formulaOf b) (p .memory .work) s
-    unfolding s formulaOf
-    taken = page-accepted b (p .memory) (l .next) (p .preferred) (p .budget) (page-passes b (p .memory) (l .next) (record {
-      block = block;
-      lent = a .lent;
-      exists = exists;
-      narrow = narrow;
-      inside = h;
-      room = a .room;
-    }))
+    next-is : nextPage b l p .next ≡ s .next
+    unfolding nextPage s
+    next-is = rw (page-accepted b (p .memory) (l .next) (p .preferred) (p .budget) (page-passes b (p .memory) (l .next) guard))
 
-    next-next : nextPage b l p .next ≡ s .next
-    unfolding nextPage
-    next-next = rw taken
+    claims : PageClaims b (p .memory) (l .next) (p .preferred) (p .budget) s (wipedTrail (p .memory .work) 0 (variablesOf b))
+    unfolding s
+    claims = claimed b (p .memory) (l .next) (p .preferred) (p .budget) guard
 
-    claims : let o = pageOf b (p .memory) (l .next) (p .preferred) (p .budget) in
-        PageClaims b (p .memory) (l .next) (p .preferred) (p .budget) (sheet (s .next) (s .entries) (s .paused) (o .memory .output)) (o .memory .work)
-    claims = accepted-page b (p .memory) (l .next) (p .preferred) (p .budget) (s .next) (s .entries) (s .paused) (ap (λ (o : Outcome PageMemory Paged). o .answer) taken)
-
-    -- it goes on
-    next-moves : l .next < openings (formulaOf b) → l .next < nextPage b l p .next
-    next-moves i = rw next-next (claims .moves (claims .never-pauses (a .enough)) i)
-
-    next-from : l .next ≤ nextPage b l p .next
-    next-from = rw next-next (claims .from)
-
-    next-upTo : nextPage b l p .next ≤ openings (formulaOf b)
-    next-upTo = rw next-next (claims .upTo)
-
-    -- and with room for all openings it gets to the end
+    -- with room for all openings it gets to the end
     pub one-page : 2 * openings (formulaOf b) ≤ length (p .memory .output) → nextPage b l p .next ≡ openings (formulaOf b)
-    one-page r = rw next-next (go _ (claims .stops))
+    one-page r = rw next-is (go (claims .stops))
       where
-        go : (out : List ℕ) → Stops (formulaOf b) (p .preferred) (p .budget) (p .memory .work) (openings (formulaOf b)) (length (p .memory .output)) (sheet (s .next) (s .entries) (s .paused) out) → s .next ≡ openings (formulaOf b)
-        go out (at-end q e) = e
-        go out (no-room q h x z y) = let c = claims .few in absurd (omega arith)
-        go out (unended q h x o) = clash q (claims .never-pauses (a .enough))
+        go : Stops (openingEnd (formulaOf b) (p .preferred) (p .budget) (p .memory .work)) (openings (formulaOf b)) (length (p .memory .output)) s → s .next ≡ openings (formulaOf b)
+        go (at-end q e) = e
+        go (no-room q h x z y) = let c = claims .filled .few in absurd (omega arith)
+        go (unended q u) = clash q (claims .never-pauses (a .enough))
 
   pages-end : (ps : List Given) (l : Ledger) → ((p : Given) → In p ps → Ample b p) → l .next ≤ openings (formulaOf b) → openings (formulaOf b) ≤ l .next + length ps → pages b l ps .next ≡ openings (formulaOf b)
   unfolding pages
   pages-end [] l f h k = omega arith
-  pages-end (p ∷ ps) l f h k = pages-end ps (nextPage b l p) (λ q i. f q (there i)) (next-upTo l p h (f p (here refl))) (further (decLt (l .next) (openings (formulaOf b))))
+  pages-end (p ∷ ps) l f h k =
+      let a = f p (here refl) in
+      let e = next-is l p h a in
+      let u = claims l p h a .filled .upTo in
+      pages-end ps (nextPage b l p) (λ q i. f q (there i)) (omega arith) (further a (decLt (l .next) (openings (formulaOf b))))
     where
-      further : Dec (l .next < openings (formulaOf b)) → openings (formulaOf b) ≤ nextPage b l p .next + length ps
-      further (yes i) = let x = next-moves l p h (f p (here refl)) i in omega arith
-      further (no i) = let x = next-from l p h (f p (here refl)) in omega arith
+      further : Ample b p → Dec (l .next < openings (formulaOf b)) → openings (formulaOf b) ≤ nextPage b l p .next + length ps
+      further a (yes i) = let c = claims l p h a in omega (arith, next-is l p h a, c .moves (c .never-pauses (a .enough)) i)
+      further a (no i) = omega (arith, next-is l p h a, claims l p h a .filled .few)
 
   pub finishes : (ps : List Given) → ((p : Given) → In p ps → Ample b p) → openings (formulaOf b) ≤ length ps → pagesFrom0 b ps .next ≡ openings (formulaOf b)
   finishes ps f k = pages-end ps (ledger 0 []) f (omega arith) (omega arith)

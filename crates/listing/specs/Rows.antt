@@ -1,4 +1,4 @@
--- Which number a page is refused with: "a page 1 to 11 and 18 to 21", each exactly when the table says; and what an accepted page has shown.
+-- [calls.page] Which number a page is refused with, each exactly when its row applies; and what an accepted page has shown.
 use Prim.Native.Nat.{ℕ, _^_, _≤_}
 use mathlib.Core.Path.{_≡_, refl, _∙_}
 use mathlib.Core.Bool.{false}
@@ -15,9 +15,10 @@ use Rattle.formula.specs.Block.{refusal}
 use Rattle.session.specs.Refusals.{openRows, openRefusal}
 use Rattle.session.specs.Rows.{openNumbers}
 use Rattle.session.specs.Laws.Accepted.{opened, open-passes}
-use Rattle.listing.specs.Page.{firstUniversal, ofPage, pageRows, pageRefusal, PageMemory}
-use Rattle.rules.specs.Inner.Ready.{Room}
-use Rattle.rules.specs.Laws.Accepted.{prefix-length}
+use Rattle.listing.specs.Opening.{openings}
+use Rattle.listing.specs.Page.{workOf, firstUniversal, ofPage, pageRows, pageRefusal, PageMemory}
+use Rattle.rules.specs.Inner.Ready.{Bound, Room}
+use Rattle.rules.specs.Laws.Accepted.{prefix-length, accepted-bound}
 
 module _ (b : List ℤ) (m : PageMemory) (start : ℕ) where
   pub page-numbered : Numbered (pageRows b m start) (pageRefusal b m start)
@@ -31,16 +32,16 @@ module _ (b : List ℤ) (m : PageMemory) (start : ℕ) where
   -- ---- what an accepted page has shown
   pub record PageGuarded : Type 0 where
     pub block : refusal limits b ≡ 0
-    pub lent : Room (length (prefixOf b)) (m .work)
+    pub lent : Room (length (formulaOf b .prefix)) (m .work)
     pub exists : firstUniversal (formulaOf b) ≡ false
     pub narrow : firstGroup (prefixOf b) ≤ limits .group
-    pub inside : start ≤ 2 ^ firstGroup (prefixOf b)
+    pub inside : start ≤ openings (formulaOf b)
     pub room : 2 ≤ length (m .output)
 
   pub page-guarded : pageRefusal b m start ≡ 0 → PageGuarded
   unfolding pageRefusal openRefusal formulaOf
   page-guarded e =
-      let o = opened b (record { trail = m .work }) (first-part (openRows b (record { trail = m .work })) (ofPage (formulaOf b) start (m .output)) e) in
+      let o = opened b (workOf m) (first-part (openRows b (workOf m)) (ofPage (formulaOf b) start (m .output)) e) in
       let r = passed (pageRows b m start) refl e in
       record {
         block = o .block;
@@ -55,11 +56,16 @@ module _ (b : List ℤ) (m : PageMemory) (start : ℕ) where
   pub page-passes : PageGuarded → pageRefusal b m start ≡ 0
   unfolding pageRefusal openRefusal formulaOf
   page-passes g =
-      let o = open-passes b (record { trail = m .work }) (record { block = g .block; room = rw (← prefix-length b (g .block)) (g .lent) }) in
-      goes-on (openRows b (record { trail = m .work })) (ofPage (formulaOf b) start (m .output)) refl o
+      let o = open-passes b (workOf m) (record { block = g .block; room = rw (← prefix-length b (g .block)) (g .lent) }) in
+      goes-on (openRows b (workOf m)) (ofPage (formulaOf b) start (m .output)) refl o
       ∙ rw (
         g .exists,
         le-ltb (limits .group) (firstGroup (prefixOf b)) (g .narrow),
         le-ltb (2 ^ firstGroup (prefixOf b)) start (g .inside),
         le-ltb (length (m .output)) 2 (g .room),
       )
+
+  -- its prefix, as the searches need it
+  pub page-bound : PageGuarded → Bound (formulaOf b .prefix)
+  unfolding formulaOf
+  page-bound g = accepted-bound b (g .block)

@@ -1,8 +1,7 @@
 // The openings of a page, one after the other.
 ghost use mathlib.Core.Path.{_≡_};
-ghost use Prim.Native.Nat.{_+_, _*_, _^_, _≤_};
+ghost use Prim.Native.Nat.{_+_, _*_, _≤_};
 ghost use lib.ListN.{length, set};
-ghost use Rattle.formula.specs.Limits.{limits};
 ghost use Rattle.formula.specs.Formula.{formulaOf};
 ghost use Rattle.listing.specs.declared.Paged.the-variants.{Page};
 ghost use Rattle.listing.specs.Page.{pageMemory, paged, sheetOf};
@@ -11,24 +10,23 @@ use crate::Paged;
 use crate::openings;
 use rules::State;
 
-// An answer. There is at most one entry for each opening.
-fn answer(next: u32, entries: usize, paused: bool) -> Paged
-    requires { ⌜ entries ≤ 2 ^ limits .group ⌝ }
+// An answer.
+fn answer(next: u32, entries: u32, paused: bool) -> Paged
     ensures { λ r. ⌜ r ≡ Page next entries paused ⌝ }
 {
     Paged::Page {
         next: next,
-        entries: entries as u32,
+        entries: entries,
         paused: paused,
     }
 }
 
 // Writes an entry: the opening, and how many ones its number has.
-fn write_entry(output: &mut [u32], entries: usize, opening: u32, ones: u32)
+fn write_entry(output: &mut [u32], entries: u32, opening: u32, ones: u32)
     requires { ⌜ 2 * entries + 2 ≤ length (now output) ⌝ }
     ensures { λ r. ⌜ now (output .exit) ≡ set (set (now (output .entry)) (2 * entries) opening) (2 * entries + 1) ones ⌝ }
 {
-    let at = 2 * entries;
+    let at = 2 * (entries as usize);
     output[at] = opening;
     output[at + 1] = ones;
 }
@@ -51,7 +49,7 @@ pub(crate) fn fill(
     let mut n = start;
     let mut entries = 0;
     while n < total {
-        if output.len() < 2 * entries + 2 {
+        if output.len() < 2 * (entries as usize) + 2 {
             return answer(n, entries, false);
         }
         let reached = openings::try_opening(block, lits, kinds, k, n, preferred, budget);

@@ -1,18 +1,30 @@
--- A table filled by one pass says at every place what the words passed say: a store changes what is said at its own place only.
-use mathlib.Core.Path.{_≡_, sym, _∙_}
+-- A table filled by one pass says at every place what the words passed say: a store changes what is said at its own place only. The tables
+-- of values and of statuses.
+use mathlib.Core.Path.{_≡_, sym, _∙_, refl}
 use mathlib.Core.List.{List, [], _∷_, _++_}
-use Prim.Native.Nat.{ℕ, _+_, _≤_, _<_}
+use Prim.Native.Nat.{ℕ, _+_, _≤_, _<_, zero, suc, _-_}
 use native.Mathlib.Decide.{ℕ-discrete}
 use native.Mathlib.Omega.{arith}
-use lib.IntN.{ℤ, pos, natAbs}
+use lib.IntN.{ℤ, pos, natAbs, negsuc, negℤ}
 use lib.ListN.{length, getD, take, set, replicate, length-set, length-replicate}
-use lib.Seq.{getD-set-same, getD-set-other}
+use lib.Seq.{getD-set-same, getD-set-other, take-length, getD-take, take-take, length-take-le}
 use Rattle.words.specs.Laws.Lists.{take-more, blank}
+use Rattle.words.specs.Lists.{any}
 use Rattle.formula.specs.Limits.{limits}
 use Rattle.formula.specs.Laws.Limits.{variables-are}
 use Rattle.formula.specs.Laws.Named.{all-named, known-up}
+use Rattle.formula.specs.Inner.Named.{Named}
+use Rattle.theory.specs.Record.{among}
 use Rattle.rules.specs.Inner.Ready.{Bound}
-use Rattle.rules.specs.Inner.Tables.{places, Known}
+use Rattle.rules.specs.Inner.Tables.{places, Known, Written, Values, Quantifiers, signOf, valueIn}
+use mathlib.Core.Bool.{true, false}
+use Rattle.words.specs.Laws.Bools.{clash}
+use Rattle.words.specs.Words.{negative, eqZ, mem}
+use Rattle.words.specs.Laws.Words.{mem-here, mem-other, plus-other, minus-other}
+use Rattle.formula.specs.Block.{names}
+use Rattle.formula.specs.Laws.Prefix.{fresh-word, fresh-at}
+use Rattle.formula.specs.Inner.Places.{literalPlaces, placeOf}
+use Rattle.rules.specs.Inner.ByLiteral.{statusOf, statusBy, statusIn, Statuses}
 
 -- a variable's number is a place of a table
 pub enough : limits .variables < places
@@ -67,3 +79,118 @@ placed ws i s h l is = let k = all-named (limits .variables) ws h .at i l in ome
 
 pub bound-named : {p : List ℤ} → Bound p → Known p
 bound-named {p} b = known-up (length p) p (limits .variables) (b .room) (b .named)
+
+-- a bound prefix as words that give values: the table is that of its quantifiers
+pub bound-written : {p : List ℤ} → Bound p → Written p (length p)
+bound-written {p} b = record { room = omega arith; named = rw (take-length p) (bound-named b); once = rw (take-length p) (b .once) }
+
+pub quantifiers-of : (p : List ℤ) (t : List ℕ) → Values (among (take (length p) p)) t → Quantifiers p t
+quantifiers-of p t said = rw (take-length p) at said
+
+pub sign-minus : (w : ℤ) → negative w ≡ true → 2 ≡ signOf w
+sign-minus (pos n) h = clash h refl
+sign-minus (negsuc n) h = refl
+
+pub sign-plus : (w : ℤ) → negative w ≡ false → 1 ≡ signOf w
+sign-plus (pos n) h = refl
+sign-plus (negsuc n) h = clash refl h
+
+-- what the entries say of a variable
+abbrev pub valued : List ℤ → ℕ → ℕ
+valued xs v = valueIn (among xs) v
+
+pub value-other : (xs : List ℤ) (w : ℤ) (v : ℕ) → (v ≡ natAbs w → ⊥) → valued (xs ++ w ∷ []) v ≡ valued xs v
+value-other xs w v k = rw (plus-other xs w v k, minus-other xs w v k)
+
+pub value-new : (n : ℕ) (xs : List ℤ) (w : ℤ) → Named n w → any (names (natAbs w)) xs ≡ false → signOf w ≡ valued (xs ++ w ∷ []) (natAbs w)
+unfolding eqZ
+value-new n xs (pos zero) h f = absurd (omega arith)
+value-new n xs (pos (suc k)) h f = rw (mem-here xs (pos (suc k)))
+value-new n xs (negsuc k) h f = rw (mem-other (pos (suc k)) xs (negsuc k) refl, fresh-word (pos (suc k)) xs f, mem-here xs (negsuc k))
+
+-- ---- the loop
+pub values-begin : (ls : List ℤ) (n : ℕ) → Filled valued places ls n (replicate places 0) 0
+unfolding mem
+values-begin ls n = begin valued places ls n (λ v. refl)
+
+module _ (ls : List ℤ) (n : ℕ) (w : Written ls n) (i : ℕ) (h : i < n) where
+  written-at : getD (take n ls) i (pos 0) ≡ getD ls i (pos 0)
+  written-at = getD-take n ls i (pos 0) h
+
+  short : length (take n ls) ≡ n
+  short = length-take-le n ls (w .room)
+
+  pub written-placed : (s : ℕ) → s ≡ natAbs (getD ls i (pos 0)) → s < places
+  written-placed s is = placed (take n ls) i s (w .named) (rw short h) (rw written-at is)
+
+  pub values-turn : (t : List ℕ) → Filled valued places ls n t i → (s a : ℕ) → s ≡ natAbs (getD ls i (pos 0)) → a ≡ signOf (getD ls i (pos 0)) → Filled valued places ls n (set t s a) (i + 1)
+  values-turn t f s a is new =
+      let l : i < length (take n ls) = rw short h in
+      let word = rw written-at at (all-named (limits .variables) (take n ls) (w .named) .at i l) in
+      let fresh = rw (written-at, take-take i n ls (omega arith)) at (fresh-at (take n ls) (w .once) i l) in
+      turn valued places ls n t i f h (w .room) s a (written-placed s is)
+      (rw is (new ∙ value-new (limits .variables) (take i ls) (getD ls i (pos 0)) word fresh))
+      (λ v k. value-other (take i ls) (getD ls i (pos 0)) v (λ e. k (e ∙ sym is)))
+
+-- a word's variable made true
+pub minus-true : (w : ℤ) → negative w ≡ true → negℤ w ≡ pos (natAbs w)
+minus-true (pos n) h = clash h refl
+minus-true (negsuc n) h = refl
+
+pub plus-true : (w : ℤ) → negative w ≡ false → w ≡ pos (natAbs w)
+plus-true (pos n) h = refl
+plus-true (negsuc n) h = clash refl h
+
+-- a word names a variable for which a table has a place
+pub word-small : (ws : List ℤ) → Known ws → (i : ℕ) → i < length ws → natAbs (getD ws i (pos 0)) ≤ limits .variables
+word-small ws named i h = all-named (limits .variables) ws named .at i h .most
+
+-- the variables below v are written
+pub record Stated (n : ℕ) (values quantifiers : List ℕ) (t : List ℕ) (v : ℕ) : Type 0 where
+  pub from : 1 ≤ v
+  pub at : v ≤ n + 1
+  pub long : length t ≡ literalPlaces
+  pub said : (x : ℤ) → 0 < natAbs x → natAbs x < v → statusIn t x ≡ statusBy values quantifiers x
+
+module _ (n : ℕ) (values quantifiers : List ℕ) where
+  pub stated-begin : Stated n values quantifiers (replicate literalPlaces 0) 1
+  stated-begin = record { from = omega arith; at = omega arith; long = length-replicate {A = ℕ} literalPlaces 0; said = λ x l h. absurd (omega arith) }
+
+  module _ (t : List ℕ) (v : ℕ) (s : Stated n values quantifiers t v) where
+    pub stated-end : n < v → Statuses n values quantifiers t
+    stated-end h x l m = s .said x l (omega arith)
+
+    module _ (h : v ≤ n) (few : n ≤ limits .variables) (m : ℕ) (mid : m ≡ limits .variables) (a b : ℕ) (is-plus : a ≡ statusOf (getD values v 0) (getD quantifiers v 0) 1) (is-minus : b ≡ statusOf (getD values v 0) (getD quantifiers v 0) 2) where
+      abbrev up : ℕ
+      up = m + v
+
+      abbrev down : ℕ
+      down = m - v
+
+      abbrev after : List ℕ
+      after = set (set t up a) down b
+
+      after-up : getD after up 0 ≡ a
+      after-up = getD-set-other (set t up a) down up b 0 (λ e. omega (arith, s .from)) ∙ getD-set-same t up a 0 (omega (arith, s .long, variables-are))
+
+      after-down : getD after down 0 ≡ b
+      after-down = let l : down < length (set t up a) = simp length-set (omega (arith, s .long, variables-are)) in getD-set-same (set t up a) down b 0 l
+
+      after-other : (at : ℕ) → (at ≡ up → ⊥) → (at ≡ down → ⊥) → getD after at 0 ≡ getD t at 0
+      after-other at f g = getD-set-other (set t up a) down at b 0 g ∙ getD-set-other t up at a 0 f
+
+      said-after : (x : ℤ) → 0 < natAbs x → natAbs x < v + 1 → statusIn after x ≡ statusBy values quantifiers x
+      unfolding placeOf statusBy
+      said-after (pos k) l m = by (ℕ-discrete k v)
+        where
+          by : Dec (k ≡ v) → statusIn after (pos k) ≡ statusBy values quantifiers (pos k)
+          by (yes e) = rw (← mid, e) (after-up ∙ is-plus)
+          by (no f) = after-other (limits .variables + k) (λ e. f (omega arith)) (λ e. omega (arith, s .from)) ∙ s .said (pos k) l (omega arith)
+      said-after (negsuc k) l m = by (ℕ-discrete (suc k) v)
+        where
+          by : Dec (suc k ≡ v) → statusIn after (negsuc k) ≡ statusBy values quantifiers (negsuc k)
+          by (yes e) = rw (← mid, e) (after-down ∙ is-minus)
+          by (no f) = after-other (limits .variables - suc k) (λ e. omega (arith, s .from)) (λ e. f (omega arith)) ∙ s .said (negsuc k) l (omega arith)
+
+      pub stated-turn : Stated n values quantifiers after (v + 1)
+      stated-turn = record { from = omega arith; at = omega arith; long = length-set (set t up a) down b ∙ length-set t up a ∙ s .long; said = said-after }

@@ -1,19 +1,12 @@
--- Laws of this crate's definitions, for the proofs of its functions and of those above.
+-- Laws for the proofs of the functions.
+
+-- the tables; a loop that looks for the first; the walk over the clauses, and the look at one
 pub mod Filled
-pub mod Values
-pub mod Universals
 pub mod Occurring
-pub mod Statuses
 pub mod Levels
-pub mod Unassigned
-pub mod Lowest
-pub mod OpenLiteral
-pub mod Monotone
-pub mod Kind
-pub mod Places
-pub mod Exits
-pub mod Row12
-pub mod Looks
+pub mod First
 pub mod Walk
-pub mod Conflict
-pub mod Ways
+pub mod Looks
+-- the buffers, and row 12
+pub mod Places
+pub mod Row12

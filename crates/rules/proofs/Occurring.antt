@@ -1,87 +1,93 @@
--- The table of occurring literals: a word marks its own place and no other, since a place has one word.
+-- The table of occurring literals: a word marks its own place and no other, since a place has one word; so a clause marks its literals, and clause
+-- after clause those of all.
 use mathlib.Core.Path.{_≡_, refl, sym, _∙_, ap}
-use mathlib.Core.Bool.{Bool, true, false, cond}
+use mathlib.Core.Bool.{Bool, true, false, cond, _||_}
 use mathlib.Core.List.{List, [], _∷_, _++_}
 use Prim.Native.Nat.{ℕ, _+_, _-_, _≤_, _<_}
 use native.Mathlib.Nat.{le-refl}
 use native.Mathlib.Omega.{arith}
-use lib.IntN.{ℤ, pos, negℤ, natAbs}
-use lib.ListN.{length, getD, take, set, replicate}
+use lib.IntN.{ℤ, pos, natAbs}
+use lib.ListN.{length, getD, take, drop, set, replicate, length-replicate}
+use lib.Seq.{take-length}
+use Rattle.words.specs.Lists.{any}
 use Rattle.words.specs.Words.{mem}
-use Rattle.words.specs.Laws.Words.{eqZ-ne, mem-here, mem-other, natAbs-neg}
+use Rattle.words.specs.Laws.Words.{eqZ-ne, mem-here, mem-other}
 use Rattle.formula.specs.Limits.{limits}
 use Rattle.formula.specs.Laws.Limits.{variables-are}
-use Rattle.formula.specs.Laws.Named.{all-named}
 use Rattle.formula.specs.Inner.Places.{literalPlaces, placeOf, wordAt}
-use Rattle.formula.specs.Laws.Places.{place-word, word-place, place-within, place-plus, place-minus}
-use Rattle.rules.specs.Inner.Tables.{Known, signsOf}
-use Rattle.rules.specs.Inner.ByLiteral.{Occurring}
-use Rattle.rules.proofs.Filled.{Filled, begin, turn}
+use Rattle.formula.specs.Laws.Places.{place-word, word-place, place-within}
+use Rattle.theory.specs.Record.{Assignment}
+use Rattle.theory.specs.Tests.{occurs, untrueOf}
+use Rattle.rules.specs.Inner.ByLiteral.{Occurring, Marked, Counted, markedBy}
+use Rattle.rules.specs.Inner.Clauses.{Placed, Clauses}
+use Rattle.rules.proofs.Filled.{Filled, turn, end}
+use Rattle.rules.proofs.Walk.{Turn}
+use Rattle.formula.specs.Block.{badEnds}
+use Rattle.formula.specs.Formula.{clausesFrom}
+use Rattle.formula.specs.Laws.Clauses.{clauses-ended}
+use Rattle.words.specs.Laws.Lists.{blank}
 
--- what the words say of a place
-abbrev pub occurs : List ℤ → ℕ → ℕ
-occurs xs at = cond (mem (wordAt at) xs) 1 0
+-- ---- one clause: what its words say of a place, over what the table t₀ said before
+abbrev pub marked : List ℕ → List ℤ → ℕ → ℕ
+marked t₀ xs at = cond (mem (wordAt at) xs) 1 (getD t₀ at 0)
 
-occurs-new : (xs : List ℤ) (w : ℤ) → natAbs w ≤ limits .variables → 1 ≡ occurs (xs ++ w ∷ []) (placeOf w)
-occurs-new xs w h = rw (word-place w h, mem-here xs w)
+marked-new : (t₀ : List ℕ) (xs : List ℤ) (w : ℤ) → natAbs w ≤ limits .variables → 1 ≡ marked t₀ (xs ++ w ∷ []) (placeOf w)
+marked-new t₀ xs w h = rw (word-place w h, mem-here xs w)
 
-occurs-other : (xs : List ℤ) (w : ℤ) (at : ℕ) → (at ≡ placeOf w → ⊥) → occurs (xs ++ w ∷ []) at ≡ occurs xs at
-occurs-other xs w at k = rw (mem-other (wordAt at) xs w (eqZ-ne (λ e. k (sym (place-word at) ∙ ap placeOf e))))
+marked-other : (t₀ : List ℕ) (xs : List ℤ) (w : ℤ) (at : ℕ) → (at ≡ placeOf w → ⊥) → marked t₀ (xs ++ w ∷ []) at ≡ marked t₀ xs at
+marked-other t₀ xs w at k = rw (mem-other (wordAt at) xs w (eqZ-ne (λ e. k (sym (place-word at) ∙ ap placeOf e))))
 
--- ---- the loop
-pub occurring-begin : (ws : List ℤ) → Filled occurs literalPlaces ws (length ws) (replicate literalPlaces 0) 0
-unfolding mem
-occurring-begin ws = begin occurs literalPlaces ws (length ws) (λ at. refl)
+module _ (t₀ : List ℕ) (C : List ℤ) where
+  pub mark-begin : length t₀ ≡ literalPlaces → Filled (marked t₀) literalPlaces C (length C) t₀ 0
+  unfolding mem
+  mark-begin long = record { at = omega arith; long = long; said = λ at. refl }
 
-module _ (ws : List ℤ) (named : Known ws) (i : ℕ) (h : i < length ws) where
-  pub word-small : natAbs (getD ws i (pos 0)) ≤ limits .variables
-  word-small = all-named (limits .variables) ws named .at i h .most
+  pub mark-end : (t : List ℕ) (i : ℕ) → Filled (marked t₀) literalPlaces C (length C) t i → length C ≤ i → Marked C t₀ t
+  mark-end t i f h = record { long = f .long; said = λ at. end (marked t₀) literalPlaces C (length C) t i f h at ∙ ap (λ ws. marked t₀ ws at) (take-length C) }
 
-  module _ (s : ℕ) (is : s ≡ placeOf (getD ws i (pos 0))) where
-    pub occurring-placed : s < literalPlaces
-    occurring-placed = omega (arith, variables-are, place-within (getD ws i (pos 0)) word-small)
+  module _ (placed : Placed C) (i : ℕ) (h : i < length C) (s : ℕ) (is : s ≡ placeOf (getD C i (pos 0))) where
+    pub mark-placed : s < literalPlaces
+    mark-placed = omega (arith, variables-are, place-within (getD C i (pos 0)) (placed i))
 
-    pub occurring-turn : (t : List ℕ) → Filled occurs literalPlaces ws (length ws) t i → Filled occurs literalPlaces ws (length ws) (set t s 1) (i + 1)
-    occurring-turn t f =
-        turn occurs literalPlaces ws (length ws) t i f h (le-refl (length ws)) s 1 occurring-placed
-        (rw is (occurs-new (take i ws) (getD ws i (pos 0)) word-small))
-        (λ at k. occurs-other (take i ws) (getD ws i (pos 0)) at (λ e. k (e ∙ sym is)))
+    pub mark-next : (t : List ℕ) → Filled (marked t₀) literalPlaces C (length C) t i → Filled (marked t₀) literalPlaces C (length C) (set t s 1) (i + 1)
+    mark-next t f =
+        turn (marked t₀) literalPlaces C (length C) t i f h (le-refl (length C)) s 1 mark-placed
+        (rw is (marked-new t₀ (take i C) (getD C i (pos 0)) (placed i)))
+        (λ at k. marked-other t₀ (take i C) (getD C i (pos 0)) at (λ e. k (e ∙ sym is)))
 
--- ---- a variable's two places
-module _ (ws : List ℤ) (t : List ℕ) (said : Occurring ws t) (v : ℕ) (h : v ≤ limits .variables) (m : ℕ) (mid : m ≡ limits .variables) where
-  plus : getD t (m + v) 0 ≡ cond (mem (pos v) ws) 1 0
-  plus = rw (mid, ← place-plus v) (said (placeOf (pos v)) ∙ ap (λ x. cond (mem x ws) 1 0) (word-place (pos v) h))
+-- ---- a clause that counts, or is passed over
+module _ (ρ : Assignment) (C : List ℤ) (t : List ℕ) where
+  pub counts : any ρ C ≡ false → (t′ : List ℕ) → Marked C t t′ → Counted ρ C t t′
+  unfolding untrueOf occurs any
+  counts e t′ k = record { long = k .long; said = λ m at. rw (e, k .said at) (go (mem (wordAt at) C) (any (mem (wordAt at)) (untrueOf ρ m)) (getD t at 0)) }
+    where
+      go : (a b : Bool) (n : ℕ) → cond b 1 (cond a 1 n) ≡ cond (a || b) 1 n
+      go true true n = refl
+      go true false n = refl
+      go false b n = refl
 
-  minus : getD t (m - v) 0 ≡ cond (mem (negℤ (pos v)) ws) 1 0
-  minus = let l : natAbs (negℤ (pos v)) ≤ limits .variables = rw (natAbs-neg (pos v)) h in rw (mid, ← place-minus v) (said (placeOf (negℤ (pos v))) ∙ ap (λ x. cond (mem x ws) 1 0) (word-place (negℤ (pos v)) l))
+  pub passes : any ρ C ≡ true → length t ≡ literalPlaces → Counted ρ C t t
+  unfolding untrueOf
+  passes e long = record { long = long; said = λ m at. rw e }
 
-  -- the signs, by what stands there
-  module _ (x y : ℕ) (is-plus : x ≡ getD t (m + v) 0) (is-minus : y ≡ getD t (m - v) 0) where
-    tells : (z : ℕ) → ((a b : Bool) → x ≡ cond a 1 0 → y ≡ cond b 1 0 → z ≡ cond a (cond b 3 1) (cond b 2 0)) → z ≡ signsOf ws v
-    tells z go = go (mem (pos v) ws) (mem (negℤ (pos v)) ws) (is-plus ∙ plus) (is-minus ∙ minus)
+-- ---- clause after clause: to mark the clauses left is to mark all
+module _ (ρ : Assignment) (es ls : List ℤ) where
+  pub record Counting (t : List ℕ) (from c : ℕ) : Type 0 where
+    pub ends : badEnds (length ls) from (drop c es) ≡ false
+    pub long : length t ≡ literalPlaces
+    pub said : (at : ℕ) → markedBy ρ t (clausesFrom ls from (drop c es)) at ≡ cond (occurs (untrueOf ρ (clausesFrom ls 0 es)) (wordAt at)) 1 0
 
-    pub signs-plus : y ≡ 0 → x ≡ signsOf ws v
-    signs-plus e = tells x go
-      where
-        go : (a b : Bool) → x ≡ cond a 1 0 → y ≡ cond b 1 0 → x ≡ cond a (cond b 3 1) (cond b 2 0)
-        go true true p q = omega arith
-        go true false p q = p
-        go false true p q = omega arith
-        go false false p q = p
+  pub count-begin : Clauses es ls → Counting (replicate literalPlaces 0) 0 0
+  count-begin k = record { ends = k .ends; long = length-replicate {A = ℕ} literalPlaces 0; said = λ at. ap (λ n. cond (occurs (untrueOf ρ (clausesFrom ls 0 es)) (wordAt at)) 1 n) (blank {A = ℕ} 0 literalPlaces at) }
 
-    module _ (k : y ≡ 0 → ⊥) where
-      pub signs-minus : x ≡ 0 → 2 ≡ signsOf ws v
-      signs-minus e = tells 2 go
-        where
-          go : (a b : Bool) → x ≡ cond a 1 0 → y ≡ cond b 1 0 → _≡_ {A = ℕ} 2 (cond a (cond b 3 1) (cond b 2 0))
-          go true b p q = absurd (omega arith)
-          go false true p q = refl
-          go false false p q = absurd (k q)
+  module _ (t : List ℕ) (from c : ℕ) (k : Counting t from c) where
+    pub count-next : (e : ℕ) → Turn es ls from c e → (t′ : List ℕ) → Counted ρ (take (e - from) (drop from ls)) t t′ → Counting t′ e (c + 1)
+    count-next e u t′ n = record {
+      ends = u .ends;
+      long = n .long;
+      said = λ at. n .said (clausesFrom ls e (drop (c + 1) es)) at ∙ ap (λ m. markedBy ρ t m at) (sym (u .clauses)) ∙ k .said at;
+    }
 
-      pub signs-both : (x ≡ 0 → ⊥) → 3 ≡ signsOf ws v
-      signs-both f = tells 3 go
-        where
-          go : (a b : Bool) → x ≡ cond a 1 0 → y ≡ cond b 1 0 → _≡_ {A = ℕ} 3 (cond a (cond b 3 1) (cond b 2 0))
-          go true true p q = refl
-          go true false p q = absurd (k q)
-          go false b p q = absurd (f p)
+    pub count-end : length es ≤ c → Occurring (untrueOf ρ (clausesFrom ls 0 es)) t
+    unfolding untrueOf occurs any
+    count-end h at = rw (clauses-ended ls from es c h) at (k .said at)

@@ -1,71 +1,49 @@
 -- Row 12 in the words of the code: the kinds, by the signs in the prefix, and the ways out.
 use mathlib.Core.Path.{_≡_, refl, sym, _∙_}
-use mathlib.Core.Bool.{Bool, true, false, cond, _||_, or-false}
+use mathlib.Core.Bool.{Bool, true, false, not, _&&_, _||_, or-false}
 use mathlib.Core.List.{List}
 use Prim.Native.Nat.{ℕ, _+_, _≤_, _<_}
 use native.Mathlib.Omega.{arith}
 use lib.Dec.{eqb, ltb}
-use lib.IntN.{ℤ, pos, negℤ, natAbs}
+use lib.IntN.{ℤ, pos, natAbs}
 use lib.ListN.{length, getD, take, drop}
 use lib.Seq.{getD-take, length-take-le}
 use borrow.Author.Tests.{ne-eqb, lt-ltb, le-ltb}
 use Rattle.words.specs.Lists.{any}
 use Rattle.words.specs.Laws.Lists.{any-found, any-past, any-ended}
-use Rattle.words.specs.Words.{mem}
-use Rattle.words.specs.Laws.Words.{mem-e}
 use Rattle.formula.specs.Formula.{existential, universal}
 use Rattle.formula.specs.Block.{noVariable, twice}
-use Rattle.formula.specs.Limits.{limits}
+use Rattle.formula.specs.Laws.Limits.{variables-are}
 use Rattle.formula.specs.Inner.Named.{Named}
-use Rattle.formula.specs.Laws.Named.{in-named, all-named}
-use Rattle.formula.specs.Laws.Prefix.{one-sign}
+use Rattle.formula.specs.Laws.Named.{all-named}
+use Rattle.formula.specs.Laws.Permuted.{quantifier}
 use Rattle.theory.specs.Record.{entry}
-use Rattle.rules.specs.Trail.{Trail, recordOf}
+use Rattle.rules.specs.Trail.{Trail, recordOf, noEntry}
 use Rattle.rules.specs.Check.{badKind, badEntries, badRecord}
 use Rattle.rules.specs.Inner.Ready.{Bound, Room}
-use Rattle.rules.specs.Inner.Tables.{signsOf}
+use Rattle.rules.specs.Inner.Tables.{places, Quantifiers}
 use Rattle.rules.specs.Inner.Buffers.{KindsLent, wrongKind}
-use Rattle.rules.specs.Laws.Records.{noEntry, room-less, record-length, record-get, record-literals}
+use Rattle.rules.specs.Laws.VariablesMean.{quantifier-in}
+use Rattle.rules.specs.Laws.Records.{room-less, record-length, record-get, record-literals}
 
 -- ---- kinds
--- no variable has both signs in a prefix
-not-both : (p : List ℤ) (v : ℕ) → Bound p → mem (pos v) p ≡ true → mem (negℤ (pos v)) p ≡ false
-not-both p v b e =
-    let i = mem-e (pos v) p e in
-    one-sign p (b .once) i (in-named (length p) p (b .named) i .some)
-
--- so its sign tells a variable's quantifier
-module _ (p : List ℤ) (l : ℤ) (h : Bound p) where
-  sign-universal : eqb (signsOf p (natAbs l)) 2 ≡ universal p l
-  unfolding universal
-  sign-universal = go (mem (pos (natAbs l)) p) (mem (negℤ (pos (natAbs l))) p) (not-both p (natAbs l) h)
-    where
-      go : (a b : Bool) → (a ≡ true → b ≡ false) → eqb (cond a (cond b 3 1) (cond b 2 0)) 2 ≡ b
-      go true b f = rw (f refl)
-      go false true f = refl
-      go false false f = refl
-
-  sign-existential : eqb (signsOf p (natAbs l)) 1 ≡ existential p l
-  unfolding existential
-  sign-existential = go (mem (pos (natAbs l)) p) (mem (negℤ (pos (natAbs l))) p) (not-both p (natAbs l) h)
-    where
-      go : (a b : Bool) → (a ≡ true → b ≡ false) → eqb (cond a (cond b 3 1) (cond b 2 0)) 1 ≡ a
-      go true b f = rw (f refl)
-      go false true f = refl
-      go false false f = refl
-
-  kind-test : (k : ℕ) → wrongKind k (signsOf p (natAbs l)) ≡ badKind p (entry k l)
-  kind-test k = rw (sign-universal, sign-existential)
+-- the table tells a variable's quantifier, since it has one only
+kind-test : (p : List ℤ) → Bound p → (l : ℤ) → Named (length p) l → (k q : ℕ) → eqb q 2 ≡ universal p l → wrongKind k q ≡ badKind p (entry k l)
+kind-test p b l n k q e = rw (e, quantifier (length p) p (b .named) (b .once) refl l n) (go (existential p l))
+  where
+    go : (e : Bool) → (ltb 2 k || (eqb k 1 && not e) || (eqb k 2 && not (not e))) ≡ (ltb 2 k || (eqb k 1 && not e) || (eqb k 2 && e))
+    go true = refl
+    go false = refl
 
 -- the test in the order of the code
-module _ (k s : ℕ) where
-  pub kind-one : k ≡ 1 → eqb s 2 ≡ wrongKind k s
-  kind-one e = rw e (sym (or-false (eqb s 2)))
+module _ (k q : ℕ) where
+  pub kind-one : k ≡ 1 → eqb q 2 ≡ wrongKind k q
+  kind-one e = rw e (sym (or-false (eqb q 2)))
 
-  pub kind-two : k ≡ 2 → eqb s 1 ≡ wrongKind k s
+  pub kind-two : k ≡ 2 → not (eqb q 2) ≡ wrongKind k q
   kind-two e = rw e
 
-  pub kind-else : (k ≡ 1 → ⊥) → (k ≡ 2 → ⊥) → ltb 2 k ≡ wrongKind k s
+  pub kind-else : (k ≡ 1 → ⊥) → (k ≡ 2 → ⊥) → ltb 2 k ≡ wrongKind k q
   kind-else f g = rw (ne-eqb k 1 f, ne-eqb k 2 g) (sym (or-false (ltb 2 k || false) ∙ or-false (ltb 2 k)))
 
 -- the entries from i on have a bad kind among them exactly if all have
@@ -83,15 +61,15 @@ module _ (p : List ℤ) (t : Trail) (n : ℕ) (q : KindsLent p t n) where
         let l : i < length (take n (t .lits)) = rw (length-take-le n (t .lits) (q .room .lits)) h in
         rw (getD-take n (t .lits) i (pos 0) h) at (all-named (length p) (take n (t .lits)) (q .named) .at i l)
 
-    pub kinds-small : (v : ℕ) → v ≡ natAbs (getD (t .lits) i (pos 0)) → v ≤ limits .variables
-    kinds-small v e = omega (arith, name .most, q .prefix .room)
+    pub kinds-small : (v : ℕ) → v ≡ natAbs (getD (t .lits) i (pos 0)) → v < places
+    kinds-small v e = omega (arith, name .most, q .prefix .room, variables-are)
 
-    module _ (v : ℕ) (e : v ≡ natAbs (getD (t .lits) i (pos 0))) (signs : ℕ) (told : signs ≡ signsOf p v) (b : Bool) (is : b ≡ wrongKind (getD (t .kinds) i 0) signs) (k : Looked p t n i) where
+    module _ (table : List ℕ) (said : Quantifiers p table) (v : ℕ) (e : v ≡ natAbs (getD (t .lits) i (pos 0))) (b : Bool) (is : b ≡ wrongKind (getD (t .kinds) i 0) (getD table v 0)) (k : Looked p t n i) where
       within : i < length (recordOf t n)
       within = rw (record-length t n (q .room)) h
 
       tested : badKind p (getD (recordOf t n) i noEntry) ≡ b
-      tested = rw (record-get t n (q .room) i h) (sym (is ∙ rw (told, e) (kind-test p (getD (t .lits) i (pos 0)) (q .prefix) (getD (t .kinds) i 0))))
+      tested = rw (record-get t n (q .room) i h) (sym (is ∙ kind-test p (q .prefix) (getD (t .lits) i (pos 0)) name (getD (t .kinds) i 0) (getD table v 0) (rw e (quantifier-in p (q .prefix) table said (getD (t .lits) i (pos 0))))))
 
       pub kinds-hit : b ≡ true → true ≡ any (badKind p) (recordOf t n)
       kinds-hit u = sym (any-found (badKind p) (recordOf t n) i noEntry within (tested ∙ u)) ∙ k .same

@@ -3,14 +3,15 @@
 use Prim.Native.Nat.{ℕ, suc, _+_, _-_, _≤_, _<_, zero-le}
 use mathlib.Core.Path.{_≡_, refl, sym, _∙_, ap}
 use mathlib.Core.Logic.{_⊎_, inl, inr}
-use mathlib.Core.Bool.{true, false}
+use mathlib.Core.Bool.{Bool, true, false}
 use mathlib.Core.List.{List, [], _∷_}
+use native.Mathlib.Numerals.{add-one}
 use native.Mathlib.Omega.{arith}
 use lib.Dec.{ltb}
 use lib.IntN.{ℤ, pos, natAbs}
 use lib.ListN.{length, getD, take, drop, length-take, List·getD-eq-default}
 use lib.Seq.{getD-take, getD-drop}
-use borrow.Author.Tests.{ltb-true, ltb-false}
+use borrow.Author.Tests.{ltb-true, ltb-false, ne-eqb}
 use Rattle.words.specs.Laws.Bools.{look}
 use Rattle.words.specs.Laws.Lists.{next}
 use Rattle.formula.specs.Limits.{limits}
@@ -18,7 +19,9 @@ use Rattle.formula.specs.Formula.{clausesFrom}
 use Rattle.formula.specs.Block.{badEnds}
 use Rattle.formula.specs.Laws.Ends.{good-end}
 use Rattle.formula.specs.Laws.Clauses.{clauses-at, clauses-ended}
-use Rattle.rules.specs.Inner.Clauses.{Placed, Clauses}
+use Rattle.rules.specs.Due.{lowest}
+use Rattle.rules.specs.Inner.Clauses.{Placed, Clauses, keepsBy}
+use Rattle.rules.specs.declared.found.Found.the-variants.{At, Nothing}
 
 -- the clause that begins at `from` and is number c, when it ends at e
 pub record Turn (es ls : List ℤ) (from c e : ℕ) : Type 0 where
@@ -76,3 +79,31 @@ module _ {A : Type 0} (f : ℕ → List (List ℤ) → A) (es ls : List ℤ) whe
 
   pub walk-end : (from c : ℕ) → length es ≤ c → Walk from c → f c [] ≡ f 0 (clausesFrom ls 0 es)
   walk-end from c h w = rw (clauses-ended ls from es c h) at (w .same)
+
+-- one clause more
+module _ {A : Type 0} (f : A → Bool) (c : ℕ) (x : A) (m : List A) where
+  pub lowest-hit : f x ≡ true → lowest f c (x ∷ m) ≡ At c
+  unfolding lowest
+  lowest-hit h = rw h
+
+  pub lowest-miss : f x ≡ false → lowest f (c + 1) m ≡ lowest f c (x ∷ m)
+  unfolding lowest
+  lowest-miss h = rw (add-one, h)
+
+pub lowest-none : {A : Type 0} (f : A → Bool) (c : ℕ) → Nothing ≡ lowest f c []
+unfolding lowest
+lowest-none f c = refl
+
+-- and one literal more: true, unassigned existential, or neither
+module _ (st : ℤ → ℕ) (x : ℤ) where
+  pub keeps-true : st x ≡ 1 → keepsBy st x ≡ true
+  unfolding keepsBy
+  keeps-true e = rw e
+
+  pub keeps-existential : st x ≡ 2 → keepsBy st x ≡ true
+  unfolding keepsBy
+  keeps-existential e = rw e
+
+  pub keeps-not : (st x ≡ 1 → ⊥) → (st x ≡ 2 → ⊥) → keepsBy st x ≡ false
+  unfolding keepsBy
+  keeps-not k l = rw (ne-eqb (st x) 1 k, ne-eqb (st x) 2 l)

@@ -1,4 +1,4 @@
--- "The due rule is the first that applies."
+-- The due rule: the searches of the five conditions, each with what follows if it finds nothing. To be read from the end.
 use Prim.Native.Nat.{ℕ, suc}
 use mathlib.Core.Bool.{Bool, cond}
 use mathlib.Core.List.{List, [], _∷_}
@@ -8,7 +8,7 @@ use lib.ListN.{getD}
 use Rattle.words.specs.declared.Literal.{Literal}
 use Rattle.formula.specs.Formula.{Formula}
 use Rattle.theory.specs.Record.{Record, Assignment, trueIn, assigned}
-use Rattle.theory.specs.Tests.{unassignedE, inConflict, unitOn, monotone}
+use Rattle.theory.specs.Tests.{unassignedE, inConflict, unitOn, monotone, untrueOf}
 use Rattle.rules.specs.declared.rule.Rule.{Rule}
 use Rattle.rules.specs.declared.rule.Rule.the-variants.{BacktrackExists, Fail, Unit, Monotone, Decide, BacktrackForall, Succeed}
 use Rattle.rules.specs.declared.found.Found.{Found}
@@ -55,42 +55,43 @@ candidate p ρ (x ∷ C) = cond (unassignedE p ρ x) x (candidate p ρ C)
 abbrev pub isUnit : List ℤ → Assignment → List ℤ → Bool
 isUnit p ρ C = unitOn p ρ C (candidate p ρ C)
 
--- "Unit: the lowest clause with ..", and its literal
+-- the lowest of these clauses, and its literal [unit]
 unfoldable pub lowestUnit : List ℤ → Assignment → List (List ℤ) → UnitFound
 lowestUnit p ρ m = onFound (lowest (isUnit p ρ) 0 m) (λ c. On (literal (candidate p ρ (getD m c []))) c) NoUnit
 
--- "the first unassigned variable in prefix order that occurs with one sign only": the literal that it takes; qs are words of the prefix p
-unfoldable pub firstMonotone : List ℤ → List (List ℤ) → Assignment → List ℤ → Picked
-firstMonotone p m ρ [] = NoLiteral
-firstMonotone p m ρ (q ∷ qs) =
-    cond (monotone p m ρ q) (Is (literal q))
-    (cond (monotone p m ρ (negℤ q)) (Is (literal (negℤ q))) (firstMonotone p m ρ qs))
+-- the first of a list that a test picks
+unfoldable pub firstOf : (ℤ → Picked) → List ℤ → Picked
+firstOf f [] = NoLiteral
+firstOf f (x ∷ xs) = onPicked (f x) Is (firstOf f xs)
 
--- "the first unassigned variable in prefix order, true"
+-- the first variable in prefix order that is monotone in the clauses m: the literal that it takes [monotone]
+unfoldable pub firstMonotone : List ℤ → List (List ℤ) → Assignment → Picked
+firstMonotone p m ρ = firstOf (λ q. cond (monotone p m ρ q) (Is (literal q)) (cond (monotone p m ρ (negℤ q)) (Is (literal (negℤ q))) NoLiteral)) p
+
+-- the first unassigned variable in prefix order, as true [decide.zero]
 unfoldable pub firstUnassigned : Assignment → List ℤ → Picked
-firstUnassigned ρ [] = NoLiteral
-firstUnassigned ρ (q ∷ qs) = cond (assigned ρ q) (firstUnassigned ρ qs) (Is (literal (pos (natAbs q))))
+firstUnassigned ρ p = firstOf (λ q. cond (assigned ρ q) NoLiteral (Is (literal (pos (natAbs q))))) p
 
-module _ (F : Formula) (r : Record) where
-  -- 5: "All assigned: Backtrack-forall, cutting at the last kind 2 entry .. With none: Succeed"
-  abbrev pub dueAssigned : Rule
-  dueAssigned = onFound (last 2 0 r) (λ i. BacktrackForall i) Succeed
+-- 5: with no unassigned variable, by the last entry of kind 2 [backtrack-forall] [succeed]
+abbrev pub dueAssigned : Record → Rule
+dueAssigned r = onFound (last 2 0 r) (λ i. BacktrackForall i) Succeed
 
-  -- 4: "Decide: some variable is unassigned."
-  abbrev pub dueDecide : Rule
-  dueDecide = onPicked (firstUnassigned (trueIn r) (F .prefix)) (λ l. Decide l) dueAssigned
+-- 4: Decide, where a variable is unassigned [decide]
+abbrev pub dueDecide : List ℤ → Record → Rule
+dueDecide p r = onPicked (firstUnassigned (trueIn r) p) (λ l. Decide l) (dueAssigned r)
 
-  -- 3: "Monotone"
-  abbrev pub dueMonotone : Rule
-  dueMonotone = onPicked (firstMonotone (F .prefix) (F .clauses) (trueIn r) (F .prefix)) (λ l. Monotone l) dueDecide
+-- 3: Monotone, in which only the clauses with no true literal count [monotone]
+abbrev pub dueMonotone : Formula → Record → Rule
+dueMonotone F r = onPicked (firstMonotone (F .prefix) (untrueOf (trueIn r) (F .clauses)) (trueIn r)) (λ l. Monotone l) (dueDecide (F .prefix) r)
 
-  -- 2: "Unit"
-  abbrev pub dueUnit : Rule
-  dueUnit = onUnit (lowestUnit (F .prefix) (trueIn r) (F .clauses)) (λ l c. Unit l c) dueMonotone
+-- 2: Unit [unit]
+abbrev pub dueUnit : Formula → Record → Rule
+dueUnit F r = onUnit (lowestUnit (F .prefix) (trueIn r) (F .clauses)) (λ l c. Unit l c) (dueMonotone F r)
 
-  -- 1: "Some clause in conflict: Backtrack-exists. Cut the record at its last kind 1 entry .. With no such entry: Fail"
-  abbrev pub dueConflict : ℕ → Rule
-  dueConflict c = onFound (last 1 0 r) (λ i. BacktrackExists i c) (Fail c)
+-- 1: with clause c in conflict, by the last entry of kind 1 [backtrack-exists] [fail]
+abbrev pub dueConflict : Record → ℕ → Rule
+dueConflict r c = onFound (last 1 0 r) (λ i. BacktrackExists i c) (Fail c)
 
-  unfoldable pub due : Rule
-  due = onFound (lowest (inConflict (F .prefix) (trueIn r)) 0 (F .clauses)) dueConflict dueUnit
+-- the first in the order whose condition holds [due]
+unfoldable pub due : Formula → Record → Rule
+due F r = onFound (lowest (inConflict (F .prefix) (trueIn r)) 0 (F .clauses)) (dueConflict r) (dueUnit F r)

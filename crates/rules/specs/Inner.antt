@@ -3,6 +3,7 @@
 -- tables by variable and by literal
 pub mod Tables
 pub mod ByLiteral
+pub mod Variables
 -- checked input, and the buffers
 pub mod Ready
 pub mod Buffers

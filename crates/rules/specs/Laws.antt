@@ -12,10 +12,9 @@ pub mod WhyDue
 pub mod Steps
 -- which places a rule writes
 pub mod Untouched
--- the tests of a clause over the tables
-pub mod Occurs
+-- the searches and the tests of a clause over the tables
+pub mod VariablesMean
 pub mod ClausesMean
 pub mod ClausesReady
 -- checked input
-pub mod Kept
 pub mod Accepted

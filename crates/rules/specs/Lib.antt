@@ -7,6 +7,8 @@ pub mod Due
 pub mod Preferred
 pub mod Apply
 pub mod Check
+-- what each function promises, and that it leaves one result
+pub mod Promises
 -- what functions say to each other
 pub mod Inner
 -- what is proved about the definitions, for use in proofs

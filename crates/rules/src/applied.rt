@@ -1,24 +1,24 @@
 // One rule applied to the lent buffers.
 ghost use mathlib.Core.Path.{_≡_};
-ghost use Prim.Native.Nat.{_<_};
-ghost use lib.ListN.{length};
+ghost use Rattle.formula.specs.Formula.{prefixOf};
 ghost use Rattle.rules.specs.Trail.{trail};
-ghost use Rattle.rules.specs.Search.{search, reached};
-ghost use Rattle.rules.specs.Inner.Ready.{Kept, Fitting};
-ghost use Rattle.rules.specs.declared.rule.State.the-variants.{Open};
-ghost use Rattle.rules.specs.declared.rule.Rule.the-variants.{Decide};
+ghost use Rattle.rules.specs.Apply.{kindOf, moveOf};
+ghost use Rattle.rules.specs.Promises.{ApplyPromise};
+ghost use Rattle.rules.specs.Inner.Ready.{Bound, OnBlock, Fitting};
 ghost use Rattle.rules.specs.Apply as spec;
+ghost use Rattle.rules.specs.Due as due;
 use crate::buffers::append;
 use crate::buffers::flip;
+use crate::rule::Move;
 use crate::rule::Reached;
 use crate::rule::Rule;
 use crate::rule::State;
-use crate::variables::kind_of;
+use crate::tables;
 use words::Literal;
 
 // The proposed literal, or for proposal 0 the first unassigned variable, true.
 fn chosen(proposal: Literal, first: Literal) -> Literal
-    ensures { λ r. ⌜ r .0 ≡ spec.chosen (proposal .0) (first .0) ⌝ }
+    ensures { λ r. ⌜ r ≡ due.literal (spec.chosen (proposal .0) (first .0)) ⌝ }
 {
     if words::size(proposal.0) == 0 {
         first
@@ -27,50 +27,66 @@ fn chosen(proposal: Literal, first: Literal) -> Literal
     }
 }
 
-// A decision: kind 1 or 2 by quantifier.
-fn decide(
-    prefix: &[i32],
-    lits: &mut [i32],
-    kinds: &mut [u8],
-    count: usize,
-    first: Literal,
-    proposal: Literal,
-) -> Reached
-    requires { ⌜ Kept (now prefix) (trail (now lits) (now kinds)) count ⌝ }
-    requires { ⌜ count < length (now prefix) ⌝ }
-    ensures { λ r. ⌜ reached r (trail (now (lits .exit)) (now (kinds .exit))) ≡ spec.apply (now (prefix .entry)) (Decide first) (proposal .0) (search (trail (now (lits .entry)) (now (kinds .entry))) count Open) ⌝ }
+// The kind of a decision on a literal: 2 if its variable is universal, else 1.
+fn kind_of(prefix: &[i32], literal: Literal) -> u8
+    requires { ⌜ Bound (now prefix) ⌝ }
+    ensures { λ r. ⌜ r ≡ kindOf (now (prefix .entry)) (literal .0) ⌝ }
 {
-    let literal = chosen(proposal, first);
-    let kind = kind_of(prefix, literal);
-    append(lits, kinds, count, kind, literal)
+    let quantifiers = tables::values_of(prefix, prefix.len());
+    let v = words::size(literal.0);
+    if formula::MAX_VARIABLES < v {
+        return 1;
+    }
+    if quantifiers[v] == 2 { 2 } else { 1 }
+}
+
+// What a rule does to the record, with the proposal that Decide is to take.
+fn move_of(prefix: &[i32], rule: Rule, proposal: Literal) -> Move
+    requires { ⌜ Bound (now prefix) ⌝ }
+    ensures { λ r. ⌜ r ≡ moveOf (now (prefix .entry)) rule (proposal .0) ⌝ }
+{
+    match rule {
+        Rule::BacktrackExists { at, clause: _ } => Move::Flip { at: at },
+        Rule::Fail { clause: _ } => Move::End(State::Unsat),
+        Rule::Unit { literal, clause: _ } => Move::Append {
+            kind: 0,
+            literal: literal,
+        },
+        Rule::Monotone { literal } => Move::Append {
+            kind: 0,
+            literal: literal,
+        },
+        Rule::Decide { first } => {
+            let literal = chosen(proposal, first);
+            Move::Append {
+                kind: kind_of(prefix, literal),
+                literal: literal,
+            }
+        }
+        Rule::BacktrackForall { at } => Move::Flip { at: at },
+        Rule::Succeed => Move::End(State::Valid),
+    }
 }
 
 // One rule, with the proposal that Decide is to take.
-pub(crate) fn apply(
-    prefix: &[i32],
+pub fn apply(
+    block: &[i32],
     lits: &mut [i32],
     kinds: &mut [u8],
     count: usize,
     rule: Rule,
     proposal: Literal,
 ) -> Reached
-    requires { ⌜ Kept (now prefix) (trail (now lits) (now kinds)) count ⌝ }
-    requires { ⌜ Fitting (now prefix) count rule ⌝ }
-    ensures { λ r. ⌜ reached r (trail (now (lits .exit)) (now (kinds .exit))) ≡ spec.apply (now (prefix .entry)) rule (proposal .0) (search (trail (now (lits .entry)) (now (kinds .entry))) count Open) ⌝ }
+    requires { ⌜ OnBlock (now block) (trail (now lits) (now kinds)) count ⌝ }
+    requires { ⌜ Fitting (prefixOf (now block)) count rule ⌝ }
+    ensures { λ r. ⌜ ApplyPromise (now (block .entry)) (trail (now (lits .entry)) (now (kinds .entry))) count rule proposal r (trail (now (lits .exit)) (now (kinds .exit))) ⌝ }
 {
-    match rule {
-        Rule::BacktrackExists { at, clause: _ } => flip(lits, kinds, count, at),
-        Rule::Fail { clause: _ } => Reached {
+    match move_of(formula::prefix(block), rule, proposal) {
+        Move::Append { kind, literal } => append(lits, kinds, count, kind, literal),
+        Move::Flip { at } => flip(lits, kinds, count, at),
+        Move::End(state) => Reached {
             count: count,
-            state: State::Unsat,
-        },
-        Rule::Unit { literal, clause: _ } => append(lits, kinds, count, 0, literal),
-        Rule::Monotone { literal } => append(lits, kinds, count, 0, literal),
-        Rule::Decide { first } => decide(prefix, lits, kinds, count, first, proposal),
-        Rule::BacktrackForall { at } => flip(lits, kinds, count, at),
-        Rule::Succeed => Reached {
-            count: count,
-            state: State::Valid,
+            state: state,
         },
     }
 }

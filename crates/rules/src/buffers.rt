@@ -6,6 +6,7 @@ ghost use lib.ListN.{length};
 ghost use Rattle.rules.specs.Search.{search, reached};
 ghost use Rattle.rules.specs.Inner.Ready.{Room};
 ghost use Rattle.rules.specs.Trail.{trail, wiped, wipedTrail};
+ghost use Rattle.rules.specs.Promises.{ClearPromise};
 ghost use Rattle.rules.specs.Inner.Buffers.{Cuttable, lastKind};
 ghost use Rattle.rules.specs.declared.rule.State.the-variants.{Open};
 ghost use Rattle.rules.specs.Apply as spec;
@@ -65,7 +66,7 @@ fn wipe(lits: &mut [i32], kinds: &mut [u8], from: usize, to: usize)
 
 // Sets the first n places of both buffers to 0.
 pub fn clear(lits: &mut [i32], kinds: &mut [u8], n: usize)
-    ensures { λ r. ⌜ trail (now (lits .exit)) (now (kinds .exit)) ≡ wipedTrail (trail (now (lits .entry)) (now (kinds .entry))) 0 n ⌝ }
+    ensures { λ r. ⌜ ClearPromise (trail (now (lits .entry)) (now (kinds .entry))) n (trail (now (lits .exit)) (now (kinds .exit))) ⌝ }
 {
     wipe(lits, kinds, 0, n)
 }

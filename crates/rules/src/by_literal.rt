@@ -1,35 +1,17 @@
 // Tables by literal, each filled by one pass. What a literal is to its clause is one read, at a place that the word itself gives.
 ghost use mathlib.Core.Path.{_≡_};
-ghost use mathlib.Core.List.{List};
 ghost use Prim.Native.Nat.{_≤_};
-ghost use lib.IntN.{ℤ};
 ghost use Rattle.formula.specs.Limits.{limits};
-ghost use Rattle.rules.specs.Inner.Tables.{Known, signsOf};
-ghost use Rattle.rules.specs.Inner.ByLiteral.{Occurring, statusOf, Statuses};
+ghost use Rattle.rules.specs.Inner.Variables.{signsIn};
+ghost use Rattle.rules.specs.Inner.ByLiteral.{statusOf, Statuses};
 use crate::tables::PLACES;
 pub(crate) use formula::LITERAL_PLACES;
 use formula::MIDDLE;
-use formula::place_at;
-
-// 1 for each literal that is one of the words, else 0.
-pub(crate) fn occurring(ws: &[i32]) -> [u8; LITERAL_PLACES]
-    requires { ⌜ Known (now ws) ⌝ }
-    ensures { λ r. ⌜ Occurring (now (ws .entry)) r ⌝ }
-{
-    let mut occurs = [0u8; LITERAL_PLACES];
-    let mut i = 0;
-    while i < ws.len() {
-        let at = place_at(ws, i);
-        occurs[at] = 1;
-        i += 1;
-    }
-    occurs
-}
 
 // The signs with which a variable occurs: 0 none, 1 positive, 2 negative, 3 both.
 pub(crate) fn signs_at(occurs: &[u8; LITERAL_PLACES], v: usize) -> u8
     requires { ⌜ v ≤ limits .variables ⌝ }
-    ensures { λ r. ⌜ ((ws : List ℤ) → Occurring ws (now (occurs .entry)) → r ≡ signsOf ws v) ⌝ }
+    ensures { λ r. ⌜ r ≡ signsIn (now (occurs .entry)) v ⌝ }
 {
     let plus = occurs[MIDDLE + v];
     let minus = occurs[MIDDLE - v];
@@ -39,16 +21,16 @@ pub(crate) fn signs_at(occurs: &[u8; LITERAL_PLACES], v: usize) -> u8
     if plus == 0 { 2 } else { 3 }
 }
 
-// What a literal is to its clause, by its variable's value, whether that is universal, and the literal's sign: 0 false, 1 true,
+// What a literal is to its clause, by its variable's value and quantifier and the literal's sign: 0 false, 1 true,
 // 2 unassigned existential, 3 unassigned universal.
-fn status_of(value: u8, universal: u8, sign: u8) -> u8
-    ensures { λ r. ⌜ r ≡ statusOf value universal sign ⌝ }
+fn status_of(value: u8, quantifier: u8, sign: u8) -> u8
+    ensures { λ r. ⌜ r ≡ statusOf value quantifier sign ⌝ }
 {
     if value == 0 {
-        if universal == 0 {
-            return 2;
+        if quantifier == 2 {
+            return 3;
         }
-        return 3;
+        return 2;
     }
     if value == sign { 1 } else { 0 }
 }
@@ -57,18 +39,18 @@ fn status_of(value: u8, universal: u8, sign: u8) -> u8
 pub(crate) fn statuses_of(
     n: usize,
     values: &[u8; PLACES],
-    universals: &[u8; PLACES],
+    quantifiers: &[u8; PLACES],
 ) -> [u8; LITERAL_PLACES]
     requires { ⌜ n ≤ limits .variables ⌝ }
-    ensures { λ r. ⌜ Statuses n (now (values .entry)) (now (universals .entry)) r ⌝ }
+    ensures { λ r. ⌜ Statuses n (now (values .entry)) (now (quantifiers .entry)) r ⌝ }
 {
     let mut statuses = [0u8; LITERAL_PLACES];
     let mut v = 1;
     while v <= n {
         let value = values[v];
-        let universal = universals[v];
-        statuses[MIDDLE + v] = status_of(value, universal, 1);
-        statuses[MIDDLE - v] = status_of(value, universal, 2);
+        let quantifier = quantifiers[v];
+        statuses[MIDDLE + v] = status_of(value, quantifier, 1);
+        statuses[MIDDLE - v] = status_of(value, quantifier, 2);
         v += 1;
     }
     statuses

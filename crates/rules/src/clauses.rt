@@ -18,7 +18,7 @@ ghost use Rattle.rules.specs.Inner.ByLiteral.{statusIn};
 ghost use Rattle.rules.specs.Inner.Clauses.{Placed, Clauses, levelBy, conflictBy, Shown, decidedBy, lowestUnitBy};
 
 // What the literal at an index is to its clause: 0 false, 1 true, 2 unassigned existential, 3 unassigned universal.
-fn status_at(ws: &[i32], i: usize, statuses: &[u8; LITERAL_PLACES]) -> u8
+pub(crate) fn status_at(ws: &[i32], i: usize, statuses: &[u8; LITERAL_PLACES]) -> u8
     requires { ⌜ natAbs (getD (now ws) i (pos 0)) ≤ limits .variables ⌝ }
     ensures { λ r. ⌜ r ≡ statusIn (now (statuses .entry)) (getD (now (ws .entry)) i (pos 0)) ⌝ }
 {
@@ -136,7 +136,7 @@ impl Look {
     }
 }
 
-// The lowest unit clause and its literal. The search stops at the first clause that decides it.
+// The lowest unit clause and its literal.
 pub(crate) fn lowest_unit(
     ends: &[i32],
     literals: &[i32],
@@ -149,6 +149,7 @@ pub(crate) fn lowest_unit(
     let mut found = UnitFound::NoUnit;
     let mut from = 0;
     let mut c = 0;
+    // [unit.search] Upwards, and no further than the clause that is found.
     'search: while c < ends.len() {
         let end = words::size_at(ends, c);
         let mut look = Look {

@@ -4,19 +4,20 @@ mod found; // what a search finds
 mod tables; // tables by variable
 mod by_literal; // tables by literal
 mod variables; // the variables of the prefix
+mod open; // the open literals
 mod clauses; // the clauses in conflict and the unit clauses
+mod occurrences; // the literals of the clauses with no true literal
 mod buffers; // the record's two buffers
 mod record; // row 12
 mod ordered; // the due rule
 mod applied; // one rule applied
-mod doors; // the same with the block
 
+pub use applied::apply;
 pub use buffers::clear;
-pub use doors::apply;
-pub use doors::bad_record;
-pub use doors::due;
-pub use doors::first_open;
-pub use doors::is_open;
+pub use open::first_open;
+pub use open::is_open;
+pub use ordered::due;
+pub use record::bad_record;
 pub use rule::Reached;
 pub use rule::Rule;
 pub use rule::State;

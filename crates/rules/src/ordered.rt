@@ -6,6 +6,7 @@ use crate::clauses;
 use crate::found::Found;
 use crate::found::Picked;
 use crate::found::UnitFound;
+use crate::occurrences;
 use crate::rule::Rule;
 use crate::tables;
 use crate::tables::PLACES;
@@ -13,32 +14,25 @@ use crate::variables;
 ghost use mathlib.Core.Path.{_≡_};
 ghost use mathlib.Core.List.{List};
 ghost use Prim.Native.Nat.{ℕ, _≤_};
-ghost use lib.IntN.{ℤ};
 ghost use lib.ListN.{length};
-ghost use Rattle.formula.specs.Formula.{Formula};
 ghost use Rattle.theory.specs.Record.{Record, trueIn};
 ghost use Rattle.rules.specs.Due.{dueConflict, dueUnit, dueMonotone, dueDecide};
-ghost use Rattle.rules.specs.Trail.{trail, recordOf};
-ghost use Rattle.rules.specs.Inner.Ready.{formula, Bound, Ready, Kept};
+ghost use Rattle.rules.specs.Trail.{trail};
+ghost use Rattle.rules.specs.Promises.{DuePromise};
+ghost use Rattle.rules.specs.Inner.Ready.{formula, Bound, Ready, OnBlock};
 ghost use Rattle.rules.specs.Inner.Tabled.{Sorts, Tabled};
-ghost use Rattle.rules.specs.Due as spec;
 
 // The due rule of a record.
-pub(crate) fn due(
-    prefix: &[i32],
-    ends: &[i32],
-    literals: &[i32],
-    lits: &[i32],
-    kinds: &[u8],
-    count: usize,
-) -> Rule
-    requires { ⌜ Ready (now prefix) (now ends) (now literals) ⌝ }
-    requires { ⌜ Kept (now prefix) (trail (now lits) (now kinds)) count ⌝ }
-    ensures { λ r. ⌜ r ≡ spec.due (formula (now (prefix .entry)) (now (ends .entry)) (now (literals .entry))) (recordOf (trail (now (lits .entry)) (now (kinds .entry))) count) ⌝ }
+pub fn due(block: &[i32], lits: &[i32], kinds: &[u8], count: usize) -> Rule
+    requires { ⌜ OnBlock (now block) (trail (now lits) (now kinds)) count ⌝ }
+    ensures { λ r. ⌜ DuePromise (now (block .entry)) (trail (now (lits .entry)) (now (kinds .entry))) count r ⌝ }
 {
+    let prefix = formula::prefix(block);
+    let ends = formula::ends(block);
+    let literals = formula::literals(block);
     let values = tables::values_of(lits, count);
-    let universals = tables::universals_of(prefix);
-    let statuses = by_literal::statuses_of(prefix.len(), &values, &universals);
+    let quantifiers = tables::values_of(prefix, prefix.len());
+    let statuses = by_literal::statuses_of(prefix.len(), &values, &quantifiers);
     match clauses::lowest_conflict(ends, literals, &statuses) {
         Found::At(clause) => due_conflict(kinds, count, clause),
         Found::Nothing => due_unit(prefix, ends, literals, kinds, count, &values, &statuses),
@@ -48,7 +42,7 @@ pub(crate) fn due(
 // In conflict: Backtrack-exists, or Fail.
 fn due_conflict(kinds: &[u8], count: usize, clause: usize) -> Rule
     requires { ⌜ count ≤ length (now kinds) ⌝ }
-    ensures { λ r. ⌜ ((F : Formula) (R : Record) (table : List ℕ) → Tabled R table (now (kinds .entry)) count → r ≡ dueConflict F R clause) ⌝ }
+    ensures { λ r. ⌜ ((R : Record) (table : List ℕ) → Tabled R table (now (kinds .entry)) count → r ≡ dueConflict R clause) ⌝ }
 {
     match buffers::last_kind(kinds, count, 1) {
         Found::At(at) => Rule::BacktrackExists {
@@ -79,7 +73,7 @@ fn due_unit(
             literal: literal,
             clause: clause,
         },
-        UnitFound::NoUnit => due_monotone(prefix, ends, literals, kinds, count, values),
+        UnitFound::NoUnit => due_monotone(prefix, ends, literals, kinds, count, values, statuses),
     }
 }
 
@@ -91,12 +85,13 @@ fn due_monotone(
     kinds: &[u8],
     count: usize,
     values: &[u8; PLACES],
+    statuses: &[u8; LITERAL_PLACES],
 ) -> Rule
     requires { ⌜ Ready (now prefix) (now ends) (now literals) ⌝ }
     requires { ⌜ count ≤ length (now kinds) ⌝ }
-    ensures { λ r. ⌜ ((R : Record) → Tabled R (now (values .entry)) (now (kinds .entry)) count → r ≡ dueMonotone (formula (now (prefix .entry)) (now (ends .entry)) (now (literals .entry))) R) ⌝ }
+    ensures { λ r. ⌜ ((R : Record) → Tabled R (now (values .entry)) (now (kinds .entry)) count → Sorts (now (prefix .entry)) (trueIn R) (now (statuses .entry)) → r ≡ dueMonotone (formula (now (prefix .entry)) (now (ends .entry)) (now (literals .entry))) R) ⌝ }
 {
-    let occurs = by_literal::occurring(literals);
+    let occurs = occurrences::occurring(ends, literals, statuses);
     match variables::first_monotone(prefix, values, &occurs) {
         Picked::Is(literal) => Rule::Monotone { literal: literal },
         Picked::NoLiteral => due_decide(prefix, kinds, count, values),
@@ -107,7 +102,7 @@ fn due_monotone(
 fn due_decide(prefix: &[i32], kinds: &[u8], count: usize, values: &[u8; PLACES]) -> Rule
     requires { ⌜ Bound (now prefix) ⌝ }
     requires { ⌜ count ≤ length (now kinds) ⌝ }
-    ensures { λ r. ⌜ ((m : List (List ℤ)) (R : Record) → Tabled R (now (values .entry)) (now (kinds .entry)) count → r ≡ dueDecide (record { prefix = now (prefix .entry); clauses = m }) R) ⌝ }
+    ensures { λ r. ⌜ ((R : Record) → Tabled R (now (values .entry)) (now (kinds .entry)) count → r ≡ dueDecide (now (prefix .entry)) R) ⌝ }
 {
     match variables::first_unassigned(prefix, values) {
         Picked::Is(first) => Rule::Decide { first: first },

@@ -2,20 +2,21 @@
 ghost use mathlib.Core.Path.{_≡_};
 ghost use Rattle.words.specs.Lists.{any};
 ghost use Rattle.rules.specs.Trail.{trail, recordOf};
-ghost use Rattle.rules.specs.Check.{badKind, badRecord};
-ghost use Rattle.rules.specs.Inner.Buffers.{Lent, KindsLent, wrongKind};
-use crate::by_literal::occurring;
-use crate::by_literal::signs_at;
+ghost use Rattle.rules.specs.Check.{badKind};
+ghost use Rattle.rules.specs.Promises.{BadRecordPromise};
+ghost use Rattle.rules.specs.Inner.Ready.{OnBuffers};
+ghost use Rattle.rules.specs.Inner.Buffers.{KindsLent, wrongKind};
+use crate::tables::values_of;
 
-// Whether a kind is above 2, or 1 on a universal or 2 on an existential variable: the sign of its word in the prefix tells which.
-fn wrong_kind(kind: u8, sign: u8) -> bool
-    ensures { λ r. ⌜ r ≡ wrongKind kind sign ⌝ }
+// Whether a kind is above 2, or 1 on a universal or 2 on an existential variable.
+fn wrong_kind(kind: u8, quantifier: u8) -> bool
+    ensures { λ r. ⌜ r ≡ wrongKind kind quantifier ⌝ }
 {
     if kind == 1 {
-        return sign == 2;
+        return quantifier == 2;
     }
     if kind == 2 {
-        return sign == 1;
+        return quantifier != 2;
     }
     2 < kind
 }
@@ -25,12 +26,11 @@ fn bad_kinds(prefix: &[i32], lits: &[i32], kinds: &[u8], count: usize) -> bool
     requires { ⌜ KindsLent (now prefix) (trail (now lits) (now kinds)) count ⌝ }
     ensures { λ r. ⌜ r ≡ any (badKind (now (prefix .entry))) (recordOf (trail (now (lits .entry)) (now (kinds .entry))) count) ⌝ }
 {
-    let occurs = occurring(prefix);
+    let quantifiers = values_of(prefix, prefix.len());
     let mut i = 0;
     while i < count {
         let v = words::size_at(lits, i);
-        let signs = signs_at(&occurs, v);
-        if wrong_kind(kinds[i], signs) {
+        if wrong_kind(kinds[i], quantifiers[v]) {
             return true;
         }
         i += 1;
@@ -39,10 +39,11 @@ fn bad_kinds(prefix: &[i32], lits: &[i32], kinds: &[u8], count: usize) -> bool
 }
 
 // Whether the record is turned away.
-pub(crate) fn bad_record(prefix: &[i32], lits: &[i32], kinds: &[u8], count: usize) -> bool
-    requires { ⌜ Lent (now prefix) (trail (now lits) (now kinds)) ⌝ }
-    ensures { λ r. ⌜ r ≡ badRecord (now (prefix .entry)) (trail (now (lits .entry)) (now (kinds .entry))) count ⌝ }
+pub fn bad_record(block: &[i32], lits: &[i32], kinds: &[u8], count: usize) -> bool
+    requires { ⌜ OnBuffers (now block) (trail (now lits) (now kinds)) ⌝ }
+    ensures { λ r. ⌜ BadRecordPromise (now (block .entry)) (trail (now (lits .entry)) (now (kinds .entry))) count r ⌝ }
 {
+    let prefix = formula::prefix(block);
     let n = prefix.len();
     if n < count {
         return true;

@@ -6,13 +6,13 @@ ghost use lib.ListN.{length, getD, take, drop};
 ghost use Rattle.formula.specs.Formula.{change};
 ghost use Rattle.theory.specs.Record.{among};
 ghost use Rattle.rules.specs.Inner.Ready.{Bound};
-ghost use Rattle.rules.specs.Inner.Tables.{signOf, Values, Universals, Levels, Written};
+ghost use Rattle.rules.specs.Inner.Tables.{signOf, Values, Levels, Written};
 
 // A place for each variable, and place 0, which is no variable's.
 pub(crate) const PLACES: usize = formula::MAX_VARIABLES + 1;
 
 // More than any level: with n variables there are at most n levels.
-pub(crate) const NO_LEVEL: u16 = 257;
+pub(crate) const NO_LEVEL: u16 = (formula::MAX_VARIABLES + 1) as u16;
 
 // 1 for a positive word, 2 for a negative one.
 pub(crate) fn sign_at(ws: &[i32], i: usize) -> u8
@@ -21,7 +21,7 @@ pub(crate) fn sign_at(ws: &[i32], i: usize) -> u8
     if words::negative_at(ws, i) { 2 } else { 1 }
 }
 
-// The value of each variable: 0 unassigned, 1 true, 2 false.
+// The value of each variable: 0 unassigned, 1 true, 2 false. Of the prefix's words it is the quantifier: 1 existential, 2 universal.
 pub(crate) fn values_of(lits: &[i32], count: usize) -> [u8; PLACES]
     requires { ⌜ Written (now lits) count ⌝ }
     ensures { λ r. ⌜ Values (among (take count (now (lits .entry)))) r ⌝ }
@@ -34,23 +34,6 @@ pub(crate) fn values_of(lits: &[i32], count: usize) -> [u8; PLACES]
         i += 1;
     }
     values
-}
-
-// 1 for each universal variable, else 0.
-pub(crate) fn universals_of(prefix: &[i32]) -> [u8; PLACES]
-    requires { ⌜ Bound (now prefix) ⌝ }
-    ensures { λ r. ⌜ Universals (now (prefix .entry)) r ⌝ }
-{
-    let mut universals = [0u8; PLACES];
-    let mut i = 0;
-    while i < prefix.len() {
-        let v = words::size_at(prefix, i);
-        if words::negative_at(prefix, i) {
-            universals[v] = 1;
-        }
-        i += 1;
-    }
-    universals
 }
 
 // 1 if the quantifier changes from the word at i to the next.

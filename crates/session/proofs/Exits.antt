@@ -1,6 +1,6 @@
 -- The ways out of opening, a step and a run: one law for each, from the facts on that path.
 use Prim.Native.Nat.{ℕ, _+_, _-_, _≤_, _<_}
-use mathlib.Core.Path.{_≡_, refl, sym, _∙_}
+use mathlib.Core.Path.{_≡_, sym, _∙_}
 use mathlib.Core.List.{List}
 use native.Mathlib.Omega.{arith}
 use lib.IntN.{ℤ}
@@ -8,7 +8,7 @@ use lib.ListN.{take}
 use borrow.Author.Tests.{eq-eqb, ne-eqb, lt-ltb, le-ltb}
 use Rattle.words.specs.Outcomes.{outcome, unless-number}
 use Rattle.words.specs.Rows.{refusalOf}
-use Rattle.words.specs.Laws.Rows.{stops, goes-on}
+use Rattle.words.specs.Laws.Rows.{stops}
 use Rattle.words.specs.declared.Literal.{Literal}
 use Rattle.formula.specs.Formula.{variablesOf, prefixOf, formulaOf}
 use Rattle.theory.specs.Record.{among}
@@ -19,7 +19,7 @@ use Rattle.rules.specs.Due.{due}
 use Rattle.rules.specs.Search.{Search, search, reached}
 use Rattle.rules.specs.Trail.{recordOf, Trail, wipedTrail}
 use Rattle.rules.specs.Apply.{apply}
-use Rattle.rules.specs.Laws.Kept.{kept-true}
+use Rattle.rules.specs.Laws.Accepted.{kept-true}
 use Rattle.rules.specs.Inner.Ready.{OnBlock}
 use Rattle.session.specs.declared.Revision.{Revision}
 use Rattle.session.specs.declared.Session.{Session}
@@ -29,15 +29,15 @@ use Rattle.session.specs.Memory.{Memory}
 use Rattle.session.specs.Refusals.{lastRevision, openRefusal, sessionRows, ofStep, stepRefusal, ofRun, runRefusal}
 use Rattle.session.specs.Outcome.{session, openOutcome, stepOutcome}
 use Rattle.session.specs.Run.{trip, runFrom, runOf}
-use Rattle.session.specs.Laws.Trips.{travelled}
+use Rattle.session.specs.Laws.Accepted.{guarded, step-from-15, run-from-15}
+use Rattle.session.specs.Laws.Runs.{travelled}
 use Rattle.session.specs.Inner.Guards.{sessionRefusal, proposalRefusal}
-use Rattle.session.proofs.Lent.{passed}
 
 -- ---- opening
 module _ (b : List ℤ) (m : Memory) (rev : Revision) {r : ℕ} (e : r ≡ openRefusal b m) where
-  pub open-refused : (r ≡ 0 → ⊥) → outcome (Refused r) m ≡ openOutcome b m rev
+  pub open-stops : (r ≡ 0 → ⊥) → outcome (Refused r) m ≡ openOutcome b m rev
   unfolding openOutcome
-  open-refused f = rw (← e) (unless-number Refused r m _ f)
+  open-stops f = rw (← e) (unless-number Refused r m _ f)
 
   pub open-clears : r ≡ 0 → {n : ℕ} → n ≡ variablesOf b → {t′ : Trail} → t′ ≡ wipedTrail (m .trail) 0 n → outcome (To (session 0 (rev .0) Open)) (record { trail = t′ }) ≡ openOutcome b m rev
   unfolding openOutcome
@@ -45,18 +45,17 @@ module _ (b : List ℤ) (m : Memory) (rev : Revision) {r : ℕ} (e : r ≡ openR
 
 -- ---- a step
 module _ (s : Session) (b : List ℤ) (m : Memory) (seen : Revision) (l : Literal) {r : ℕ} (e : r ≡ sessionRefusal s b m seen) where
-  pub step-refused : (r ≡ 0 → ⊥) → outcome (Refused r) m ≡ stepOutcome s b m seen l
+  pub step-stops : (r ≡ 0 → ⊥) → outcome (Refused r) m ≡ stepOutcome s b m seen l
   unfolding stepOutcome stepRefusal sessionRefusal
-  step-refused f = rw (← stops (sessionRows s b m seen) (ofStep s b m seen l) e f) (unless-number Refused r m _ f)
+  step-stops f = rw (← stops (sessionRows s b m seen) (ofStep s b m seen l) e f) (unless-number Refused r m _ f)
 
   module _ (z : r ≡ 0) where
-    step-from-15 : stepRefusal s b m seen l ≡ refusalOf (ofStep s b m seen l)
-    unfolding stepRefusal sessionRefusal
-    step-from-15 = goes-on (sessionRows s b m seen) (ofStep s b m seen l) refl (sym e ∙ z)
+    from-15 : stepRefusal s b m seen l ≡ refusalOf (ofStep s b m seen l)
+    from-15 = step-from-15 s b m seen l (sym e ∙ z)
 
     pub step-last : s .revision .0 ≡ lastRevision → outcome (Refused 15) m ≡ stepOutcome s b m seen l
     unfolding stepOutcome
-    step-last h = rw (step-from-15, eq-eqb (s .revision .0) lastRevision h)
+    step-last h = rw (from-15, eq-eqb (s .revision .0) lastRevision h)
 
     module _
         (below : s .revision .0 ≡ lastRevision → ⊥)
@@ -66,8 +65,8 @@ module _ (s : Session) (b : List ℤ) (m : Memory) (seen : Revision) (l : Litera
         step-from-16 : stepRefusal s b m seen l ≡ q
         unfolding proposalRefusal formulaOf
         step-from-16 =
-            let g = passed s b m seen e z in
-            rw (step-from-15, ne-eqb (s .revision .0) lastRevision below, kept-true (prefixOf b) (m .trail) (s .length) (g .kept), ← is, proper)
+            let g = guarded s b m seen (sym e ∙ z) in
+            rw (from-15, ne-eqb (s .revision .0) lastRevision below, kept-true (prefixOf b) (m .trail) (s .length) (g .on .kept), ← is, proper)
 
         pub step-improper : (q ≡ 0 → ⊥) → outcome (Refused q) m ≡ stepOutcome s b m seen l
         unfolding stepOutcome
@@ -79,32 +78,28 @@ module _ (s : Session) (b : List ℤ) (m : Memory) (seen : Revision) (l : Litera
             → outcome (To s′) (record { trail = t′ }) ≡ stepOutcome s b m seen l
         unfolding stepOutcome
         step-moves y t t′ a is′ =
-            let g = passed s b m seen e z in
+            let g = guarded s b m seen (sym e ∙ z) in
             rw (step-from-16, y, g .live, ← is, ← a, is′)
 
 -- ---- a run
 module _ (s : Session) (b : List ℤ) (m : Memory) (seen : Revision) (budget : ℕ) (preferred : List ℤ) {r : ℕ} (e : r ≡ sessionRefusal s b m seen) where
-  pub run-refused : (r ≡ 0 → ⊥) → outcome (Stopped r) m ≡ runOf s b m seen budget preferred
+  pub run-stops : (r ≡ 0 → ⊥) → outcome (Stopped r) m ≡ runOf s b m seen budget preferred
   unfolding runOf runRefusal sessionRefusal
-  run-refused f = rw (← stops (sessionRows s b m seen) (ofRun s b m seen budget) e f) (unless-number Stopped r m _ f)
+  run-stops f = rw (← stops (sessionRows s b m seen) (ofRun s b m seen budget) e f) (unless-number Stopped r m _ f)
 
-  module _ (z : r ≡ 0) {w : ℕ} (is : w ≡ budget) where
-    run-from-15 : runRefusal s b m seen budget ≡ refusalOf (ofRun s b m seen budget)
-    unfolding runRefusal sessionRefusal
-    run-from-15 = goes-on (sessionRows s b m seen) (ofRun s b m seen budget) refl (sym e ∙ z)
-
-    pub run-over : lastRevision - s .revision .0 < w → outcome (Stopped 15) m ≡ runOf s b m seen budget preferred
+  module _ (z : r ≡ 0) where
+    pub run-over : lastRevision - s .revision .0 < budget → outcome (Stopped 15) m ≡ runOf s b m seen budget preferred
     unfolding runOf
-    run-over h = rw (run-from-15, lt-ltb lastRevision (s .revision .0 + budget) (omega arith))
+    run-over h = rw (run-from-15 s b m seen budget (sym e ∙ z), lt-ltb lastRevision (s .revision .0 + budget) (omega arith))
 
-    pub run-moves : s .revision .0 ≤ lastRevision → w ≤ lastRevision - s .revision .0
+    pub run-moves : s .revision .0 ≤ lastRevision → budget ≤ lastRevision - s .revision .0
         → (t : Reached) (steps : ℕ) (t′ : Trail) → trip (reached t t′) steps ≡ runFrom (formulaOf b) preferred budget (search (m .trail) (s .length) Open) 0
-        → {v : ℕ} → v ≡ steps → {s′ : Session} → s′ ≡ session (t .count) (s .revision .0 + v) (t .state)
+        → {s′ : Session} → s′ ≡ session (t .count) (s .revision .0 + steps) (t .state)
         → outcome (Until s′ steps) (record { trail = t′ }) ≡ runOf s b m seen budget preferred
     unfolding runOf
-    run-moves low h t steps t′ a q d =
-        let g = passed s b m seen e z in
-        rw (run-from-15, le-ltb lastRevision (s .revision .0 + budget) (omega arith), g .live, ← a, d, q)
+    run-moves low h t steps t′ a d =
+        let g = guarded s b m seen (sym e ∙ z) in
+        rw (run-from-15 s b m seen budget (sym e ∙ z), le-ltb lastRevision (s .revision .0 + budget) (omega arith), g .live, ← a, d)
 
 -- a run's steps are at most its budget
 pub steps-within : {b : List ℤ} {t : Trail} {n : ℕ} → OnBlock b t n → (budget : ℕ) (preferred : List ℤ) {u : Search} {steps : ℕ}

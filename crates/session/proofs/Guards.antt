@@ -1,13 +1,13 @@
 -- Which row turns a call away, one law for each way out of the guard: the rows passed so far do not hold, the next one does.
 use Prim.Native.Nat.{ℕ, zero, suc}
-use mathlib.Core.Path.{_≡_, refl, sym, _∙_}
+use mathlib.Core.Path.{_≡_, sym, _∙_}
 use mathlib.Core.Bool.{Bool, true, false, not}
 use mathlib.Core.List.{List}
 use native.Mathlib.Omega.{arith}
 use lib.IntN.{ℤ, natAbs}
 use borrow.Author.Tests.{eq-eqb, ne-eqb}
 use Rattle.words.specs.Rows.{refusalOf}
-use Rattle.words.specs.Laws.Rows.{stops, goes-on}
+use Rattle.words.specs.Laws.Rows.{stops}
 use Rattle.words.specs.declared.Literal.{Literal}
 use Rattle.formula.specs.declared.Checked.{Checked}
 use Rattle.formula.specs.declared.Checked.the-variants.{Accepted, Refused}
@@ -25,6 +25,7 @@ use Rattle.session.specs.declared.Revision.{Revision}
 use Rattle.session.specs.declared.Session.{Session}
 use Rattle.session.specs.Memory.{Memory}
 use Rattle.session.specs.Refusals.{short, over, ofBuffers, openRows, openRefusal, ofSession}
+use Rattle.session.specs.Laws.Accepted.{from-11, from-12}
 use Rattle.session.specs.Inner.Guards.{sessionRefusal, proposalRefusal}
 
 -- ---- rows 1 to 11
@@ -39,15 +40,14 @@ module _ (b : List ℤ) (m : Memory) {r : Checked} (e : r ≡ checkedOf (refusal
   block-refused k h = stops (rows limits b) (ofBuffers b m) (sym (checked-refused (refusal limits b) k (sym e ∙ h))) (refused-some (refusal limits b) k (sym e ∙ h))
 
   module _ (h : r ≡ Accepted) {t : Bool} (tested : t ≡ short b m) where
-    from-11 : openRefusal b m ≡ refusalOf (ofBuffers b m)
-    unfolding openRefusal refusal
-    from-11 = goes-on (rows limits b) (ofBuffers b m) refl (checked-accepted (refusal limits b) (sym e ∙ h))
+    block-passed : openRefusal b m ≡ refusalOf (ofBuffers b m)
+    block-passed = from-11 b m (checked-accepted (refusal limits b) (sym e ∙ h))
 
     pub buffers-short : t ≡ true → 11 ≡ openRefusal b m
-    buffers-short x = rw (from-11, ← tested, x)
+    buffers-short x = rw (block-passed, ← tested, x)
 
     pub buffers-pass : t ≡ false → 0 ≡ openRefusal b m
-    buffers-pass x = rw (from-11, ← tested, x)
+    buffers-pass x = rw (block-passed, ← tested, x)
 
 -- ---- rows 1 to 14
 module _ (s : Session) (b : List ℤ) (m : Memory) (seen : Revision) {r : ℕ} (e : r ≡ openRefusal b m) where
@@ -56,24 +56,23 @@ module _ (s : Session) (b : List ℤ) (m : Memory) (seen : Revision) {r : ℕ} (
   session-buffers f = stops (openRows b m) (ofSession s b m seen) e f
 
   module _ (z : r ≡ 0) where
-    from-12 : sessionRefusal s b m seen ≡ refusalOf (ofSession s b m seen)
-    unfolding openRefusal sessionRefusal
-    from-12 = goes-on (openRows b m) (ofSession s b m seen) refl (sym e ∙ z)
+    buffers-passed : sessionRefusal s b m seen ≡ refusalOf (ofSession s b m seen)
+    buffers-passed = from-12 s b m seen (sym e ∙ z)
 
     module _ {t : Bool} (bad : t ≡ badRecord (prefixOf b) (m .trail) (s .length)) where
       pub session-record : t ≡ true → 12 ≡ sessionRefusal s b m seen
-      session-record x = rw (from-12, ← bad, x)
+      session-record x = rw (buffers-passed, ← bad, x)
 
       module _ (x : t ≡ false) {u : Bool} (ended : u ≡ over (s .state)) where
         pub session-over : u ≡ true → 13 ≡ sessionRefusal s b m seen
-        session-over y = rw (from-12, ← bad, x, ← ended, y)
+        session-over y = rw (buffers-passed, ← bad, x, ← ended, y)
 
         module _ (y : u ≡ false) where
           pub session-stale : (seen .0 ≡ s .revision .0 → ⊥) → 14 ≡ sessionRefusal s b m seen
-          session-stale f = rw (from-12, ← bad, x, ← ended, y, ne-eqb (seen .0) (s .revision .0) f)
+          session-stale f = rw (buffers-passed, ← bad, x, ← ended, y, ne-eqb (seen .0) (s .revision .0) f)
 
           pub session-passes : seen .0 ≡ s .revision .0 → 0 ≡ sessionRefusal s b m seen
-          session-passes q = rw (from-12, ← bad, x, ← ended, y, eq-eqb (seen .0) (s .revision .0) q)
+          session-passes q = rw (buffers-passed, ← bad, x, ← ended, y, eq-eqb (seen .0) (s .revision .0) q)
 
 -- ---- rows 16 and 17
 module _ (p : List ℤ) (ρ : Assignment) (rule : Rule) (l : Literal) {n : ℕ} (sized : n ≡ natAbs (l .0)) where
@@ -86,11 +85,11 @@ module _ (p : List ℤ) (ρ : Assignment) (rule : Rule) (l : Literal) {n : ℕ} 
     unfolding proposalRefusal
     proposal-undue x = rw (← sized, ne-eqb n 0 some, ← decided, x)
 
-    module _ (x : not d ≡ false) {o : Bool} (opened : o ≡ isOpen p ρ (l .0)) where
+    module _ (x : not d ≡ false) {o : Bool} (free : o ≡ isOpen p ρ (l .0)) where
       pub proposal-closed : not o ≡ true → 17 ≡ proposalRefusal p ρ rule l
       unfolding proposalRefusal
-      proposal-closed y = rw (← sized, ne-eqb n 0 some, ← decided, x, ← opened, y)
+      proposal-closed y = rw (← sized, ne-eqb n 0 some, ← decided, x, ← free, y)
 
       pub proposal-passes : not o ≡ false → 0 ≡ proposalRefusal p ρ rule l
       unfolding proposalRefusal
-      proposal-passes y = rw (← sized, ne-eqb n 0 some, ← decided, x, ← opened, y)
+      proposal-passes y = rw (← sized, ne-eqb n 0 some, ← decided, x, ← free, y)

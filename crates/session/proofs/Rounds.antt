@@ -7,7 +7,6 @@ use native.Mathlib.Nat.{sub-zero}
 use native.Mathlib.Omega.{arith}
 use lib.IntN.{ℤ}
 use lib.ListN.{length, take}
-use Rattle.words.specs.Laws.Bools.{clash}
 use Rattle.words.specs.declared.Literal.{Literal}
 use Rattle.formula.specs.Formula.{prefixOf, formulaOf}
 use Rattle.theory.specs.Record.{among}
@@ -21,12 +20,12 @@ use Rattle.rules.specs.Due.{literal, due}
 use Rattle.rules.specs.Preferred.{proposalOf}
 use Rattle.rules.specs.Apply.{apply}
 use Rattle.rules.specs.Inner.Ready.{OnBlock}
-use Rattle.rules.specs.Laws.Steps.{apply-lengths}
-use Rattle.rules.specs.Laws.Kept.{kept-true}
+use Rattle.rules.specs.Laws.Untouched.{apply-lengths}
+use Rattle.rules.specs.Laws.Accepted.{kept-true}
 use Rattle.session.specs.Refusals.{over}
 use Rattle.session.specs.Run.{trip, advance, runFrom}
 use Rattle.session.specs.Laws.Accepted.{over-open}
-use Rattle.session.specs.Laws.Advance.{advance-keeps, run-ended, loop-more, loop-last}
+use Rattle.session.specs.Laws.Runs.{advance-keeps, run-ended, loop-more, loop-last}
 
 module _ {b : List ℤ} {t : Trail} {n : ℕ} (o : OnBlock b t n) (preferred : List ℤ) where
   -- the due rule, with the proposal that the preferences give it
@@ -38,14 +37,14 @@ module _ {b : List ℤ} {t : Trail} {n : ℕ} (o : OnBlock b t n) (preferred : L
   advanced {rule} is {l} from {u} a = a ∙ rw (from, ← kept-true (prefixOf b) t n (o .kept), is)
 
   -- it leaves checked input, and buffers as long as before
-  abbrev next : Search
-  next = advance (formulaOf b) preferred (search t n Open)
+  abbrev onward : Search
+  onward = advance (formulaOf b) preferred (search t n Open)
 
-  advance-on : OnBlock b (next .trail) (next .count)
+  advance-on : OnBlock b (onward .trail) (onward .count)
   unfolding formulaOf
   advance-on = record { block = o .block; kept = advance-keeps (formulaOf b) preferred (search t n Open) (o .kept) }
 
-  advance-lengths : (length (next .trail .lits) ≡ length (t .lits)) × (length (next .trail .kinds) ≡ length (t .kinds))
+  advance-lengths : (length (onward .trail .lits) ≡ length (t .lits)) × (length (onward .trail .kinds) ≡ length (t .kinds))
   unfolding advance
   advance-lengths = apply-lengths (formulaOf b .prefix) (due (formulaOf b) (recordOf t n)) _ (search t n Open)
 
@@ -64,16 +63,13 @@ module _
     {b : List ℤ} {t₀ : Trail} {n budget : ℕ} {preferred : List ℤ} {t : Trail} {at : Reached} {steps : ℕ}
     (now : Round b t₀ n budget preferred t at steps)
   where
-    not-open : over (at .state) ≡ true → at .state ≡ Open → ⊥
-    not-open h e = clash h (ap over e)
-
     -- the search has ended
     pub ended : {r : Bool} → r ≡ over (at .state) → r ≡ true → trip (reached at t) steps ≡ runFrom (formulaOf b) preferred budget (search t₀ n Open) 0
-    ended e h = sym (run-ended (formulaOf b) preferred (reached at t) steps (budget - steps) (not-open (sym e ∙ h))) ∙ now .same
+    ended e h = sym (run-ended (formulaOf b) preferred (budget - steps) (reached at t) steps (sym e ∙ h)) ∙ now .same
 
     -- the budget is used
     pub used : budget ≤ steps → trip (reached at t) steps ≡ runFrom (formulaOf b) preferred budget (search t₀ n Open) 0
-    used h = sym (loop-last (formulaOf b) preferred (reached at t) steps budget h) ∙ now .same
+    used h = sym (loop-last (formulaOf b) preferred budget (reached at t) steps h) ∙ now .same
 
     -- one step more
     pub more : steps < budget → {r : Bool} → r ≡ over (at .state) → r ≡ false
@@ -89,6 +85,6 @@ module _
           kinds-long = ap (λ (u : Search). length (u .trail .kinds)) a ∙ long .1 ∙ now .kinds-long;
           same =
               ap (λ (u : Search). runFrom (formulaOf b) preferred (budget - (steps + 1)) u (steps + 1)) (a ∙ ap (λ (st : State). advance (formulaOf b) preferred (search t (at .count) st)) (sym live))
-              ∙ loop-more (formulaOf b) preferred (reached at t) steps budget h live
+              ∙ loop-more (formulaOf b) preferred budget (reached at t) steps h live
               ∙ now .same;
         }

@@ -1,10 +1,9 @@
--- Demand 2 for any history of calls: "any list of steps and runs with any arguments, refused ones included, each given that formula, that
--- record and the latest session". On every desk that calls lead to from a fresh one the accepted steps are a path of the theory's rules from
--- the empty record to the search that stands there; what the theory says of such paths is said of the desk.
-use Prim.Native.Nat.{ℕ, zero, suc, _+_, _^_, _<_}
+-- [demand.2] Any history of calls from an accepted opening on. On every desk that they lead to, the accepted steps are a path of the theory's rules
+-- from the empty record to the search that stands there; what [order] says of every such path is said of the desk.
+use Prim.Native.Nat.{ℕ, zero, suc, _+_, _-_, _^_, _≤_, _<_}
 use mathlib.Core.Path.{_≡_, refl, ap}
 use mathlib.Core.Logic.{inl}
-use mathlib.Core.Bool.{true, false}
+use mathlib.Core.Bool.{Bool, true, false}
 use mathlib.Core.List.{List, [], _∷_}
 use native.Mathlib.Omega.{arith}
 use lib.IntN.{ℤ, pos}
@@ -16,147 +15,199 @@ use Rattle.formula.specs.Block.{refusal}
 use Rattle.formula.specs.Truth.{true?}
 use Rattle.theory.specs.Rules.{going, Path, stop}
 use Rattle.theory.specs.Laws.Moves.{path-snoc, good-none}
-use Rattle.theory.specs.Theorem.{sound-formula, finite-formula, never-stuck}
+use Rattle.theory.specs.Theorem.{accepted-any-order}
+use Rattle.rules.specs.declared.rule.State.{State}
 use Rattle.rules.specs.declared.rule.State.the-variants.{Open, Valid, Unsat}
 use Rattle.rules.specs.Due.{literal}
 use Rattle.rules.specs.Trail.{recordOf, wipedTrail}
 use Rattle.rules.specs.Laws.Wiped.{wiped-length}
 use Rattle.rules.specs.Laws.Good.{good-kept}
-use Rattle.rules.specs.Search.{standingOf, recordIn}
+use Rattle.rules.specs.Search.{standingOf}
 use Rattle.rules.specs.Inner.Ready.{KeptIn}
-use Rattle.rules.specs.Laws.Accepted.{prefix-length, accepted-bound, accepted-proper}
+use Rattle.rules.specs.Laws.Accepted.{prefix-length, accepted-bound}
 use Rattle.session.specs.declared.Revision.{Revision}
 use Rattle.session.specs.declared.Session.{Session}
 use Rattle.session.specs.declared.Answer.{Answer}
 use Rattle.session.specs.declared.Answer.the-variants.{To, Refused}
-use Rattle.session.specs.Memory.{Memory, memory}
+use Rattle.session.specs.declared.Ran.{Ran}
+use Rattle.session.specs.declared.Ran.the-variants.{Until, Stopped}
+use Rattle.session.specs.Memory.{Memory}
 use Rattle.session.specs.Refusals.{lastRevision, openRefusal}
-use Rattle.session.specs.Outcome.{session, openOutcome, stepOutcome}
-use Rattle.session.specs.Play.{Desk, desk, Call, step, run, afterStep, call, play}
-use Rattle.session.specs.Laws.Accepted.{opened as opens, Guarded, step-guarded, step-last, step-passes}
-use Rattle.session.specs.Refused.{unless-to, step-refused, step-refused-leaves}
-use Rattle.session.specs.Follows.{Follows, accepted-is, accepted-step, answered-accepted}
-use Rattle.session.specs.ByHand.{searchAt, handed, byHand, run-is-steps}
+use Rattle.session.specs.Outcome.{session, openOutcome}
+use Rattle.session.specs.Calls.{Desk, desk, Call, step, run, afterStep, stepAt, runAt, call, play}
+use Rattle.session.specs.Laws.Accepted.{opened, Guarded, step-last, run-last, step-passes}
+use Rattle.session.specs.Refused.{unless-to, step-refused, run-refused, step-refused-leaves}
+use Rattle.session.specs.Stepped.{accepted-is, accepted-step}
+use Rattle.session.specs.RunSteps.{searchAt, handed, byHand, hand-used, run-is-steps, run-pauses}
+
+-- the state that tells the truth
+abbrev pub verdictOf : Bool → State
+verdictOf true = Valid
+verdictOf false = Unsat
 
 -- what is asked of a desk of a session opened at the revision `first` on the block b
 pub record Demand (b : List ℤ) (first : ℕ) (d : Desk) : Type 0 where
-  -- "accepted steps in all at most 2^(V+1) - 1", each adding one to the revision
+  -- [demand.2.steps]
   pub steps : d .steps < 2 ^ suc (variablesOf b)
-  pub revision : d .latest .revision .0 ≡ first + d .steps
-  -- so an open one is short of them: a run with a budget of as many ends
   pub open-fewer : d .latest .state ≡ Open → suc (d .steps) < 2 ^ suc (variablesOf b)
-  -- "Valid exactly with truth, Unsat exactly without"
+  -- [demand.2.revision]
+  pub revision : d .latest .revision .0 ≡ first + d .steps
+  -- [demand.2.valid]
   pub valid-true : d .latest .state ≡ Valid → true? (formulaOf b) ≡ true
+  -- [demand.2.unsat]
   pub unsat-false : d .latest .state ≡ Unsat → true? (formulaOf b) ≡ false
-  -- "while open, a step with proposal 0 at the session's revision is accepted unless the revision is 2^64 - 1, and then refused with 15"
+  -- [demand.2.goes-on]
   pub accepted : d .latest .state ≡ Open → (d .latest .revision .0 ≡ lastRevision → ⊥)
-      → (s : Session) × (stepOutcome (d .latest) b (d .memory) (d .latest .revision) (literal (pos 0)) .answer ≡ To s)
+      → (s : Session) × (stepAt b d (d .latest .revision) (literal (pos 0)) .answer ≡ To s)
+  -- [demand.2.last] whatever is proposed; and so is a run that would go past the last revision
   pub refused : d .latest .state ≡ Open → d .latest .revision .0 ≡ lastRevision
-      → stepOutcome (d .latest) b (d .memory) (d .latest .revision) (literal (pos 0)) .answer ≡ Refused 15
+      → (l : Literal) → stepAt b d (d .latest .revision) l .answer ≡ Refused 15
+  pub run-stopped : d .latest .state ≡ Open → (budget : ℕ) → lastRevision < d .latest .revision .0 + budget
+      → (preferred : List ℤ) → runAt b d (d .latest .revision) budget preferred .answer ≡ Stopped 15
 
 -- ---- what every call keeps
-record Reached (b : List ℤ) (first : ℕ) (d : Desk) : Type 0 where
+record Invariant (b : List ℤ) (first : ℕ) (d : Desk) : Type 0 where
   path : Path (formulaOf b) (d .steps) (going []) (standingOf (searchAt d))
   kept : KeptIn (prefixOf b) (searchAt d)
   revision : d .latest .revision .0 ≡ first + d .steps
 
 module _ (b : List ℤ) (first : ℕ) where
-  -- one more rule
-  grown : (d : Desk) (l : ℤ) (s′ : Session) (m′ : Memory) → Reached b first d → d .latest .state ≡ Open → Follows b l (d .latest) s′ (d .memory) m′ → Reached b first (desk s′ m′ (d .steps + 1))
-  grown d l s′ m′ r o f =
-      let x : d .steps + 1 ≡ suc (d .steps) = omega arith in
-      let y = r .revision in
-      let z = f .revision in
-      record {
-        path = rw x (path-snoc (formulaOf b) (rw o at (r .path)) (f .step));
-        kept = f .kept;
-        revision = omega arith;
-      }
-
-  step-reached : (d : Desk) (seen : Revision) (l : Literal) → Reached b first d → Reached b first (call b d (step seen l))
+  -- one more rule, or none
+  step-holds : (d : Desk) (seen : Revision) (l : Literal) → Invariant b first d → Invariant b first (call b d (step seen l))
   unfolding call
-  step-reached d seen l r = go (stepOutcome (d .latest) b (d .memory) seen l .answer) refl
+  step-holds d seen l r = go (stepAt b d seen l .answer) refl
     where
-      o : Outcome Memory Answer
-      o = stepOutcome (d .latest) b (d .memory) seen l
-
-      go : (a : Answer) → o .answer ≡ a → Reached b first (afterStep d a (o .memory))
+      go : (a : Answer) → stepAt b d seen l .answer ≡ a → Invariant b first (afterStep d a (stepAt b d seen l .memory))
       go (To s′) e =
-          let g = step-guarded (d .latest) b (d .memory) seen l (answered-accepted (d .latest) b (d .memory) seen l s′ e) in
-          grown d (l .0) s′ (o .memory) r (g .guard .live) (accepted-step (d .latest) b (d .memory) seen l s′ e)
+          let f = accepted-step (d .latest) b (d .memory) seen l s′ e in
+          let x : d .steps + 1 ≡ suc (d .steps) = omega arith in
+          let y = r .revision in
+          let z = f .revision in
+          record { path = rw x (path-snoc (formulaOf b) (rw (f .live) at (r .path)) (f .step)); kept = f .kept; revision = omega arith }
       go (Refused n) e = let w = step-refused-leaves (d .latest) b (d .memory) seen l n e in rw (w .memory) r
 
-  hand-reached : (preferred : List ℤ) (c : ℕ) (d : Desk) → Reached b first d → Reached b first (byHand b preferred c d)
+  hand-holds : (preferred : List ℤ) (c : ℕ) (d : Desk) → Invariant b first d → Invariant b first (byHand b preferred c d)
   unfolding byHand handed
-  hand-reached preferred zero d r = r
-  hand-reached preferred (suc c) d r = hand-reached preferred c (handed b preferred d) (step-reached d _ _ r)
+  hand-holds preferred zero d r = r
+  hand-holds preferred (suc c) d r = hand-holds preferred c (handed b preferred d) (step-holds d _ _ r)
 
-  call-reached : (d : Desk) (c : Call) → Reached b first d → Reached b first (call b d c)
-  call-reached d (step seen l) r = step-reached d seen l r
-  call-reached d (run seen budget preferred) r = rw (run-is-steps b d seen budget preferred) (hand-reached preferred _ d r)
+  hand-calls : (preferred : List ℤ) (n : ℕ) (d : Desk) → (calls : List Call) × (play b d calls ≡ byHand b preferred n d)
+  unfolding byHand handed play
+  hand-calls preferred zero d = ([], refl)
+  hand-calls preferred (suc n) d = let (calls, e) = hand-calls preferred n (handed b preferred d) in (step _ _ ∷ calls, e)
 
-  play-reached : (cs : List Call) (d : Desk) → Reached b first d → Reached b first (play b d cs)
+  call-holds : (d : Desk) (c : Call) → Invariant b first d → Invariant b first (call b d c)
+  call-holds d (step seen l) r = step-holds d seen l r
+  call-holds d (run seen budget preferred) r = rw (run-is-steps b d seen budget preferred) (hand-holds preferred _ d r)
+
+  play-holds : (cs : List Call) (d : Desk) → Invariant b first d → Invariant b first (play b d cs)
   unfolding play
-  play-reached [] d r = r
-  play-reached (c ∷ cs) d r = play-reached cs (call b d c) (call-reached d c r)
+  play-holds [] d r = r
+  play-holds (c ∷ cs) d r = play-holds cs (call b d c) (call-holds d c r)
 
 -- ---- what is kept is what is asked
 module _ (b : List ℤ) (block : refusal limits b ≡ 0) (first : ℕ) where
-  guard : (d : Desk) → Reached b first d → d .latest .state ≡ Open → Guarded (d .latest) b (d .memory) (d .latest .revision)
-  guard d r o = record { block = block; kept = r .kept; live = o; current = refl }
+  guard : (d : Desk) → Invariant b first d → d .latest .state ≡ Open → Guarded (d .latest) b (d .memory) (d .latest .revision)
+  guard d r o = record { on = record { block = block; kept = r .kept }; live = o; current = refl }
 
-  demand : (d : Desk) → Reached b first d → Demand b first d
+  demand : (d : Desk) → Invariant b first d → Demand b first d
   unfolding formulaOf
   demand d r =
-      let F = formulaOf b in
-      let ok = accepted-proper b block in
+      let any = accepted-any-order limits b block in
       record {
-        steps = rw (prefix-length b block) at (finite-formula F (r .path));
-        open-fewer = λ o. rw (prefix-length b block) at (finite-formula F (path-snoc F (rw o at (r .path)) (never-stuck F ok (recordIn (searchAt d)) .1)));
+        steps = rw (prefix-length b block) at (any .short (r .path));
+        open-fewer = λ o. rw (prefix-length b block) at (any .fewer (rw o at (r .path)));
         revision = r .revision;
-        valid-true = λ e. sound-formula F ok true (rw e at (r .path));
-        unsat-false = λ e. sound-formula F ok false (rw e at (r .path));
+        valid-true = λ e. any .right true (rw e at (r .path));
+        unsat-false = λ e. any .right false (rw e at (r .path));
         accepted = λ o h.
-            let e = step-passes (d .latest) b (d .memory) (d .latest .revision) (guard d r o) h (literal (pos 0)) (inl refl) (inl refl) in
-            (_, ap (λ (o : Outcome Memory Answer). o .answer) (accepted-is (d .latest) b (d .memory) (d .latest .revision) (literal (pos 0)) e));
-        refused = λ o h.
-            let e = step-last (d .latest) b (d .memory) (d .latest .revision) (guard d r o) h (literal (pos 0)) in
-            ap (λ (o : Outcome Memory Answer). o .answer) (step-refused (d .latest) b (d .memory) (d .latest .revision) (literal (pos 0)) 14 e);
+            let e = step-passes _ _ _ _ (guard d r o) h (literal (pos 0)) (inl refl) (inl refl) in
+            (_, ap (λ (o : Outcome Memory Answer). o .answer) (accepted-is _ _ _ _ _ e));
+        refused = λ o h l. ap (λ (o : Outcome Memory Answer). o .answer) (step-refused _ _ _ _ l 14 (step-last _ _ _ _ (guard d r o) h l));
+        run-stopped = λ o budget h preferred. ap (λ (o : Outcome Memory Ran). o .answer) (run-refused _ _ _ _ budget preferred 14 (run-last _ _ _ _ (guard d r o) budget h));
       }
 
--- ---- a fresh desk
-module _ (b : List ℤ) (m : Memory) (rev : Revision) where
-  opened : Desk
-  opened = desk (session 0 (rev .0) Open) (record { trail = wipedTrail (m .trail) 0 (variablesOf b) }) 0
+  -- a session that isn't open tells the truth
+  decided : (d : Desk) → Invariant b first d → (d .latest .state ≡ Open → ⊥) → d .latest .state ≡ verdictOf (true? (formulaOf b))
+  decided d r f = go (d .latest .state) refl
+    where
+      go : (st : State) → d .latest .state ≡ st → st ≡ verdictOf (true? (formulaOf b))
+      go Open e = absurd (f e)
+      go Valid e = rw (demand d r .valid-true e)
+      go Unsat e = rw (demand d r .unsat-false e)
 
-  open-reached : openRefusal b m ≡ 0 → Reached b (rev .0) opened
-  unfolding opened formulaOf recordOf
-  open-reached e =
-      let o = opens b m e in
-      let F = formulaOf b in
-      let bound = accepted-bound b (o .block) in
-      let n = prefix-length b (o .block) in
-      record {
+-- ---- after an accepted opening
+-- the desk that it leaves
+abbrev pub freshDesk : List ℤ → Memory → Revision → Session → Desk
+freshDesk b m rev s = desk s (openOutcome b m rev .memory) 0
+
+module _ (b : List ℤ) (m : Memory) (rev : Revision) (s : Session) (a : openOutcome b m rev .answer ≡ To s) where
+  open-passed : openRefusal b m ≡ 0
+  unfolding openOutcome
+  open-passed = unless-to (openRefusal b m) m _ s a
+
+  block : refusal limits b ≡ 0
+  block = opened b m open-passed .block
+
+  begun : Invariant b (rev .0) (freshDesk b m rev s)
+  unfolding openOutcome formulaOf recordOf
+  begun =
+      let room = opened b m open-passed .room in
+      let bound = accepted-bound b block in
+      let n = prefix-length b block in
+      let a′ = rw open-passed at a in
+      let z : s ≡ session 0 (rev .0) Open = cc in
+      rw (open-passed, z)
+      (record {
         path = stop;
         kept = record {
           prefix = bound;
-          room = record { lits = rw (wiped-length, n) (o .room .lits); kinds = rw (wiped-length, n) (o .room .kinds) };
-          good = good-kept F (wipedTrail (m .trail) 0 (variablesOf b)) 0 bound (omega arith) (good-none F);
+          room = record { lits = rw (wiped-length, n) (room .lits); kinds = rw (wiped-length, n) (room .kinds) };
+          good = good-kept (formulaOf b) (wipedTrail (m .trail) 0 (variablesOf b)) 0 bound (omega arith) (good-none (formulaOf b));
         };
         revision = omega arith;
-      }
+      })
 
-  -- an answer with a session comes from an accepted opening
-  opened-is : (s : Session) → let o = openOutcome b m rev in o .answer ≡ To s → (openRefusal b m ≡ 0) × (desk s (o .memory) 0 ≡ opened)
-  unfolding openOutcome opened
-  opened-is s a =
-      let e = unless-to (openRefusal b m) m _ s a in
-      let a′ = rw e at a in
-      let z : s ≡ session 0 (rev .0) Open = cc in
-      (e, rw (e, z))
+  kept-after : (calls : List Call) → Invariant b (rev .0) (play b (freshDesk b m rev s) calls)
+  kept-after calls = play-holds b (rev .0) calls (freshDesk b m rev s) begun
 
-  -- Demand 2: whatever is called after an accepted opening
-  pub any-history : (s : Session) → let o = openOutcome b m rev in o .answer ≡ To s → (calls : List Call) → Demand b (rev .0) (play b (desk s (o .memory) 0) calls)
-  any-history s a calls =
-      let (e, z) = opened-is s a in
-      demand b (opens b m e .block) (rev .0) _ (rw z (play-reached b (rev .0) calls opened (open-reached e)))
+  -- [order.rules] the accepted steps of a history, exactly as many as it counts, are one path of the rules from the empty record
+  pub history-path : (calls : List Call) → let d = play b (freshDesk b m rev s) calls in Path (formulaOf b) (d .steps) (going []) (standingOf (searchAt d))
+  history-path calls = kept-after calls .path
+
+  -- [demand.2.history] whatever is called
+  pub any-history : (calls : List Call) → Demand b (rev .0) (play b (freshDesk b m rev s) calls)
+  any-history calls = demand b block (rev .0) _ (kept-after calls)
+
+  -- [demand.2.steps] so an accepted run ends the session, with the truth, if the steps so far and its budget are together at least 2^(V+1) - 1. A
+  -- budget has 32 bits: with 32 variables or more none is so large, and a fresh session may need more runs than one
+  pub enough-ends : (calls : List Call) (seen : Revision) (budget : ℕ) (preferred : List ℤ) (s′ : Session) (c : ℕ) → let d = play b (freshDesk b m rev s) calls in
+      runAt b d seen budget preferred .answer ≡ Until s′ c → 2 ^ suc (variablesOf b) ≤ suc (d .steps + budget) → s′ .state ≡ verdictOf (true? (formulaOf b))
+  unfolding call
+  enough-ends calls seen budget preferred s′ c e h =
+      let d = play b (freshDesk b m rev s) calls in
+      let r = rw e at (call-holds b (rev .0) d (run seen budget preferred) (kept-after calls)) in
+      decided b block (rev .0) _ r
+      (λ o.
+      let u = run-pauses b d seen budget preferred s′ c e .used o in
+      let l = demand b block (rev .0) _ r .open-fewer o in
+      omega arith)
+
+  -- as many steps made by hand end it too, those after the end being refused, if the first revision leaves room for them
+  pub steps-end : (preferred : List ℤ) → let n = 2 ^ suc (variablesOf b) - 1 in
+      rev .0 + n ≤ lastRevision → byHand b preferred n (freshDesk b m rev s) .latest .state ≡ verdictOf (true? (formulaOf b))
+  steps-end preferred h =
+      let n = 2 ^ suc (variablesOf b) - 1 in
+      let r = hand-holds b (rev .0) preferred n (freshDesk b m rev s) begun in
+      let first = begun .revision in
+      decided b block (rev .0) _ r
+      (λ o.
+      let u = hand-used b preferred block n (freshDesk b m rev s) (begun .kept) (omega arith) o in
+      let l = demand b block (rev .0) _ r .open-fewer o in
+      omega arith)
+
+  -- so some history ends, of steps alone
+  pub some-history-ends : rev .0 + (2 ^ suc (variablesOf b) - 1) ≤ lastRevision → (calls : List Call) × (play b (freshDesk b m rev s) calls .latest .state ≡ verdictOf (true? (formulaOf b)))
+  some-history-ends h =
+      let (calls, e) = hand-calls b (rev .0) [] (2 ^ suc (variablesOf b) - 1) (freshDesk b m rev s) in
+      (calls, rw e (steps-end [] h))

@@ -1,4 +1,3 @@
 -- What is proved about the definitions, for use in proofs.
 pub mod Accepted
-pub mod Advance
-pub mod Trips
+pub mod Runs

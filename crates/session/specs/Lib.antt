@@ -13,9 +13,9 @@ pub mod Rows
 pub mod Refused
 -- an accepted opening, an accepted step, a run as steps by hand
 pub mod Opened
-pub mod Follows
-pub mod Play
-pub mod ByHand
+pub mod Stepped
+pub mod Calls
+pub mod RunSteps
 -- any history of calls
 pub mod History
 -- what functions say to each other; what is proved of all these

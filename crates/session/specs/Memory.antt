@@ -1,4 +1,4 @@
--- The memory that is lent beside the block: the record's two buffers.
+-- [record] The memory that is lent beside the block: the record's two buffers.
 use Prim.Native.Nat.{ℕ}
 use mathlib.Core.List.{List}
 use lib.IntN.{ℤ}

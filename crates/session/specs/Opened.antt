@@ -1,4 +1,4 @@
--- "Opening sets the first V places to 0. No other place is written.": what an accepted opening leaves. By the laws of the wiped places.
+-- What an accepted opening leaves: a fresh session, zeros in the first V places, and no other place written. By the laws of the wiped places.
 use Prim.Native.Nat.{ℕ, _≤_, _<_, zero-le}
 use mathlib.Core.Path.{_≡_}
 use mathlib.Core.Logic.{inr}
@@ -16,17 +16,19 @@ use Rattle.session.specs.Refusals.{openRefusal}
 use Rattle.session.specs.Refused.{unless-to}
 use Rattle.session.specs.Outcome.{session, openOutcome}
 use Rattle.rules.specs.Laws.Untouched.{wiped-blank, wiped-other}
-use Rattle.rules.specs.Laws.Records.{entryAt, noEntry}
+use Rattle.rules.specs.Trail.{entryAt, noEntry}
 
-pub record Opens (b : List ℤ) (rev : Revision) (s : Session) (m m′ : Memory) : Type 0 where
-  -- "The opener gives the first revision."
+pub record Fresh (b : List ℤ) (rev : Revision) (s : Session) (m m′ : Memory) : Type 0 where
+  -- [session.fresh]
   pub fresh : s ≡ session 0 (rev .0) Open
+  -- [opening.wipes]
   pub zeros : (j : ℕ) → j < variablesOf b → entryAt (m′ .trail) j ≡ noEntry
+  -- [writes.nothing-else]
   pub untouched : (j : ℕ) → variablesOf b ≤ j → entryAt (m′ .trail) j ≡ entryAt (m .trail) j
   pub lengths : (length (m′ .trail .lits) ≡ length (m .trail .lits)) × (length (m′ .trail .kinds) ≡ length (m .trail .kinds))
 
 pub accepted-open : (b : List ℤ) (m : Memory) (rev : Revision) (s : Session) → let o = openOutcome b m rev in
-    o .answer ≡ To s → Opens b rev s m (o .memory)
+    o .answer ≡ To s → Fresh b rev s m (o .memory)
 unfolding openOutcome
 accepted-open b m rev s a =
     let e = unless-to (openRefusal b m) m _ s a in

@@ -18,16 +18,17 @@ use Rattle.session.specs.declared.Answer.the-variants.{To, Refused}
 use Rattle.session.specs.Memory.{Memory, memoryOf}
 use Rattle.session.specs.Refusals.{openRefusal, stepRefusal}
 
+-- [session]
 abbrev pub session : ℕ → ℕ → State → Session
 session n rev st = record { length = n; revision = record { 0 = rev }; state = st }
 
--- "The opener gives the first revision." "Opening sets the first V places to 0."
+-- [session.fresh] [opening.wipes]
 unfoldable pub openOutcome : List ℤ → Memory → Revision → Outcome Memory Answer
 openOutcome b m rev =
     unless Refused (openRefusal b m) m
     (outcome (To (session 0 (rev .0) Open)) (record { trail = wipedTrail (m .trail) 0 (variablesOf b) }))
 
--- a session whose search has gone on by some accepted steps: "An accepted step adds one to the revision."
+-- [revision.adds] a session whose search has gone on by some accepted steps
 abbrev pub moved : Session → ℕ → Search → Session
 moved s steps t = session (t .count) (s .revision .0 + steps) (t .state)
 
@@ -35,11 +36,12 @@ moved s steps t = session (t .count) (s .revision .0 + steps) (t .state)
 abbrev pub searchOf : Session → Memory → Search
 searchOf s m = search (m .trail) (s .length) (s .state)
 
--- "Every accepted step is the one due rule."
+-- [step] the rule that is due, once
 abbrev pub stepped : Session → List ℤ → Literal → Search → Outcome Memory Answer
 stepped s b l t =
     let u = apply (prefixOf b) (due (formulaOf b) (recordIn t)) (l .0) t in
     outcome (To (moved s 1 u)) (memoryOf u)
 
+-- [table.leaves] else the number, and all as it was
 unfoldable pub stepOutcome : Session → List ℤ → Memory → Revision → Literal → Outcome Memory Answer
 stepOutcome s b m seen l = unless Refused (stepRefusal s b m seen l) m (stepped s b l (searchOf s m))

@@ -1,5 +1,5 @@
--- What each public function promises of everything at entry, r being its answer and m′ the memory that it leaves; and that the promise leaves one
--- answer, one next session and one content of each lent buffer. A promise is an equation with a definition.
+-- What each public function promises of everything at entry, r being its answer and m′ the memory that it leaves; and [only] that the promise fits
+-- one answer, one next session and one content of each lent buffer. A promise is an equation with a definition.
 use mathlib.Core.Path.{_≡_, ap}
 use mathlib.Core.List.{List}
 use Prim.Native.Nat.{ℕ}
@@ -10,7 +10,7 @@ use Rattle.formula.specs.Formula.{formulaOf}
 use Rattle.rules.specs.declared.rule.State.{State}
 use Rattle.rules.specs.declared.rule.State.the-variants.{Open}
 use Rattle.rules.specs.Trail.{Trail}
-use Rattle.rules.specs.Search.{Search, search, reached}
+use Rattle.rules.specs.Search.{search, reached}
 use Rattle.session.specs.declared.Revision.{Revision}
 use Rattle.session.specs.declared.Session.{Session}
 use Rattle.session.specs.declared.Answer.{Answer}
@@ -68,8 +68,4 @@ pub only-search : {r r′ : Searched} {t′ t″ : Trail} (b : List ℤ) (t : Tr
     → SearchPromise b t n budget preferred r t′ → SearchPromise b t n budget preferred r′ t″ → (r ≡ r′) × (t′ ≡ t″)
 only-search b t n budget preferred p q =
     let e = only-one p q in
-    let c = ap (λ (u : Trip). u .reached) e in
-    (searched (ap (λ (u : Search). u .count) c) (ap (λ (u : Search). u .state) c) (ap (λ (u : Trip). u .steps) e), ap (λ (u : Search). u .trail) c)
-  where
-    searched : {r r′ : Searched} → r .reached .count ≡ r′ .reached .count → r .reached .state ≡ r′ .reached .state → r .steps ≡ r′ .steps → r ≡ r′
-    searched p q s = rw (p, q, s)
+    (ap (λ (u : Trip). record { reached = record { count = u .reached .count; state = u .reached .state }; steps = u .steps }) e, ap (λ (u : Trip). u .reached .trail) e)

@@ -1,4 +1,4 @@
--- When a call on a session is turned away: the table's rows 11 to 17, after rows 1 to 10, "checked in this order".
+-- When a call on a session is turned away: rows 11 to 17, after the block's rows 1 to 10, in the table's order.
 use Prim.Native.Nat.{ℕ, _+_}
 use mathlib.Core.Bool.{Bool, true, false, not, _&&_, _||_}
 use mathlib.Core.List.{List, [], _∷_, _++_}
@@ -27,35 +27,36 @@ use Rattle.session.specs.Memory.{Memory}
 abbrev pub lastRevision : ℕ
 lastRevision = 18446744073709551615
 
--- 11: "a record buffer shorter than V"
+-- [row.11] a buffer has fewer than V places
 abbrev pub short : List ℤ → Memory → Bool
 short b m = ltb (length (m .trail .lits)) (variablesOf b) || ltb (length (m .trail .kinds)) (variablesOf b)
 
--- 13: "session already ended"
+-- [row.13] the session has ended
 abbrev pub over : State → Bool
 over Open = false
 over Valid = true
 over Unsat = true
 
--- 14: "seen revision is not the session's"
+-- [row.14] the seen revision is not the session's
 abbrev pub stale : Session → Revision → Bool
 stale s seen = not (eqb (seen .0) (s .revision .0))
 
--- 16: "proposal not 0 and Decide not due"
+-- there is a proposal, which is not 0
 abbrev pub proposed : Literal → Bool
 proposed l = not (eqb (natAbs (l .0)) 0)
 
--- ---- each call's table: "opening 1 to 11, a step 1 to 17, a run 1 to 15"
+-- ---- each call's table
 abbrev pub ofBuffers : List ℤ → Memory → List Row
 ofBuffers b m = row 11 (short b m) ∷ []
 
+-- [calls.open]
 abbrev pub openRows : List ℤ → Memory → List Row
 openRows b m = rows limits b ++ ofBuffers b m
 
 unfoldable pub openRefusal : List ℤ → Memory → ℕ
 openRefusal b m = refusalOf (openRows b m)
 
--- a proposal, where a rule is due
+-- [row.16] [row.17] a proposal, where a rule is due
 abbrev pub ofProposal : List ℤ → Assignment → Rule → Literal → List Row
 ofProposal p ρ rule l =
     row 16 (proposed l && not (decides rule))
@@ -63,7 +64,7 @@ ofProposal p ρ rule l =
     ∷ []
 
 module _ (s : Session) (b : List ℤ) (m : Memory) (seen : Revision) where
-  -- what a step and a run share
+  -- [row.12] [row.13] [row.14] what a step and a run share
   abbrev pub ofSession : List Row
   ofSession =
       row 12 (badRecord (prefixOf b) (m .trail) (s .length))
@@ -74,6 +75,7 @@ module _ (s : Session) (b : List ℤ) (m : Memory) (seen : Revision) where
   abbrev pub sessionRows : List Row
   sessionRows = openRows b m ++ ofSession
 
+  -- [row.15] for a step
   abbrev pub ofStep : Literal → List Row
   ofStep l =
       let F = formulaOf b in
@@ -81,16 +83,18 @@ module _ (s : Session) (b : List ℤ) (m : Memory) (seen : Revision) where
       row 15 (eqb (s .revision .0) lastRevision)
       ∷ ofProposal (F .prefix) (trueIn r) (due F r) l
 
+  -- [calls.step]
   abbrev pub stepRows : Literal → List Row
   stepRows l = sessionRows ++ ofStep l
 
   unfoldable pub stepRefusal : Literal → ℕ
   stepRefusal l = refusalOf (stepRows l)
 
-  -- 15 for a run: "revision + budget over 2^64 - 1"
+  -- [row.15] for a run
   abbrev pub ofRun : ℕ → List Row
   ofRun budget = row 15 (ltb lastRevision (s .revision .0 + budget)) ∷ []
 
+  -- [calls.run]
   abbrev pub runRows : ℕ → List Row
   runRows budget = sessionRows ++ ofRun budget
 

@@ -1,33 +1,28 @@
--- A refused call: "Each returns its number alone and leaves all memory and the session as they were", and a call whose seen revision is not
--- the session's is always one. By the two cases of the number, 0 and not 0.
-use mathlib.Core.Path.{_≡_, refl}
+-- [demand.1] [demand.1.leaves] [table.leaves] A refused call answers its number and leaves all memory as it was; and some calls that are always refused.
+-- By the two cases of the number, 0 and not 0.
+use mathlib.Core.Path.{_≡_, refl, sym}
 use mathlib.Core.Bool.{true}
 use mathlib.Core.List.{List}
-use Prim.Native.Nat.{ℕ, zero, suc}
+use Prim.Native.Nat.{ℕ, zero, suc, _+_, _<_}
 use native.Mathlib.Omega.{arith}
 use lib.IntN.{ℤ}
-use borrow.Author.Tests.{ne-eqb}
+use borrow.Author.Tests.{eq-eqb, ne-eqb, lt-ltb}
 use Rattle.words.specs.Laws.Bools.{not-f}
 use Rattle.words.specs.Lists.{In}
 use Rattle.words.specs.Outcomes.{Outcome, outcome, unless, Left, unless-left}
-use Rattle.words.specs.Rows.{upTo}
+use Rattle.words.specs.Rows.{test, upTo}
 use Rattle.words.specs.Laws.Rows.{refused-by}
 use Rattle.words.specs.declared.Literal.{Literal}
 use Rattle.session.specs.declared.Revision.{Revision}
 use Rattle.session.specs.declared.Session.{Session}
 use Rattle.session.specs.declared.Answer.{Answer}
 use Rattle.session.specs.declared.Answer.the-variants.{To, Refused}
+use Rattle.session.specs.declared.Ran.{Ran}
 use Rattle.session.specs.declared.Ran.the-variants.{Until, Stopped}
 use Rattle.session.specs.Memory.{Memory}
-use Rattle.session.specs.Refusals.{stale, openRefusal, stepRows, stepRefusal, runRows, runRefusal}
+use Rattle.session.specs.Refusals.{lastRevision, over, openRefusal, stepRows, stepRefusal, runRows, runRefusal}
 use Rattle.session.specs.Outcome.{openOutcome, stepOutcome}
 use Rattle.session.specs.Run.{runOf}
-
-refused-told : (m n : ℕ) → Refused m ≡ Refused n → m ≡ n
-refused-told m n e = cc
-
-stopped-told : (m n : ℕ) → Stopped m ≡ Stopped n → m ≡ n
-stopped-told m n e = cc
 
 accepted-none : (s : Session) (n : ℕ) → To s ≡ Refused n → ⊥
 accepted-none s n e = let z : _≡_ {A = ℕ} 0 1 = cc in omega arith
@@ -38,24 +33,28 @@ ran-none s c n e = let z : _≡_ {A = ℕ} 0 1 = cc in omega arith
 -- and a session is answered only where no row applies
 pub unless-to : (n : ℕ) (m : Memory) (o : Outcome Memory Answer) (s : Session) → unless Refused n m o .answer ≡ To s → n ≡ 0
 unless-to zero m o s e = refl
-unless-to (suc n) m o s e = let z : _≡_ {A = ℕ} 0 1 = cc in absurd (omega arith)
+unless-to (suc n) m o s e = absurd (accepted-none s (suc n) (sym e))
+
+pub unless-until : (n : ℕ) (m : Memory) (o : Outcome Memory Ran) (s : Session) (c : ℕ) → unless Stopped n m o .answer ≡ Until s c → n ≡ 0
+unless-until zero m o s c e = refl
+unless-until (suc n) m o s c e = absurd (ran-none s c (suc n) (sym e))
 
 -- ---- a refused call leaves both buffers as they were
 pub open-refused-leaves : (b : List ℤ) (m : Memory) (rev : Revision) (n : ℕ) → let o = openOutcome b m rev in
     o .answer ≡ Refused n → Left (openRefusal b m) n m (o .memory)
 unfolding openOutcome
-open-refused-leaves b m rev n = unless-left Refused refused-told (openRefusal b m) m _ n (accepted-none _ n)
+open-refused-leaves b m rev n = unless-left Refused (λ j k e. cc) (openRefusal b m) m _ n (accepted-none _ n)
 
 module _ (s : Session) (b : List ℤ) (m : Memory) (seen : Revision) where
   pub step-refused-leaves : (l : Literal) (n : ℕ) → let o = stepOutcome s b m seen l in
       o .answer ≡ Refused n → Left (stepRefusal s b m seen l) n m (o .memory)
   unfolding stepOutcome
-  step-refused-leaves l n = unless-left Refused refused-told (stepRefusal s b m seen l) m _ n (accepted-none _ n)
+  step-refused-leaves l n = unless-left Refused (λ j k e. cc) (stepRefusal s b m seen l) m _ n (accepted-none _ n)
 
   pub run-refused-leaves : (budget : ℕ) (preferred : List ℤ) (n : ℕ) → let o = runOf s b m seen budget preferred in
       o .answer ≡ Stopped n → Left (runRefusal s b m seen budget) n m (o .memory)
   unfolding runOf
-  run-refused-leaves budget preferred n = unless-left Stopped stopped-told (runRefusal s b m seen budget) m _ n (ran-none _ _ n)
+  run-refused-leaves budget preferred n = unless-left Stopped (λ j k e. cc) (runRefusal s b m seen budget) m _ n (ran-none _ _ n)
 
   -- ---- a number other than 0 is answered
   pub step-refused : (l : Literal) (n : ℕ) → stepRefusal s b m seen l ≡ suc n → stepOutcome s b m seen l ≡ outcome (Refused (suc n)) m
@@ -66,15 +65,39 @@ module _ (s : Session) (b : List ℤ) (m : Memory) (seen : Revision) where
   unfolding runOf
   run-refused budget preferred n e = rw e
 
-  -- ---- 14: "seen revision is not the session's": such a call is refused, with 14 or the number of a row before it
+  -- ---- a row that applies: the call is refused, with its number or that of a row before it
+  abbrev pub StepRefusedBy : ℕ → Literal → Type 0
+  StepRefusedBy k l = (n : ℕ) × In (suc n) (upTo k (stepRows s b m seen l)) × (stepOutcome s b m seen l ≡ outcome (Refused (suc n)) m)
+
+  abbrev pub RunRefusedBy : ℕ → ℕ → List ℤ → Type 0
+  RunRefusedBy k budget preferred = (n : ℕ) × In (suc n) (upTo k (runRows s b m seen budget)) × (runOf s b m seen budget preferred ≡ outcome (Stopped (suc n)) m)
+
+  step-by : (k : ℕ) (l : Literal) → test k (stepRows s b m seen l) ≡ true → StepRefusedBy k l
+  unfolding stepRefusal
+  step-by k l t = let (n, i, e) = refused-by k (stepRows s b m seen l) refl t in (n, i, step-refused l n e)
+
+  run-by : (k budget : ℕ) (preferred : List ℤ) → test k (runRows s b m seen budget) ≡ true → RunRefusedBy k budget preferred
+  unfolding runRefusal
+  run-by k budget preferred t = let (n, i, e) = refused-by k (runRows s b m seen budget) refl t in (n, i, run-refused budget preferred n e)
+
+  -- [row.13] the session has ended
+  pub ended-step-refused : over (s .state) ≡ true → (l : Literal) → StepRefusedBy 13 l
+  ended-step-refused e l = step-by 13 l e
+
+  pub ended-run-refused : over (s .state) ≡ true → (budget : ℕ) (preferred : List ℤ) → RunRefusedBy 13 budget preferred
+  ended-run-refused e budget preferred = run-by 13 budget preferred e
+
+  -- [row.14] the seen revision is not the session's
   module _ (other : seen .0 ≡ s .revision .0 → ⊥) where
-    stale-is : stale s seen ≡ true
-    stale-is = not-f (ne-eqb (seen .0) (s .revision .0) other)
+    pub stale-step-refused : (l : Literal) → StepRefusedBy 14 l
+    stale-step-refused l = step-by 14 l (not-f (ne-eqb (seen .0) (s .revision .0) other))
 
-    pub stale-step-refused : (l : Literal) → (n : ℕ) × In (suc n) (upTo 14 (stepRows s b m seen l)) × (stepOutcome s b m seen l ≡ outcome (Refused (suc n)) m)
-    unfolding stepRefusal
-    stale-step-refused l = let (n, i, e) = refused-by 14 (stepRows s b m seen l) refl stale-is in (n, i, step-refused l n e)
+    pub stale-run-refused : (budget : ℕ) (preferred : List ℤ) → RunRefusedBy 14 budget preferred
+    stale-run-refused budget preferred = run-by 14 budget preferred (not-f (ne-eqb (seen .0) (s .revision .0) other))
 
-    pub stale-run-refused : (budget : ℕ) (preferred : List ℤ) → (n : ℕ) × In (suc n) (upTo 14 (runRows s b m seen budget)) × (runOf s b m seen budget preferred ≡ outcome (Stopped (suc n)) m)
-    unfolding runRefusal
-    stale-run-refused budget preferred = let (n, i, e) = refused-by 14 (runRows s b m seen budget) refl stale-is in (n, i, run-refused budget preferred n e)
+  -- [row.15] there is no revision left for it
+  pub last-step-refused : s .revision .0 ≡ lastRevision → (l : Literal) → StepRefusedBy 15 l
+  last-step-refused e l = step-by 15 l (eq-eqb (s .revision .0) lastRevision e)
+
+  pub last-run-refused : (budget : ℕ) → lastRevision < s .revision .0 + budget → (preferred : List ℤ) → RunRefusedBy 15 budget preferred
+  last-run-refused budget h preferred = run-by 15 budget preferred (lt-ltb lastRevision (s .revision .0 + budget) h)

@@ -1,5 +1,4 @@
--- Which number a refused call is given, by the one law of tables: "opening 1 to 11, a step 1 to 17, a run 1 to 15", each exactly when the table
--- says.
+-- [demand.1.number] [table.order] [table.exactly] Which number a refused call is given, by the one law of tables.
 use mathlib.Core.Path.{refl}
 use mathlib.Core.List.{List, [], _∷_, _++_}
 use Prim.Native.Nat.{ℕ}

@@ -1,5 +1,4 @@
--- "A run takes the seen revision, a budget of steps (32 bits, unsigned) and a list of preferred literals of any content. At Decide it proposes
--- the first open one in the list, else 0. It answers the session and the count of accepted steps; it pauses exactly if it isn't ended when the budget is used."
+-- [run] [run.answer] A run: one step after the other until the session has ended or the budget is used, and how many steps these are.
 use Prim.Native.Nat.{ℕ, zero, suc, _+_}
 use mathlib.Core.List.{List}
 use lib.IntN.{ℤ}
@@ -34,7 +33,7 @@ whileOpen Valid a b = b
 whileOpen Unsat a b = b
 
 module _ (F : Formula) (preferred : List ℤ) where
-  -- one accepted step, with the proposal that the preferences give
+  -- [run.proposes] one accepted step, with the proposal that the preferences give
   unfoldable pub advance : Search → Search
   advance t =
       let r = recordIn t in

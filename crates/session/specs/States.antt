@@ -1,4 +1,4 @@
--- A session's state as a number: 0 open, 1 Valid, 2 Unsat; a larger number counts as Unsat.
+-- [session.number] A session's state as a number.
 use Prim.Native.Nat.{ℕ, zero, suc}
 use Rattle.rules.specs.declared.rule.State.{State}
 use Rattle.rules.specs.declared.rule.State.the-variants.{Open, Valid, Unsat}

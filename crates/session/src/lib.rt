@@ -1,4 +1,5 @@
-// A session that goes step by step, and the run with a budget.
+// A session that goes step by step, and the run with a budget. [demand.1.any] [demand.1.ends] No entrance asks anything of its input, and each of
+// them comes to an end.
 ghost use mathlib.Core.Path.{_≡_};
 ghost use Rattle.session.specs.Memory.{memory};
 ghost use Rattle.session.specs.Outcome.{session};
@@ -17,13 +18,13 @@ pub use states::number_of;
 pub use states::state_of;
 use words::Literal;
 
-// A revision and a literal are numbers of different types: neither can stand for the other.
+// [session.types] A revision and a literal are numbers of different types: neither can stand for the other.
 pub struct Revision(pub u64);
 
 // 2^64 - 1: no step goes past it.
 const LAST_REVISION: u64 = 18446744073709551615;
 
-// Record length, revision, and open, Valid or Unsat. Any words may be handed in.
+// [session] Record length, revision, and open, Valid or Unsat. Any words may be handed in.
 pub struct Session {
     pub length: usize,
     pub revision: Revision,
@@ -106,7 +107,7 @@ impl Session {
         }
         let revision = self.revision.0;
         let most = LAST_REVISION - revision;
-        if most < wide(budget) {
+        if most < budget as u64 {
             return Ran::Stopped(15);
         }
         let count = self.length;
@@ -114,7 +115,7 @@ impl Session {
         let reached = found.reached;
         let steps = found.steps;
         Ran::Until {
-            session: moved(reached, revision + wide(steps)),
+            session: moved(reached, revision + (steps as u64)),
             steps: steps,
         }
     }
@@ -131,10 +132,4 @@ fn moved(reached: Reached, revision: u64) -> Session
         revision: Revision(revision),
         state: state,
     }
-}
-
-fn wide(n: u32) -> u64
-    ensures { λ r. ⌜ r ≡ n ⌝ }
-{
-    n as u64
 }

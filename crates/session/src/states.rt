@@ -1,4 +1,4 @@
-// A session's state as a number, in and out. Programs in other languages and the console tell it so.
+// [session.number] A session's state as a number, in and out. Programs in other languages and the console tell it so.
 ghost use Rattle.session.specs.Promises.{NumberOfPromise, StateOfPromise};
 use rules::State;
 

@@ -44,7 +44,7 @@ caseI-path =
     (take (unit refl (p 2 ∷ p 1 ∷ []) (here refl) (p 2) refl)
     (take (succeed refl refl refl) stop))))
 
--- Unit as document 001's slides print it, without the levels
+-- Unit without the levels, as some slides print it
 unitFlat : List ℤ → Assignment → List ℤ → ℤ → Bool
 unitFlat q ρ C l = not (any ρ C) && (mem l C && unassignedE q ρ l) && all (λ x. not (unassignedE q ρ x) || eqZ x l) C
 
@@ -75,7 +75,7 @@ caseJ-either : Wider caseJ (unitEither (caseJ .prefix)) 3 (going []) valid
 unfolding unitEither conflict inConflict isOpen allAssigned unassignedE unassignedU existential universal level levelOf change assigned literals without all any mem eqZ
 caseJ-either = also (p 1 ∷ []) (here refl) (p 1) refl (rule (decide-exists refl (p 2) refl refl) (rule (succeed refl refl refl) stopped))
 
--- ---- both signs in a clause: prefix -1, clause {1,-1}. True, whatever 1 is, yet "no true literal and no unassigned existential literal"
+-- ---- both signs in a clause: prefix -1, clause {1,-1}. True, whatever 1 is, yet by [conflict] in conflict at once
 abbrev bothIn : Formula
 bothIn = record { prefix = n 1 ∷ []; clauses = (p 1 ∷ n 1 ∷ []) ∷ [] }
 

@@ -1,4 +1,4 @@
--- The record: literals with kinds, oldest first, and what it makes true.
+-- [record] The record: literals with kinds, oldest first, and what it makes true.
 use Prim.Native.Nat.{ℕ}
 use mathlib.Core.Bool.{Bool, not, _||_}
 use mathlib.Core.List.{List, [], _∷_}
@@ -7,7 +7,7 @@ use lib.IntN.{ℤ, negℤ}
 use Rattle.words.specs.Lists.{all}
 use Rattle.words.specs.Words.{mem}
 
--- "signed words for literals and bytes for kinds: 0 forced, 1 existential decision, 2 universal decision"
+-- [kinds] a literal and its kind: 0 forced, 1 an existential decision, 2 a universal one
 pub record Entry : Type 0 where
   pub literal : ℤ
   pub kind : ℕ

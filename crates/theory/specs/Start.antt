@@ -10,7 +10,7 @@ use Rattle.formula.specs.Block.{twice}
 use Rattle.formula.specs.Truth.{truth}
 use Rattle.theory.specs.Record.{Record, literals, Assignment, trueIn, assigned}
 
--- a kind suits a literal: forced, any variable of the prefix; a decision, one of its quantifier; "kind above 2", none
+-- a kind suits a literal: forced, any variable of the prefix; a decision, one of its quantifier; a kind above 2, none
 unfoldable pub suits : List ℤ → ℕ → ℤ → Bool
 suits p zero l = existential p l || universal p l
 suits p (suc zero) l = existential p l

@@ -15,38 +15,38 @@ unassignedE p ρ x = existential p x && not (assigned ρ x)
 unfoldable pub unassignedU : List ℤ → Assignment → ℤ → Bool
 unassignedU p ρ x = universal p x && not (assigned ρ x)
 
--- "A clause is in conflict if it has no true literal and no unassigned existential literal."
+-- [conflict] a clause in conflict
 unfoldable pub inConflict : List ℤ → Assignment → List ℤ → Bool
 inConflict p ρ C = not (any ρ C) && not (any (unassignedE p ρ) C)
 
--- "Some clause in conflict"
+-- [due] some clause is
 unfoldable pub conflict : List ℤ → List (List ℤ) → Assignment → Bool
 conflict p m ρ = any (inConflict p ρ) m
 
--- "exactly one unassigned existential literal l": x is no other
+-- [unit] no unassigned existential literal but l: x is no other
 abbrev pub isOnly : List ℤ → Assignment → ℤ → ℤ → Bool
 isOnly p ρ l x = not (unassignedE p ρ x) || eqZ x l
 
--- "each unassigned universal literal at a higher level than l": so x, if it is one
+-- [unit] unassigned universal literals are above the level of l: so x, if it is one
 abbrev pub isDeeper : List ℤ → Assignment → ℤ → ℤ → Bool
 isDeeper p ρ l x = not (unassignedU p ρ x) || ltb (level p l) (level p x)
 
--- "no true literal, exactly one unassigned existential literal l, and each unassigned universal literal at a higher level than l"
+-- [unit] no true literal, l as the one unassigned existential literal, and the unassigned universal ones above its level
 unfoldable pub unitOn : List ℤ → Assignment → List ℤ → ℤ → Bool
 unitOn p ρ C l = not (any ρ C) && (mem l C && unassignedE p ρ l) && all (isOnly p ρ l) C && all (isDeeper p ρ l) C
 
--- "occurs with one sign only over the whole matrix": l occurs and its opposite does not
+-- l stands in some clause; [monotone] it does and its opposite does not, so [monotone.absent] a variable that stands in none has no sign
 unfoldable pub occurs : List (List ℤ) → ℤ → Bool
 occurs m l = any (mem l) m
 
 unfoldable pub oneSign : List (List ℤ) → ℤ → Bool
 oneSign m l = occurs m l && not (occurs m (negℤ l))
 
--- "An existential one takes that sign, a universal one the opposite."
+-- [monotone] an existential literal as it stands in the clauses m, a universal one as the opposite
 unfoldable pub monotone : List ℤ → List (List ℤ) → Assignment → ℤ → Bool
 monotone p m ρ l = (unassignedE p ρ l && oneSign m l) || (unassignedU p ρ l && oneSign m (negℤ l))
 
--- the same over the clauses with no true literal
+-- [monotone] only the clauses with no true literal count
 unfoldable pub untrueOf : Assignment → List (List ℤ) → List (List ℤ)
 untrueOf ρ [] = []
 untrueOf ρ (C ∷ m) = cond (any ρ C) (untrueOf ρ m) (C ∷ untrueOf ρ m)
@@ -54,21 +54,21 @@ untrueOf ρ (C ∷ m) = cond (any ρ C) (untrueOf ρ m) (C ∷ untrueOf ρ m)
 unfoldable pub monotoneOpen : List ℤ → List (List ℤ) → Assignment → ℤ → Bool
 monotoneOpen p m ρ l = monotone p (untrueOf ρ m) ρ l
 
--- the widest that is sound: l stands in no clause that lacks a true literal
+-- [order.monotone] the widest that is sound: l stands in no clause that lacks a true literal
 unfoldable pub absent : List (List ℤ) → Assignment → ℤ → Bool
 absent m ρ l = all (λ C. any ρ C || not (mem l C)) m
 
 unfoldable pub monotoneWide : List ℤ → List (List ℤ) → Assignment → ℤ → Bool
 monotoneWide p m ρ l = (unassignedE p ρ l && absent m ρ (negℤ l)) || (unassignedU p ρ l && absent m ρ l)
 
--- "no variable of a lower level is": so the one that q binds
+-- [open] all variables of lower levels are assigned: so the one that q binds
 abbrev pub notBelow : List ℤ → Assignment → ℤ → ℤ → Bool
 notBelow p ρ l q = assigned ρ q || leb (level p l) (level p q)
 
--- "A literal is open if its variable is unassigned and no variable of a lower level is."
+-- [open] an open literal: unassigned, with every variable of a lower level assigned
 unfoldable pub isOpen : List ℤ → Assignment → ℤ → Bool
 isOpen p ρ l = (unassignedE p ρ l || unassignedU p ρ l) && all (notBelow p ρ l) p
 
--- "All assigned"
+-- all variables are assigned
 unfoldable pub allAssigned : List ℤ → Assignment → Bool
 allAssigned p ρ = all (assigned ρ) p

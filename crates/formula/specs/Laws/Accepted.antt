@@ -1,30 +1,24 @@
 -- What an accepted block is, row by row and place by place: for whoever works on a block that was checked.
-use mathlib.Core.Path.{_≡_, refl, sym, _∙_, ap}
-use mathlib.Core.Bool.{true, false, not}
-use mathlib.Core.Logic.{_⊎_}
+use mathlib.Core.Path.{_≡_, refl}
+use mathlib.Core.Bool.{true, false}
 use mathlib.Core.List.{List}
-use Prim.Native.Nat.{ℕ, _+_, _-_, _≤_, _<_}
+use Prim.Native.Nat.{_+_, _-_, _≤_, _<_}
 use native.Mathlib.Omega.{arith}
 use lib.Dec.{eqb}
-use lib.IntN.{ℤ, pos, natAbs}
-use lib.ListN.{length, getD}
+use lib.IntN.{ℤ, pos}
+use lib.ListN.{length}
 use borrow.Author.Tests.{ltb-false, lt-ltb, eqb-true, not-false}
 use Rattle.words.specs.Laws.Bools.{to-false}
-use Rattle.words.specs.Lists.{In, any}
-use Rattle.words.specs.Laws.Lists.{any-e, in-at, at-in}
+use Rattle.words.specs.Lists.{any}
 use Rattle.words.specs.Laws.Rows.{passed}
 use Rattle.words.specs.Words.{negative, mem}
 use Rattle.words.specs.Laws.Words.{mem-e}
 use Rattle.formula.specs.Limits.{Limits}
-use Rattle.formula.specs.Formula.{word, variablesOf, clauseCountOf, literalCountOf, prefixOf, endsOf, literalsOf, clausesFrom, formulaOf, existential, universal}
-use Rattle.formula.specs.Block.{noVariable, names, twice, badEnds, bothSigns, repeats, rows, refusal}
-use Rattle.formula.specs.Inner.Named.{Named, AllNamed}
+use Rattle.formula.specs.Formula.{word, variablesOf, clauseCountOf, literalCountOf, prefixOf, endsOf, literalsOf, clausesFrom, formulaOf}
+use Rattle.formula.specs.Block.{noVariable, twice, badEnds, bothSigns, repeats, rows, refusal}
+use Rattle.formula.specs.Inner.Named.{AllNamed}
 use Rattle.formula.specs.Laws.Named.{named, in-named, all-named}
-use Rattle.formula.specs.Laws.Ends.{GoodEnd, clauseStart, good-at}
-use Rattle.formula.specs.Laws.Clauses.{clauses-in}
 use Rattle.formula.specs.Laws.Layout as layout
-use Rattle.formula.specs.Laws.Prefix.{once-at, existential-in}
-use Rattle.formula.specs.Laws.Permuted as bound
 use Rattle.formula.specs.Proper.{Proper}
 
 pub record Accepted (L : Limits) (b : List ℤ) : Type 0 where
@@ -66,70 +60,15 @@ module _ {L : Limits} {b : List ℤ} (a : Accepted L b) where
   pub variables-most : variablesOf b ≤ L .variables
   variables-most = a .counts .variables .most
 
-  pub clauses-most : clauseCountOf b ≤ L .clauses
-  clauses-most = a .counts .clauses .most
-
-  pub literals-most : literalCountOf b ≤ L .literals
-  literals-most = a .counts .literals .most
-
   pub prefix-length : length (prefixOf b) ≡ variablesOf b
   prefix-length = layout.prefix-length b (a .whole)
-
-  pub ends-length : length (endsOf b) ≡ clauseCountOf b
-  ends-length = layout.ends-length b (a .whole)
 
   pub literals-length : length (literalsOf b) ≡ literalCountOf b
   literals-length = layout.literals-length b (a .whole)
 
-  -- where the prefix ends and the literals begin is within the block
-  pub prefix-within : {e : ℕ} → e ≡ 6 + variablesOf b → e ≤ length b
-  prefix-within is = omega (arith, a .whole)
-
-  pub ends-within : {l : ℕ} → l ≡ 6 + variablesOf b + clauseCountOf b → l ≤ length b
-  ends-within is = omega (arith, a .whole)
-
-  -- every prefix word and every literal names one of the V variables: at each place, and wherever a literal is met
+  -- every prefix word names one of the V variables
   pub prefix-named : AllNamed (variablesOf b) (prefixOf b)
   prefix-named = all-named (variablesOf b) (prefixOf b) (a .known)
-
-  pub literals-named : AllNamed (variablesOf b) (literalsOf b)
-  literals-named = all-named (variablesOf b) (literalsOf b) (a .literals)
-
-  pub clause-named : {c : List ℤ} {l : ℤ} → In c (formulaOf b .clauses) → In l c → Named (variablesOf b) l
-  unfolding formulaOf
-  clause-named i j = in-named (variablesOf b) (literalsOf b) (a .literals) (clauses-in (literalsOf b) 0 (endsOf b) i j)
-
-  -- the prefix binds each variable once: by one quantifier, at one place
-  pub all-bound : (v : ℕ) → 0 < v → v ≤ variablesOf b → any (names v) (prefixOf b) ≡ true
-  all-bound = bound.all-bound (variablesOf b) (prefixOf b) (a .known) (a .once) prefix-length
-
-  pub quantified : (l : ℤ) → Named (variablesOf b) l → (existential (prefixOf b) l ≡ true) ⊎ (universal (prefixOf b) l ≡ true)
-  quantified = bound.quantified (variablesOf b) (prefixOf b) (a .known) (a .once) prefix-length
-
-  pub quantifier : (l : ℤ) → Named (variablesOf b) l → universal (prefixOf b) l ≡ not (existential (prefixOf b) l)
-  quantifier = bound.quantifier (variablesOf b) (prefixOf b) (a .known) (a .once) prefix-length
-
-  pub one-place : (i j : ℕ) → i < variablesOf b → j < variablesOf b → natAbs (getD (prefixOf b) i (pos 0)) ≡ natAbs (getD (prefixOf b) j (pos 0)) → i ≡ j
-  one-place i j h k = once-at (prefixOf b) (a .once) i j (rw prefix-length h) (rw prefix-length k)
-
-  pub place-of : (l : ℤ) → Named (variablesOf b) l → (i : ℕ) × (i < variablesOf b) × (natAbs (getD (prefixOf b) i (pos 0)) ≡ natAbs l)
-  place-of l h =
-      let r = any-e (names (natAbs l)) (prefixOf b) (all-bound (natAbs l) (h .some) (h .most)) in
-      let q = at-in (pos 0) (r .1) in
-      (q .0, rw prefix-length at (q .1), ap natAbs (q .2) ∙ sym (eqb-true (natAbs l) (natAbs (r .0)) (r .2)))
-
-  -- a prefix word shows its variable's quantifier by its sign; the last one is existential
-  pub existential-at : (i : ℕ) → i < variablesOf b → existential (prefixOf b) (getD (prefixOf b) i (pos 0)) ≡ not (negative (getD (prefixOf b) i (pos 0)))
-  existential-at i h =
-      let h′ : i < length (prefixOf b) = rw prefix-length h in
-      existential-in (prefixOf b) (a .once) (in-at (prefixOf b) i (pos 0) h′) (prefix-named .at i h′ .some)
-
-  pub last-existential : 0 < variablesOf b → negative (getD (prefixOf b) (variablesOf b - 1) (pos 0)) ≡ false
-  last-existential h = ap negative (layout.prefix-last b h) ∙ a .last h
-
-  -- each clause lies within the literals
-  pub clause-within : (c : ℕ) → c < clauseCountOf b → GoodEnd (literalCountOf b) (clauseStart (endsOf b) c) (endsOf b) c
-  clause-within c h = good-at (literalCountOf b) (endsOf b) (a .ends) c (rw ends-length h)
 
   -- what the theory of the rules asks
   is-proper : Proper (formulaOf b)

@@ -45,6 +45,3 @@ module _ (ls es : List ℤ) where
       let e = split c h (clauses-from c (le-of-lt h)) in
       let tails : drop (c + 1) (clausesFrom ls 0 es) ≡ clausesFrom ls (natAbs (getD es c (pos 0))) (drop (c + 1) es) = cc in
       rw add-one at tails
-
-  pub clause-is : (c : ℕ) → c < length es → getD (clausesFrom ls 0 es) c [] ≡ take (natAbs (getD es c (pos 0)) - clauseStart es c) (drop (clauseStart es c) ls)
-  clause-is c h = let e = split c h (clauses-from c (le-of-lt h)) in cc

@@ -1,5 +1,5 @@
 -- Row 8 along the list of clause ends: one more end, and none. Good ends rise from 0 to T, so each clause lies within the literals.
-use mathlib.Core.Path.{_≡_, sym, _∙_}
+use mathlib.Core.Path.{_≡_}
 use mathlib.Core.Bool.{Bool, true, false, not, _||_}
 use mathlib.Core.List.{List}
 use Prim.Native.Nat.{ℕ, zero, suc, _+_, _≤_, _<_}
@@ -8,7 +8,7 @@ use native.Mathlib.Omega.{arith}
 use lib.Dec.{eqb, ltb}
 use lib.IntN.{ℤ, pos, natAbs}
 use lib.ListN.{length, drop, getD}
-use borrow.Author.Tests.{ltb-false, not-false, eqb-true}
+use borrow.Author.Tests.{ltb-false}
 use Rattle.words.specs.Laws.Bools.{or-fl, or-fr}
 use Rattle.words.specs.Laws.Lists.{next, ended}
 use Rattle.words.specs.Words.{negative}
@@ -55,18 +55,10 @@ module _ (total from : ℕ) (es : List ℤ) (i : ℕ) (good : badEnds total from
         rest = or-fr (negative e || ltb (natAbs e) from || ltb total (natAbs e)) (badEnds total (natAbs e) (drop (i + 1) es)) all;
       }
 
-  -- after the last end all literals are passed
-  pub good-last : length es ≤ i → from ≡ total
-  good-last h = eqb-true from total (not-false (eqb from total) (sym (ends-ended total from es i h) ∙ good))
-
 -- where the c-th clause begins: at the end of the one before it
 unfoldable pub clauseStart : List ℤ → ℕ → ℕ
 clauseStart es zero = 0
 clauseStart es (suc c) = natAbs (getD es c (pos 0))
-
-pub start-next : (es : List ℤ) (c : ℕ) → clauseStart es (c + 1) ≡ natAbs (getD es c (pos 0))
-unfolding clauseStart
-start-next es c = rw add-one
 
 -- so a loop over clauses needs to know only where it stands
 module _ (total : ℕ) (es : List ℤ) (good : badEnds total 0 es ≡ false) where

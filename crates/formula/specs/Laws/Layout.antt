@@ -12,7 +12,7 @@ use Rattle.words.specs.Laws.Bools.{clash, or-fl, or-fr}
 use Rattle.words.specs.Words.{eqZ}
 use Rattle.words.specs.Laws.Words.{eqZ-eq}
 use Rattle.formula.specs.Limits.{Limits}
-use Rattle.formula.specs.Formula.{word, variablesOf, clauseCountOf, literalCountOf, prefixOf, endsOf, literalsOf}
+use Rattle.formula.specs.Formula.{word, variablesOf, clauseCountOf, literalCountOf, prefixOf, literalsOf}
 use Rattle.formula.specs.Block.{badCount, badCounts, isNot, badOffsets}
 
 -- ---- row 2
@@ -70,35 +70,12 @@ module _ (b : List ℤ) (whole : length b ≡ 6 + variablesOf b + clauseCountOf 
   pub prefix-length : length (prefixOf b) ≡ variablesOf b
   prefix-length = part (variablesOf b) 6 (omega arith)
 
-  pub ends-length : length (endsOf b) ≡ clauseCountOf b
-  ends-length = part (clauseCountOf b) (6 + variablesOf b) (omega arith)
-
   pub literals-length : length (literalsOf b) ≡ literalCountOf b
   literals-length = part (literalCountOf b) (6 + variablesOf b + clauseCountOf b) (omega arith)
 
--- ---- the parts as they are lent, from one offset to the next: e is where the prefix ends, l where the literals begin
-module _ (b : List ℤ) {e : ℕ} (is : e ≡ 6 + variablesOf b) where
-  pub prefix-lent : take (e - 6) (drop 6 b) ≡ prefixOf b
-  prefix-lent = let d : e - 6 ≡ variablesOf b = omega arith in rw d
-
-  pub ends-lent : {l : ℕ} → l ≡ 6 + variablesOf b + clauseCountOf b → take (l - e) (drop e b) ≡ endsOf b
-  ends-lent {l} at = let d : l - e ≡ clauseCountOf b = omega arith in rw (d, is)
-
-pub literals-lent : (b : List ℤ) → length b ≡ 6 + variablesOf b + clauseCountOf b + literalCountOf b → {l : ℕ} → l ≡ 6 + variablesOf b + clauseCountOf b → take (length b - l) (drop l b) ≡ literalsOf b
-literals-lent b whole {l} at = let d : length b - l ≡ literalCountOf b = omega arith in rw (d, at)
-
--- ---- the parts' words where they stand in the block
-module _ (b : List ℤ) (i : ℕ) where
-  pub prefix-at : i < variablesOf b → getD (prefixOf b) i (pos 0) ≡ word b (6 + i)
-  prefix-at h = getD-take (variablesOf b) (drop 6 b) i (pos 0) h ∙ getD-drop 6 b i (pos 0)
-
-  pub ends-at : i < clauseCountOf b → getD (endsOf b) i (pos 0) ≡ word b (6 + variablesOf b + i)
-  ends-at h = getD-take (clauseCountOf b) (drop (6 + variablesOf b) b) i (pos 0) h ∙ getD-drop (6 + variablesOf b) b i (pos 0)
-
-  pub literals-at : i < literalCountOf b → getD (literalsOf b) i (pos 0) ≡ word b (6 + variablesOf b + clauseCountOf b + i)
-  literals-at h =
-      getD-take (literalCountOf b) (drop (6 + variablesOf b + clauseCountOf b) b) i (pos 0) h
-      ∙ getD-drop (6 + variablesOf b + clauseCountOf b) b i (pos 0)
+-- ---- a word of the prefix where it stands in the block
+prefix-at : (b : List ℤ) (i : ℕ) → i < variablesOf b → getD (prefixOf b) i (pos 0) ≡ word b (6 + i)
+prefix-at b i h = getD-take (variablesOf b) (drop 6 b) i (pos 0) h ∙ getD-drop 6 b i (pos 0)
 
 -- row 7 is about the last word of the prefix
 pub prefix-last : (b : List ℤ) → 0 < variablesOf b → getD (prefixOf b) (variablesOf b - 1) (pos 0) ≡ word b (5 + variablesOf b)

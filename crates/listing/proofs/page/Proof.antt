@@ -1,6 +1,6 @@
 -- A refused page returns before anything is written; else its openings are searched, and then the first V places are wiped.
 use borrow.Author.Needs.{needs}
-use Rattle.listing.proofs.Exits.{refuses, on-page, cleans}
+use Rattle.listing.proofs.Pages.{refuses, on-page, cleans}
 use Rattle.listing.proofs.page.Statement.{statement}
 use Rattle.listing.proofs.page.Tie as tie
 

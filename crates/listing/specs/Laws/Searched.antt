@@ -1,33 +1,58 @@
 -- The search of an opening: within its budget it goes on by rules of the theory from the opening's record, so where it ends its answer is the
 -- truth of the rest, and with a budget of 2^(V+1-k) - 1 it does end.
 use Prim.Native.Nat.{ℕ, suc, _-_, _^_, _≤_}
-use mathlib.Core.Path.{_≡_, refl, sym, _∙_}
-use mathlib.Core.Logic.{_↔_}
+use mathlib.Core.Path.{_≡_, refl, sym, _∙_, ap}
 use mathlib.Core.Bool.{true, false}
 use mathlib.Core.List.{List}
 use native.Mathlib.Omega.{arith}
 use lib.IntN.{ℤ}
-use lib.ListN.{length}
-use Rattle.words.specs.Laws.Bools.{clash}
+use lib.ListN.{length, take, drop, take-append-drop}
+use Rattle.words.specs.Lists.{In}
+use Rattle.words.specs.Laws.Lists.{all-i}
 use Rattle.formula.specs.Formula.{Formula, firstGroup}
 use Rattle.formula.specs.Proper.{Proper}
-use Rattle.theory.specs.Rules.{State as Standing, going, Path}
-use Rattle.theory.specs.Laws.Moves.{path-snoc}
-use Rattle.theory.specs.Theorem.{sound, finite, never-stuck}
-use Rattle.rules.specs.declared.rule.State.{State}
+use Rattle.formula.specs.Laws.Prefix.{stands-i}
+use Rattle.theory.specs.Record.{among, assigned}
+use Rattle.theory.specs.Tests.{monotoneOpen, allAssigned}
+use Rattle.theory.specs.Laws.Assignment.{assigned-among}
+use Rattle.theory.specs.Start.{rest, trueUnder}
+use Rattle.theory.specs.Laws.Value.{rest-append, rest-set, rest-unset}
+use Rattle.theory.specs.Rules.{going, Path}
+use Rattle.theory.specs.Laws.Monotone.{open-within}
+use Rattle.theory.specs.Theorem.{AnyOrder, any-order-from}
 use Rattle.rules.specs.declared.rule.State.the-variants.{Open, Valid, Unsat}
-use Rattle.rules.specs.Search.{Search, standingOf, recordIn}
+use Rattle.rules.specs.Search.{standingOf}
 use Rattle.rules.specs.Inner.Ready.{Bound, Room}
 use Rattle.session.specs.Run.{runFrom}
-use Rattle.session.specs.Laws.Trips.{Travelled, travelled}
-use Rattle.listing.specs.Opening.{openingStart, openingSearch}
-use Rattle.listing.specs.Laws.Start.{opened, Starts, starts}
-use Rattle.listing.specs.Wins.{wins, wins-under}
+use Rattle.session.specs.Laws.Runs.{Travelled, travelled}
+use Rattle.listing.specs.Opening.{groupOf, valuesOf, openingStart, openingSearch, openingEnd}
+use Rattle.listing.specs.Laws.Start.{opened, given-literals, Starts, starts}
+use Rattle.listing.specs.Laws.Values.{values-stand, before-rest}
+use Rattle.listing.specs.Wins.{wins}
 use Rattle.rules.specs.Trail.{Trail}
 
--- an open search's path begins at its record
-open-from : (F : Formula) {n : ℕ} {s : Standing} (t : Search) → t .state ≡ Open → Path F n (standingOf t) s → Path F n (going (recordIn t)) s
-open-from F t e p = rw e at p
+-- ---- the truth of the rest is what the theory speaks of
+group-set : (F : Formula) (n : ℕ) → allAssigned (groupOf F) (among (valuesOf n (groupOf F))) ≡ true
+unfolding allAssigned
+group-set F n = all-i (assigned (among (valuesOf n (groupOf F)))) (groupOf F) (λ x i. assigned-among (valuesOf n (groupOf F)) x ∙ values-stand n (groupOf F) x ∙ stands-i x i refl)
+
+module _ (F : Formula) (ok : Proper F) (n : ℕ) where
+  rest-unassigned : (x : ℤ) → In x (drop (firstGroup (F .prefix)) (F .prefix)) → assigned (among (valuesOf n (groupOf F))) x ≡ false
+  rest-unassigned x i = assigned-among (valuesOf n (groupOf F)) x ∙ values-stand n (groupOf F) x ∙ before-rest (firstGroup (F .prefix)) (F .prefix) (ok .once) x i
+
+  -- what the values leave of the prefix is what stands after the first group
+  rest-is : rest (F .prefix) (among (valuesOf n (groupOf F))) ≡ drop (firstGroup (F .prefix)) (F .prefix)
+  rest-is =
+      let k = firstGroup (F .prefix) in
+      let p = F .prefix in
+      let ρ = among (valuesOf n (groupOf F)) in
+      ap (λ (ws : List ℤ). rest ws ρ) (sym (take-append-drop k p))
+      ∙ rest-append (take k p) (drop k p) ρ
+      ∙ rw (rest-set (take k p) ρ (group-set F n), rest-unset (drop k p) ρ rest-unassigned)
+
+  wins-under : trueUnder F (opened F n) ≡ wins F n
+  unfolding wins
+  wins-under = rw (given-literals (valuesOf n (groupOf F)), rest-is)
 
 -- ---- the search of the opening n, on buffers that pass row 11
 module _ (F : Formula) (ok : Proper F) (bound : Bound (F .prefix)) (work : Trail) (lent : Room (length (F .prefix)) work) (preferred : List ℤ) (budget n : ℕ) where
@@ -38,30 +63,24 @@ module _ (F : Formula) (ok : Proper F) (bound : Bound (F .prefix)) (work : Trail
   searched = travelled F preferred budget (openingStart F work n) (begun .kept)
 
   -- its rules lead from the opening's record
-  pub search-path : Path F (runFrom F preferred budget (openingStart F work n) 0 .steps) (going (opened F n)) (standingOf (openingSearch F preferred budget work n))
-  search-path = rw (begun .held) at (open-from F (openingStart F work n) (begun .live) (searched .path))
+  search-path : Path F (runFrom F preferred budget (openingStart F work n) 0 .steps) (going (opened F n)) (standingOf (openingSearch F preferred budget work n))
+  unfolding openingStart
+  search-path = rw (begun .held) at (searched .path)
+
+  -- [order.start] and of such paths the theory speaks
+  any : AnyOrder monotoneOpen F (opened F n) (2 ^ (suc (length (F .prefix)) - length (opened F n))) (trueUnder F (opened F n))
+  any = any-order-from open-within F ok (opened F n) (begun .good) (begun .kinds)
 
   -- where it ends, the recursive definition says so
-  pub won : openingSearch F preferred budget work n .state ≡ Valid → wins F n ≡ true
-  won e = sym (wins-under F ok n) ∙ sound F ok (opened F n) (begun .kinds) true (rw e at search-path)
+  pub won : openingEnd F preferred budget work n ≡ Valid → wins F n ≡ true
+  won e = sym (wins-under F ok n) ∙ any .right true (rw e at search-path)
 
-  pub lost : openingSearch F preferred budget work n .state ≡ Unsat → wins F n ≡ false
-  lost e = sym (wins-under F ok n) ∙ sound F ok (opened F n) (begun .kinds) false (rw e at search-path)
-
-  -- "winners: an opening is written exactly if the recursive definition makes the rest true under it"
-  pub winner : (openingSearch F preferred budget work n .state ≡ Open → ⊥) → (openingSearch F preferred budget work n .state ≡ Valid) ↔ (wins F n ≡ true)
-  winner ended = (won, λ w. go (openingSearch F preferred budget work n .state) refl w)
-    where
-      go : (st : State) → openingSearch F preferred budget work n .state ≡ st → wins F n ≡ true → st ≡ Valid
-      go Open e w = absurd (ended e)
-      go Valid e w = refl
-      go Unsat e w = clash w (lost e)
+  pub lost : openingEnd F preferred budget work n ≡ Unsat → wins F n ≡ false
+  lost e = sym (wins-under F ok n) ∙ any .right false (rw e at search-path)
 
   -- it is still open only if it has used its budget, and then one rule more is due
-  pub ends : 2 ^ (suc (length (F .prefix)) - firstGroup (F .prefix)) ≤ suc budget → openingSearch F preferred budget work n .state ≡ Open → ⊥
-  ends h o =
-      let u = openingSearch F preferred budget work n in
-      let s = never-stuck F ok (recordIn u) in
-      let f = rw (begun .count) at (finite F (opened F n) (begun .good) (begun .kinds) (path-snoc F (rw o at search-path) (s .1))) in
+  pub search-ends : 2 ^ (suc (length (F .prefix)) - firstGroup (F .prefix)) ≤ suc budget → openingEnd F preferred budget work n ≡ Open → ⊥
+  search-ends h o =
+      let f = rw (begun .count) at (any .fewer (rw o at search-path)) in
       let e = searched .used o in
       omega arith

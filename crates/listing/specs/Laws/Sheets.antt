@@ -1,28 +1,23 @@
 -- What a page writes, and why it stops: the winners from its start to its next opening, in order, and no other word of the output. By
 -- induction on the openings that are left: each turn searches one opening, whose end says whether it wins.
 use Prim.Native.Nat.{ℕ, zero, suc, _+_, _*_, _-_, _≤_, _<_}
-use mathlib.Core.Path.{_≡_, refl, sym, _∙_}
+use mathlib.Core.Path.{_≡_, refl, sym, _∙_, ap}
 use mathlib.Core.Logic.{_⊎_, inl, inr}
-use mathlib.Core.Bool.{Bool, true, false}
-use mathlib.Core.List.{List, [], _∷_, _++_, append-assoc}
+use mathlib.Core.Bool.{true, false}
+use mathlib.Core.List.{List, [], _∷_, _++_, append-assoc, append-nil}
 use native.Mathlib.Decide.{decLe}
 use native.Mathlib.Omega.{arith}
 use lib.Count.{ones}
-use lib.IntN.{ℤ}
 use lib.ListN.{length, getD, take, drop, set, length-set}
-use lib.Seq.{take-suc-set, drop-set-lt, getD-set-same, getD-set-other}
+use lib.Seq.{take-suc-set, drop-set-lt, getD-set-same, getD-set-other, drop-drop}
 use borrow.Author.Tests.{le-leb, lt-leb}
-use Rattle.words.specs.Laws.Bools.{clash}
 use Rattle.formula.specs.Formula.{Formula}
-use Rattle.formula.specs.Proper.{Proper}
 use Rattle.rules.specs.declared.rule.State.{State}
 use Rattle.rules.specs.declared.rule.State.the-variants.{Open, Valid, Unsat}
-use Rattle.rules.specs.Inner.Ready.{Bound, Room}
-use Rattle.listing.specs.Opening.{openingSearch}
+use Rattle.listing.specs.Opening.{openings}
 use Rattle.listing.specs.Page.{Sheet, sheet, written, bySearch, pageFrom}
 use Rattle.listing.specs.Wins.{wins, listing, listing-won, listing-lost}
-use Rattle.listing.specs.Laws.Searched.{won, lost}
-use Rattle.rules.specs.Trail.{Trail}
+use Rattle.listing.specs.Claims.{Filled, Stops, at-end, no-room, unended}
 
 -- ---- one entry written
 module _ (n e : ℕ) (out : List ℕ) where
@@ -40,116 +35,66 @@ module _ (n e : ℕ) (out : List ℕ) where
       let b : 2 * e < length out = omega arith in
       rw (x, take-suc-set (set out (2 * e) n) (2 * e + 1) (ones n) a, y, take-suc-set out (2 * e) n b) (append-assoc (take (2 * e) out) (n ∷ []) (ones n ∷ []))
 
-  written-drop : (i : ℕ) → 2 * e + 2 ≤ i → drop i (written n e out) ≡ drop i out
-  written-drop i h = drop-set-lt i (set out (2 * e) n) (2 * e + 1) (ones n) (omega arith) ∙ drop-set-lt i out (2 * e) n (omega arith)
+  written-drop : drop (2 * (e + 1)) (written n e out) ≡ drop (2 * (e + 1)) out
+  written-drop = drop-set-lt (2 * (e + 1)) (set out (2 * e) n) (2 * e + 1) (ones n) (omega arith) ∙ drop-set-lt (2 * (e + 1)) out (2 * e) n (omega arith)
 
--- there is room for an entry, or the last entry is that of the opening before n
-abbrev pub Roomy : ℕ → ℕ → List ℕ → Type 0
-Roomy n e out = (2 * e + 2 ≤ length out) ⊎ ((0 < e) × (getD out (2 * (e - 1)) 0 + 1 ≡ n))
+-- ---- from `start` on the output `out`, one opening after the other
+module _ (F : Formula) (start : ℕ) (out : List ℕ) where
+  pub filled-none : start ≤ openings F → Filled F start out start 0 out
+  filled-none h = record { upTo = h; few = omega arith; listed = append-nil (listing F start); fits = omega arith; long = refl; untouched = refl }
 
--- ---- a page's sheet s: `total` is where the openings end, `size` the output's length
-module _ (F : Formula) (preferred : List ℤ) (budget : ℕ) (work : Trail) where
-  -- why it stops
-  pub data Stops (total size : ℕ) (s : Sheet) : Type 0 where
-    -- "at the end (next = 2^k)"
-    at-end : s .paused ≡ false → s .next ≡ total → Stops total size s
-    -- "when no whole entry is left (next = last written + 1)"
-    no-room : s .paused ≡ false → s .next < total → size < 2 * s .entries + 2 → 0 < s .entries → getD (s .output) (2 * (s .entries - 1)) 0 + 1 ≡ s .next → Stops total size s
-    -- "when a search doesn't end within the budget (paused, next = that opening)"
-    unended : s .paused ≡ true → s .next < total → 2 * s .entries + 2 ≤ size → openingSearch F preferred budget work (s .next) .state ≡ Open → Stops total size s
+  module _ {n e : ℕ} {out′ : List ℕ} (h : n < openings F) (f : Filled F start out n e out′) where
+    -- the opening n wins
+    filled-won : 2 * e + 2 ≤ length out′ → wins F n ≡ true → Filled F start out (n + 1) (e + 1) (written n e out′)
+    filled-won r w =
+        let l = f .long in
+        let d : 2 * e + 2 ≡ 2 * (e + 1) = omega arith in
+        record {
+          upTo = omega arith;
+          few = omega (arith, f .few);
+          listed = rw (written-take n e out′ r, ← (append-assoc (listing F start) (take (2 * e) out′) (n ∷ ones n ∷ [])), f .listed) (sym (listing-won F n w));
+          fits = omega arith;
+          long = written-length n e out′ ∙ l;
+          untouched = written-drop n e out′ ∙ (rw (drop-drop 2 (2 * e) out′, drop-drop 2 (2 * e) out, d) at (ap (drop 2) (f .untouched)));
+        }
 
-  -- from the opening n, with e entries on the output
-  pub record Filled (n e : ℕ) (out : List ℕ) (total : ℕ) (s : Sheet) : Type 0 where
-    pub from : n ≤ s .next
-    pub upTo : s .next ≤ total
-    pub more : e ≤ s .entries
-    -- at most one entry for each opening
-    pub few : s .entries + n ≤ e + s .next
-    pub fits : 2 * s .entries ≤ length out
-    pub long : length (s .output) ≡ length out
-    -- if what was written before is the listing below n, then with this page's entries it is the listing below next
-    pub listed : (before : List ℕ) → before ++ take (2 * e) out ≡ listing F n → before ++ take (2 * s .entries) (s .output) ≡ listing F (s .next)
-    -- "Output past the entries is untouched"
-    pub untouched : drop (2 * s .entries) (s .output) ≡ drop (2 * s .entries) out
-    pub stops : Stops total (length out) s
-    -- with room for an entry it goes on, unless it is paused
-    pub moves : s .paused ≡ false → n < total → 2 * e + 2 ≤ length out → n < s .next
-
-  module _ (n e : ℕ) (out : List ℕ) (total : ℕ) (fit : 2 * e ≤ length out) where
-    -- it stops here
-    stopped : (p : Bool) → n ≤ total → Stops total (length out) (sheet n e p out) → (p ≡ false → n < total → 2 * e + 2 ≤ length out → ⊥) → Filled n e out total (sheet n e p out)
-    stopped p h w f = record {
-      from = omega arith;
-      upTo = h;
-      more = omega arith;
-      few = omega arith;
-      fits = fit;
-      long = refl;
-      listed = λ before z. z;
-      untouched = refl;
-      stops = w;
-      moves = λ q i r. absurd (f q i r);
+    filled-lost : wins F n ≡ false → Filled F start out (n + 1) e out′
+    filled-lost w = record {
+      upTo = omega arith;
+      few = omega (arith, f .few);
+      listed = f .listed ∙ sym (listing-lost F n w);
+      fits = f .fits;
+      long = f .long;
+      untouched = f .untouched;
     }
 
-    module _ (h : n < total) (s : Sheet) where
-      -- the opening n wins
-      goes-won : 2 * e + 2 ≤ length out → wins F n ≡ true → Filled (n + 1) (e + 1) (written n e out) total s → Filled n e out total s
-      goes-won r w g =
-          let l = written-length n e out in
-          let a = g .from in
-          let b = g .more in
-          let c = g .few in
-          record {
-            from = omega arith;
-            upTo = g .upTo;
-            more = omega arith;
-            few = omega arith;
-            fits = rw l at (g .fits);
-            long = g .long ∙ l;
-            listed = λ before z. g .listed before (rw (written-take n e out r, ← (append-assoc before (take (2 * e) out) (n ∷ ones n ∷ [])), z) (sym (listing-won F n w)));
-            untouched = g .untouched ∙ written-drop n e out (2 * s .entries) (omega arith);
-            stops = rw l at (g .stops);
-            moves = λ q i x. omega arith;
-          }
+  -- there is room for an entry, or the last entry is that of the opening before n
+  abbrev Roomy : ℕ → ℕ → List ℕ → Type 0
+  Roomy n e out′ = (2 * e + 2 ≤ length out) ⊎ ((0 < e) × (getD out′ (2 * (e - 1)) 0 + 1 ≡ n))
 
-      goes-lost : wins F n ≡ false → Filled (n + 1) e out total s → Filled n e out total s
-      goes-lost w g =
-          let a = g .from in
-          let c = g .few in
-          record {
-            from = omega arith;
-            upTo = g .upTo;
-            more = g .more;
-            few = omega arith;
-            fits = g .fits;
-            long = g .long;
-            listed = λ before z. g .listed before (z ∙ sym (listing-lost F n w));
-            untouched = g .untouched;
-            stops = g .stops;
-            moves = λ q i x. omega arith;
-          }
+  -- ends that are right
+  module _ (ends : ℕ → State) (won : (n : ℕ) → ends n ≡ Valid → wins F n ≡ true) (lost : (n : ℕ) → ends n ≡ Unsat → wins F n ≡ false) where
+    pub record Done (s : Sheet) : Type 0 where
+      pub filled : Filled F start out (s .next) (s .entries) (s .output)
+      pub stops : Stops ends (openings F) (length out) s
 
--- ---- the page from the opening n on, on buffers that pass row 11
-module _ (F : Formula) (ok : Proper F) (bound : Bound (F .prefix)) (work : Trail) (lent : Room (length (F .prefix)) work) (preferred : List ℤ) (budget : ℕ) where
-  pub filled : (m n e : ℕ) (out : List ℕ) (total : ℕ) → n + m ≡ total → 2 * e ≤ length out → Roomy n e out → Filled F preferred budget work n e out total (pageFrom F preferred budget work m n e out)
-  unfolding pageFrom
-  filled zero n e out total t f r = stopped F preferred budget work n e out total f false (omega arith) (at-end refl (omega arith)) (λ q h x. omega arith)
-  filled (suc m) n e out total t f r = elim (decLe (2 * e + 2) (length out)) [
-    | yes h ↦ rw (le-leb (2 * e + 2) (length out) h) (go h (openingSearch F preferred budget work n .state) refl (filled m (n + 1) (e + 1) (written n e out) total (omega arith)) (filled m (n + 1) e out total (omega arith) f (inl h)))
-    | no h ↦ rw (lt-leb (2 * e + 2) (length out) (omega arith)) (full h r)
-  ]
-    where
-      full : (2 * e + 2 ≤ length out → ⊥) → Roomy n e out → Filled F preferred budget work n e out total (sheet n e false out)
-      full h (inl r) = absurd (h r)
-      full h (inr r) = stopped F preferred budget work n e out total f false (omega arith) (no-room refl (omega arith) (omega arith) (r .0) (r .1)) (λ q i x. h x)
+    -- the m openings from n on
+    pub done : (m n e : ℕ) (out′ : List ℕ) → n + m ≡ openings F → Filled F start out n e out′ → Roomy n e out′ → Done (pageFrom ends m n e out′)
+    unfolding pageFrom
+    done zero n e out′ t f r = record { filled = f; stops = at-end refl (omega arith) }
+    done (suc m) n e out′ t f r = elim (decLe (2 * e + 2) (length out′)) [
+      | yes h ↦ rw (le-leb (2 * e + 2) (length out′) h) (go h (ends n) refl (done m (n + 1) (e + 1) (written n e out′) (omega arith)) (done m (n + 1) e out′ (omega arith)))
+      | no h ↦ rw (lt-leb (2 * e + 2) (length out′) (omega arith)) (record { filled = f; stops = full h r })
+    ]
+      where
+        full : (2 * e + 2 ≤ length out′ → ⊥) → Roomy n e out′ → Stops ends (openings F) (length out) (sheet n e false out′)
+        full h (inl r) = absurd (h (rw (f .long) r))
+        full h (inr r) = let l = f .long in no-room refl (omega arith) (omega arith) (r .0) (r .1)
 
-      used : 2 * e + 2 ≤ length out → Roomy (n + 1) (e + 1) (written n e out)
-      used h = let z : e + 1 - 1 ≡ e = omega arith in inr (omega arith, rw (z, written-last n e out h))
-
-      go : 2 * e + 2 ≤ length out → (st : State) → openingSearch F preferred budget work n .state ≡ st
-          → (2 * (e + 1) ≤ length (written n e out) → Roomy (n + 1) (e + 1) (written n e out) → Filled F preferred budget work (n + 1) (e + 1) (written n e out) total (pageFrom F preferred budget work m (n + 1) (e + 1) (written n e out)))
-          → Filled F preferred budget work (n + 1) e out total (pageFrom F preferred budget work m (n + 1) e out)
-          → Filled F preferred budget work n e out total (bySearch st (pageFrom F preferred budget work m (n + 1) (e + 1) (written n e out)) (pageFrom F preferred budget work m (n + 1) e out) (sheet n e true out))
-      go h Valid s a b = goes-won F preferred budget work n e out total f (omega arith) _ h (won F ok bound work lent preferred budget n s) (a (rw (written-length n e out) (omega arith)) (used h))
-      go h Unsat s a b = goes-lost F preferred budget work n e out total f (omega arith) _ (lost F ok bound work lent preferred budget n s) b
-      go h Open s a b = stopped F preferred budget work n e out total f true (omega arith) (unended refl (omega arith) h s) (λ q. clash refl q)
+        go : 2 * e + 2 ≤ length out′ → (st : State) → ends n ≡ st
+            → (Filled F start out (n + 1) (e + 1) (written n e out′) → Roomy (n + 1) (e + 1) (written n e out′) → Done (pageFrom ends m (n + 1) (e + 1) (written n e out′)))
+            → (Filled F start out (n + 1) e out′ → Roomy (n + 1) e out′ → Done (pageFrom ends m (n + 1) e out′))
+            → Done (bySearch st (pageFrom ends m (n + 1) (e + 1) (written n e out′)) (pageFrom ends m (n + 1) e out′) (sheet n e true out′))
+        go h Valid s a b = let z : e + 1 - 1 ≡ e = omega arith in a (filled-won (omega arith) f h (won n s)) (inr (omega arith, rw (z, written-last n e out′ h)))
+        go h Unsat s a b = b (filled-lost (omega arith) f (lost n s)) (inl (rw (← (f .long)) h))
+        go h Open s a b = record { filled = f; stops = unended refl (record { left = omega arith; room = rw (← (f .long)) h; live = s }) }

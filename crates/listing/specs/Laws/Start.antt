@@ -1,30 +1,29 @@
--- "Its search starts from a record of these k values in prefix order, kind 0": the record that an opening's buffers hold, why it passes row 12
--- and is one that the theory can start from. The first V places are wiped and the values are put at their start; the values are of
--- distinct variables, since the prefix has no variable twice.
-use Prim.Native.Nat.{ℕ, suc, _+_, _-_, _≤_}
+-- [opening.start] Where an opening's search starts: the record that its buffers hold, why it passes row 12 and is one that the theory can start
+-- from. The first V places are wiped and the values are put at their start; the values are of distinct variables, since the prefix is.
+use Prim.Native.Nat.{ℕ, zero, suc, _<_}
 use mathlib.Core.Path.{_≡_, refl, sym, _∙_, ap}
 use mathlib.Core.Logic.{inl, inr}
-use mathlib.Core.Bool.{true, false, _||_}
-use mathlib.Core.List.{List, [], _∷_, _++_, append-assoc, zipWith}
+use mathlib.Core.Bool.{true, _||_}
+use mathlib.Core.List.{List, [], _∷_, _++_}
+use native.Mathlib.Nat.{not-suc-le-zero, le-of-suc-le-suc}
 use native.Mathlib.Omega.{arith}
 use lib.IntN.{ℤ, pos}
-use lib.ListN.{length, take, drop, replicate, length-replicate, replicate-append-replicate, take-append-drop}
-use lib.Seq.{sets, sets-eq, length-sets}
+use lib.ListN.{length, getD, take, drop, take-append-drop}
+use lib.Seq.{length-sets, ext-getD}
 use Rattle.words.specs.Laws.Bools.{and-i, or-l, or-r}
 use Rattle.words.specs.Lists.{In, here, there, all}
 use Rattle.formula.specs.Formula.{Formula, firstGroup, existential, universal}
-use Rattle.formula.specs.Block.{twice}
 use Rattle.formula.specs.Laws.Prefix.{stands, stands-i, stands-append, stands-bound}
 use Rattle.theory.specs.Record.{entry, Record, literals, forced}
 use Rattle.theory.specs.Start.{suits, allSuit, Good}
-use Rattle.rules.specs.Trail.{recordOf, wiped, Trail, trail, entries}
-use Rattle.rules.specs.Check.{badRecord}
-use Rattle.rules.specs.Inner.Ready.{Bound, KeptIn, Room}
-use Rattle.rules.specs.Laws.Wiped.{wiped-length}
-use Rattle.rules.specs.Laws.Good.{good-kept}
+use Rattle.rules.specs.Trail.{Trail, wiped, noEntry}
 use Rattle.rules.specs.Search.{recordIn}
-use Rattle.rules.specs.declared.rule.State.the-variants.{Open}
+use Rattle.rules.specs.Inner.Ready.{Bound, KeptIn, Room}
+use Rattle.rules.specs.Laws.Wiped.{wiped-length, wiped-inside}
+use Rattle.rules.specs.Laws.Records.{room-less, record-length, record-get}
+use Rattle.rules.specs.Laws.Good.{good-kept}
 use Rattle.listing.specs.Opening.{groupOf, valuesOf, openingStart}
+use Rattle.listing.specs.Laws.Lists.{sets-first}
 use Rattle.listing.specs.Laws.Values.{values-length, values-stand, values-twice, group-few, group-length, twice-take}
 
 -- ---- a record of forced literals
@@ -41,12 +40,12 @@ unfolding given literals
 given-literals [] = refl
 given-literals (v ∷ vs) = ap (λ (ws : List ℤ). v ∷ ws) (given-literals vs)
 
-pub given-length : (vs : List ℤ) → length (given vs) ≡ length vs
+given-length : (vs : List ℤ) → length (given vs) ≡ length vs
 unfolding given
 given-length [] = refl
 given-length (v ∷ vs) = ap suc (given-length vs)
 
-pub given-forced : (vs : List ℤ) → forced (given vs) ≡ true
+given-forced : (vs : List ℤ) → forced (given vs) ≡ true
 unfolding given forced all
 given-forced [] = refl
 given-forced (v ∷ vs) = given-forced vs
@@ -59,65 +58,13 @@ given-suited p (v ∷ vs) h =
     (elim (stands-bound p v (h v (here refl))) [ inl e ↦ or-l (universal p v) e | inr e ↦ or-r (existential p v) e ])
     (given-suited p vs (λ x i. h x (there i)))
 
--- it is what two buffers hold that begin with the literals and with as many zeros
-given-held : (vs xs : List ℤ) (ys : List ℕ) (k : ℕ) → length vs ≡ k → recordOf (trail (vs ++ xs) (replicate (length vs) 0 ++ ys)) k ≡ given vs
-unfolding given recordOf entries zipWith
-given-held vs xs ys k e = rw (← e) (go vs)
-  where
-    go : (vs : List ℤ) → recordOf (trail (vs ++ xs) (replicate (length vs) 0 ++ ys)) (length vs) ≡ given vs
-    go [] = refl
-    go (v ∷ vs) = ap (λ (r : Record). entry 0 v ∷ r) (go vs)
+given-at : (vs : List ℤ) (i : ℕ) → i < length vs → getD (given vs) i noEntry ≡ entry 0 (getD vs i (pos 0))
+unfolding given
+given-at [] i h = absurd (not-suc-le-zero h)
+given-at (v ∷ vs) zero h = refl
+given-at (v ∷ vs) (suc i) h = given-at vs i (le-of-suc-le-suc h)
 
--- ---- the buffers: the first n places wiped, and then words put at their start
-pub wiped-whole : {A : Type 0} (z : A) (l : List A) (n : ℕ) → n ≤ length l → wiped z l 0 n ≡ replicate n z ++ drop n l
-unfolding wiped
-wiped-whole z l n h =
-    let e : n - 0 ≡ n = omega arith in
-    let f : 0 + n ≡ n = omega arith in
-    let r = length-replicate n z in
-    rw (e, sets-eq (replicate n z) l 0 (rw r (omega arith)), r, f)
-
-pub sets-whole : {A : Type 0} (vs l : List A) → length vs ≤ length l → sets l 0 vs ≡ vs ++ drop (length vs) l
-sets-whole vs l h = let f : 0 + length vs ≡ length vs = omega arith in rw (sets-eq vs l 0 (rw f h), f)
-
--- zeros, of which k are read
-zeros-split : (k n : ℕ) → k ≤ n → _≡_ {A = List ℕ} (replicate n 0) (replicate k 0 ++ replicate (n - k) 0)
-zeros-split k n h = let e : k + (n - k) ≡ n = omega arith in sym (rw e at (replicate-append-replicate {A = ℕ} k (n - k) 0))
-
--- ---- the opening n, on buffers that pass row 11
-module _ (F : Formula) (work : Trail) (n : ℕ) (lent : Room (length (F .prefix)) work) where
-  values-count : length (valuesOf n (groupOf F)) ≡ firstGroup (F .prefix)
-  values-count = values-length n (groupOf F) ∙ group-length F
-
-  -- the buffers hold the values, each forced
-  pub start-held : recordIn (openingStart F work n) ≡ opened F n
-  unfolding openingStart
-  start-held =
-      let k = values-count in
-      let few = group-few (F .prefix) in
-      let w = wiped-length (pos 0) (work .lits) 0 (length (F .prefix)) in
-      rw (
-        sets-whole (valuesOf n (groupOf F)) (wiped (pos 0) (work .lits) 0 (length (F .prefix))) (omega arith),
-        wiped-whole 0 (work .kinds) (length (F .prefix)) (lent .kinds),
-        zeros-split (length (valuesOf n (groupOf F))) (length (F .prefix)) (omega arith),
-        append-assoc (replicate (length (valuesOf n (groupOf F))) 0) (replicate (length (F .prefix) - length (valuesOf n (groupOf F))) 0) (drop (length (F .prefix)) (work .kinds)),
-      ) (given-held (valuesOf n (groupOf F)) _ _ (firstGroup (F .prefix)) k)
-
--- ---- what an opening's search starts from
-pub record Starts (F : Formula) (work : Trail) (n : ℕ) : Type 0 where
-  -- the buffers hold "these k values in prefix order, kind 0", and the search is open
-  pub held : recordIn (openingStart F work n) ≡ opened F n
-  pub values : literals (opened F n) ≡ valuesOf n (groupOf F)
-  pub kinds : forced (opened F n) ≡ true
-  pub count : length (opened F n) ≡ firstGroup (F .prefix)
-  pub live : openingStart F work n .state ≡ Open
-  -- its variables are the first group's
-  pub variables : (x : ℤ) → stands (literals (opened F n)) x ≡ stands (groupOf F) x
-  -- the theory can start from it: each variable once, of the prefix; and rows 11 and 12 would pass
-  pub good : Good F (opened F n)
-  pub kept : KeptIn (F .prefix) (openingStart F work n)
-  pub passes : badRecord (F .prefix) (openingStart F work n .trail) (openingStart F work n .count) ≡ false
-
+-- ---- the opening n
 -- its words are bound by the prefix
 group-stands : (F : Formula) (n : ℕ) (x : ℤ) → In x (valuesOf n (groupOf F)) → stands (F .prefix) x ≡ true
 group-stands F n x i =
@@ -127,33 +74,59 @@ group-stands F n x i =
     let e : stands (take k p ++ drop k p) x ≡ true = rw (stands-append (take k p) (drop k p) x) (or-l (stands (drop k p) x) h) in
     rw (take-append-drop k p) at e
 
+-- what its search starts from, on buffers that pass row 11
+pub record Starts (F : Formula) (work : Trail) (n : ℕ) : Type 0 where
+  -- the buffers hold the values, all of kind 0
+  pub held : recordIn (openingStart F work n) ≡ opened F n
+  pub kinds : forced (opened F n) ≡ true
+  pub count : length (opened F n) ≡ firstGroup (F .prefix)
+  -- the theory can start from it: each variable once, of the prefix; and rows 11 and 12 would pass
+  pub good : Good F (opened F n)
+  pub kept : KeptIn (F .prefix) (openingStart F work n)
+
 module _ (F : Formula) (bound : Bound (F .prefix)) (work : Trail) (n : ℕ) (lent : Room (length (F .prefix)) work) where
-  opened-once : twice (literals (opened F n)) ≡ false
-  opened-once = rw (given-literals (valuesOf n (groupOf F))) (values-twice n (groupOf F) (twice-take (firstGroup (F .prefix)) (F .prefix) (bound .once)))
+  values-count : length (valuesOf n (groupOf F)) ≡ firstGroup (F .prefix)
+  values-count = values-length n (groupOf F) ∙ group-length F
+
+  start-room : Room (length (F .prefix)) (openingStart F work n .trail)
+  unfolding openingStart
+  start-room = record { lits = rw (length-sets, wiped-length) (lent .lits); kinds = rw wiped-length (lent .kinds) }
+
+  start-held : recordIn (openingStart F work n) ≡ opened F n
+  unfolding openingStart
+  start-held =
+      let t = openingStart F work n .trail in
+      let k = firstGroup (F .prefix) in
+      let few = group-few (F .prefix) in
+      let v = values-count in
+      let w = wiped-length (pos 0) (work .lits) 0 (length (F .prefix)) in
+      let room : Room k t = room-less few start-room in
+      let e = record-length t k room in
+      ext-getD noEntry (recordIn (openingStart F work n)) (opened F n) (e ∙ sym (given-length (valuesOf n (groupOf F)) ∙ v)) (λ i h. (
+      record-get t k room i (rw e at h)
+      ∙ rw (
+        wiped-inside 0 (work .kinds) 0 (length (F .prefix)) i (omega arith) (omega arith),
+        sets-first (valuesOf n (groupOf F)) (wiped (pos 0) (work .lits) 0 (length (F .prefix))) i (pos 0) (omega arith) (omega arith),
+        given-at (valuesOf n (groupOf F)) i (omega arith),
+      )
+      ))
 
   opened-good : Good F (opened F n)
-  opened-good = record { distinct = opened-once; suited = given-suited (F .prefix) (valuesOf n (groupOf F)) (group-stands F n) }
-
-  start-passes : badRecord (F .prefix) (openingStart F work n .trail) (openingStart F work n .count) ≡ false
-  unfolding openingStart
-  start-passes =
-      good-kept F (openingStart F work n .trail) (firstGroup (F .prefix)) bound (group-few (F .prefix))
-      (rw (start-held F work n lent) opened-good)
+  opened-good = record {
+    distinct = rw (given-literals (valuesOf n (groupOf F))) (values-twice n (groupOf F) (twice-take (firstGroup (F .prefix)) (F .prefix) (bound .once)));
+    suited = given-suited (F .prefix) (valuesOf n (groupOf F)) (group-stands F n);
+  }
 
   pub starts : Starts F work n
   unfolding openingStart
   starts = record {
-    held = start-held F work n lent;
-    values = given-literals (valuesOf n (groupOf F));
+    held = start-held;
     kinds = given-forced (valuesOf n (groupOf F));
-    count = given-length (valuesOf n (groupOf F)) ∙ values-length n (groupOf F) ∙ group-length F;
-    live = refl;
-    variables = λ x. rw (given-literals (valuesOf n (groupOf F))) (values-stand n (groupOf F) x);
+    count = given-length (valuesOf n (groupOf F)) ∙ values-count;
     good = opened-good;
     kept = record {
       prefix = bound;
-      room = record { lits = rw (length-sets, wiped-length) (lent .lits); kinds = rw wiped-length (lent .kinds) };
-      good = start-passes;
+      room = start-room;
+      good = good-kept F (openingStart F work n .trail) (firstGroup (F .prefix)) bound (group-few (F .prefix)) (rw start-held opened-good);
     };
-    passes = start-passes;
   }

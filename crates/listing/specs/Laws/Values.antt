@@ -1,19 +1,18 @@
 -- Laws of an opening's values: there is one for each word of the group, of the same variable, in the same order; and the first group is the
 -- start of the prefix. By induction on the group.
-use Prim.Native.Nat.{ℕ, zero, suc, _+_, _-_, _^_, _/_, _%_, _≤_, _<_}
+use Prim.Native.Nat.{ℕ, zero, suc, _-_, _^_, _/_, _%_, _≤_}
 use mathlib.Core.Path.{_≡_, refl, sym, _∙_, ap}
 use mathlib.Core.Logic.{inl, inr}
 use mathlib.Core.Bool.{Bool, false, Bool·beq}
 use mathlib.Core.List.{List, [], _∷_}
-use native.Mathlib.Numerals.{add-one}
 use native.Mathlib.Omega.{arith}
 use lib.Dec.{eqb}
 use lib.IntN.{ℤ, pos, natAbs}
-use lib.ListN.{length, getD, take, drop, set, length-drop, take-append-drop}
-use lib.Seq.{sets, length-take-le}
+use lib.ListN.{length, take, drop, take-append-drop}
+use lib.Seq.{length-take-le}
 use Rattle.words.specs.Laws.Bools.{look, or-fl, eqb-ne}
 use Rattle.words.specs.Lists.{In}
-use Rattle.words.specs.Laws.Lists.{next, in-drop}
+use Rattle.words.specs.Laws.Lists.{in-drop}
 use Rattle.words.specs.Words.{negative}
 use Rattle.words.specs.Laws.Words.{natAbs-neg}
 use Rattle.formula.specs.Formula.{Formula, run, firstGroup}
@@ -22,7 +21,7 @@ use Rattle.formula.specs.Laws.Prefix.{stands, stands-none, stands-step, stands-
 use Rattle.listing.specs.Opening.{groupOf, valuesOf, valueAt}
 
 -- ---- one value
-pub value-variable : (n j : ℕ) (q : ℤ) → natAbs (valueAt n j q) ≡ natAbs q
+value-variable : (n j : ℕ) (q : ℤ) → natAbs (valueAt n j q) ≡ natAbs q
 value-variable n j q = elim (look (eqb (n / 2 ^ j % 2) 1)) [ inl e ↦ rw e | inr e ↦ rw e (natAbs-neg (pos (natAbs q))) ]
 
 stands-var : (ws : List ℤ) (x y : ℤ) → natAbs x ≡ natAbs y → stands ws x ≡ stands ws y
@@ -48,16 +47,6 @@ module _ (n : ℕ) where
   values-twice (q ∷ g) h =
       let v = valueAt n (length g) q in
       twice-cons v (valuesOf n g) (values-stand g v ∙ stands-var g v q (value-variable n (length g) q) ∙ twice-head q g h) (values-twice g (twice-tail q g h))
-
-  -- the value at place i, and the rest, as a loop over the group sees them
-  pub values-from : (g : List ℤ) (i : ℕ) → i < length g → valuesOf n (drop i g) ≡ valueAt n (length g - (i + 1)) (getD g i (pos 0)) ∷ valuesOf n (drop (i + 1) g)
-  unfolding valuesOf
-  values-from g i h = rw (next g i (pos 0) h, length-drop (i + 1) g)
-
--- one more value written
-pub values-next : (n : ℕ) (g ls : List ℤ) (i : ℕ) → i < length g
-    → sets ls i (valuesOf n (drop i g)) ≡ sets (set ls i (valueAt n (length g - (i + 1)) (getD g i (pos 0)))) (i + 1) (valuesOf n (drop (i + 1) g))
-values-next n g ls i h = rw (values-from n g i h, add-one i)
 
 -- ---- the first group and the rest of the prefix
 run-few : (s : Bool) (p : List ℤ) → run s p ≤ length p

@@ -1,7 +1,7 @@
 -- What the functions over the two buffers say to each other.
 use Prim.Native.Nat.{ℕ, zero, suc, _≤_, _<_}
 use mathlib.Core.Path.{_≡_}
-use mathlib.Core.Bool.{Bool, false, cond, _&&_, _||_}
+use mathlib.Core.Bool.{Bool, false, cond, not, _&&_, _||_}
 use mathlib.Core.List.{List}
 use lib.Dec.{eqb, ltb}
 use lib.IntN.{ℤ, pos, natAbs}
@@ -19,12 +19,7 @@ pub record Cuttable (i n : ℕ) (t : Trail) : Type 0 where
   pub room : Room n t
   pub small : natAbs (getD (t .lits) i (pos 0)) ≤ 2147483647
 
--- buffers that row 12 can be asked of: rows 1 to 11 have passed
-pub record Lent (p : List ℤ) (t : Trail) : Type 0 where
-  pub prefix : Bound p
-  pub room : Room (length p) t
-
--- and then those whose kinds can be looked at: the record's words name variables of the prefix
+-- buffers whose kinds can be looked at: the record's words name variables of the prefix
 pub record KindsLent (p : List ℤ) (t : Trail) (n : ℕ) : Type 0 where
   pub prefix : Bound p
   pub room : Room n t
@@ -35,6 +30,6 @@ unfoldable pub lastKind : List ℕ → ℕ → ℕ → Found
 lastKind ks k zero = Nothing
 lastKind ks k (suc i) = cond (eqb (getD ks i 0) k) (At i) (lastKind ks k i)
 
--- a kind above 2, or of the other quantifier than the sign's: 1 for a positive word of the prefix, 2 for a negative one
+-- a kind above 2, or of the other quantifier than the variable's
 abbrev pub wrongKind : ℕ → ℕ → Bool
-wrongKind k sign = ltb 2 k || (eqb k 1 && eqb sign 2) || (eqb k 2 && eqb sign 1)
+wrongKind k quantifier = ltb 2 k || (eqb k 1 && eqb quantifier 2) || (eqb k 2 && not (eqb quantifier 2))

@@ -1,52 +1,51 @@
 -- Tables by literal: what each place of a table says. A literal's place is formula's.
 use Prim.Native.Nat.{ℕ, _≤_, _<_}
-use mathlib.Core.Bool.{cond}
+use mathlib.Core.Bool.{Bool, cond}
 use mathlib.Core.Path.{_≡_}
-use mathlib.Core.List.{List}
+use mathlib.Core.List.{List, _∷_}
 use lib.Dec.{eqb}
 use lib.IntN.{ℤ, natAbs}
-use lib.ListN.{getD}
-use borrow.Author.Tests.{eq-eqb, ne-eqb}
+use lib.ListN.{length, getD}
 use Rattle.words.specs.Words.{mem}
-use Rattle.formula.specs.Inner.Places.{placeOf, wordAt}
+use Rattle.formula.specs.Inner.Places.{literalPlaces, placeOf, wordAt}
+use Rattle.theory.specs.Record.{Assignment}
+use Rattle.theory.specs.Tests.{occurs, untrueOf}
 use Rattle.rules.specs.Inner.Tables.{signOf}
 
--- 1 at the place of each literal that is one of the words, else 0
-abbrev pub Occurring : List ℤ → List ℕ → Type 0
-Occurring ws t = (at : ℕ) → getD t at 0 ≡ cond (mem (wordAt at) ws) 1 0
+-- 1 at the place of each literal that occurs in the clauses, else 0
+abbrev pub Occurring : List (List ℤ) → List ℕ → Type 0
+Occurring m t = (at : ℕ) → getD t at 0 ≡ cond (occurs m (wordAt at)) 1 0
+
+-- after the literals of a clause are marked, those of it have a 1, and the others what they had
+pub record Marked (C : List ℤ) (t t′ : List ℕ) : Type 0 where
+  pub long : length t′ ≡ literalPlaces
+  pub said : (at : ℕ) → getD t′ at 0 ≡ cond (mem (wordAt at) C) 1 (getD t at 0)
+
+-- what a place has when those of the clauses m with no true literal are marked on the table t
+abbrev pub markedBy : Assignment → List ℕ → List (List ℤ) → ℕ → ℕ
+markedBy ρ t m at = cond (occurs (untrueOf ρ m) (wordAt at)) 1 (getD t at 0)
+
+-- a clause is counted: to mark those of the clauses m after it is to mark those of it and m
+pub record Counted (ρ : Assignment) (C : List ℤ) (t t′ : List ℕ) : Type 0 where
+  pub long : length t′ ≡ literalPlaces
+  pub said : (m : List (List ℤ)) (at : ℕ) → markedBy ρ t′ m at ≡ markedBy ρ t (C ∷ m) at
 
 -- what a literal is to its clause: 0 false, 1 true, 2 unassigned existential, 3 unassigned universal
 abbrev pub statusOf : ℕ → ℕ → ℕ → ℕ
-statusOf value universal sign = cond (eqb value 0) (cond (eqb universal 0) 2 3) (cond (eqb value sign) 1 0)
+statusOf value quantifier sign = cond (eqb value 0) (cond (eqb quantifier 2) 3 2) (cond (eqb value sign) 1 0)
 
--- by the tables of values and of universal variables
+-- by the tables of values and of quantifiers
 unfoldable pub statusBy : List ℕ → List ℕ → ℤ → ℕ
-statusBy values universals x = statusOf (getD values (natAbs x) 0) (getD universals (natAbs x) 0) (signOf x)
+statusBy values quantifiers x = statusOf (getD values (natAbs x) 0) (getD quantifiers (natAbs x) 0) (signOf x)
 
 -- by a table of its own
 abbrev pub statusIn : List ℕ → ℤ → ℕ
 statusIn statuses x = getD statuses (placeOf x) 0
 
+-- a status says that the literal is true
+abbrev pub trueBy : (ℤ → ℕ) → ℤ → Bool
+trueBy st x = eqb (st x) 1
+
 -- the two say the same of the literals of the variables 1 to n
 abbrev pub Statuses : ℕ → List ℕ → List ℕ → List ℕ → Type 0
-Statuses n values universals statuses = (x : ℤ) → 0 < natAbs x → natAbs x ≤ n → statusIn statuses x ≡ statusBy values universals x
-
--- ---- laws of the status: what each of its tests leaves
-module _ (values universals : List ℕ) (x : ℤ) where
-  module _ (z : getD values (natAbs x) 0 ≡ 0) where
-    pub is-existential : getD universals (natAbs x) 0 ≡ 0 → 2 ≡ statusBy values universals x
-    unfolding statusBy
-    is-existential u = rw (eq-eqb _ _ z, eq-eqb _ _ u)
-
-    pub is-universal : (getD universals (natAbs x) 0 ≡ 0 → ⊥) → 3 ≡ statusBy values universals x
-    unfolding statusBy
-    is-universal u = rw (eq-eqb _ _ z, ne-eqb _ _ u)
-
-  module _ (z : getD values (natAbs x) 0 ≡ 0 → ⊥) where
-    pub is-true : getD values (natAbs x) 0 ≡ signOf x → 1 ≡ statusBy values universals x
-    unfolding statusBy
-    is-true h = rw (ne-eqb _ _ z, eq-eqb _ _ h)
-
-    pub is-false : (getD values (natAbs x) 0 ≡ signOf x → ⊥) → 0 ≡ statusBy values universals x
-    unfolding statusBy
-    is-false h = rw (ne-eqb _ _ z, ne-eqb _ _ h)
+Statuses n values quantifiers statuses = (x : ℤ) → 0 < natAbs x → natAbs x ≤ n → statusIn statuses x ≡ statusBy values quantifiers x

@@ -1,11 +1,12 @@
 -- The tests of a clause over the tables: what the code's inner functions say to each other. A reader of `due` needs none of it.
 use Prim.Native.Nat.{ℕ, zero, suc, _≤_, min}
 use mathlib.Core.Path.{_≡_}
-use mathlib.Core.Bool.{Bool, true, false, _&&_, cond}
+use mathlib.Core.Bool.{Bool, true, false, cond, not, _&&_, _||_}
 use mathlib.Core.List.{List, [], _∷_}
-use lib.Dec.{ltb, leb}
+use lib.Dec.{eqb, ltb, leb}
 use lib.IntN.{ℤ, pos, natAbs}
 use lib.ListN.{length, getD}
+use Rattle.words.specs.Lists.{any}
 use Rattle.words.specs.Words.{eqZ}
 use Rattle.formula.specs.Limits.{limits}
 use Rattle.formula.specs.Block.{badEnds}
@@ -36,10 +37,12 @@ byStatus (suc zero) f t e u = t
 byStatus (suc (suc zero)) f t e u = e
 byStatus (suc (suc (suc n))) f t e u = u
 
--- "no true literal and no unassigned existential literal", by the literals' status
+-- a literal that keeps its clause from conflict, and the clause in conflict, by the literals' status [conflict]
+unfoldable pub keepsBy : (ℤ → ℕ) → ℤ → Bool
+keepsBy st x = eqb (st x) 1 || eqb (st x) 2
+
 unfoldable pub conflictBy : (ℤ → ℕ) → List ℤ → Bool
-conflictBy st [] = true
-conflictBy st (x ∷ C) = byStatus (st x) (conflictBy st C) false false (conflictBy st C)
+conflictBy st C = not (any (keepsBy st) C)
 
 -- by the literals' status and level. `above` is the lowest level of the unassigned universal literals so far, more than any level if there is
 -- none

@@ -5,7 +5,7 @@ use mathlib.Core.Path.{_≡_}
 use mathlib.Core.Logic.{_⊎_}
 use mathlib.Core.Bool.{true, false}
 use mathlib.Core.List.{List}
-use lib.IntN.{ℤ, natAbs}
+use lib.IntN.{ℤ, pos, natAbs}
 use lib.ListN.{length}
 use Rattle.words.specs.Lists.{any}
 use Rattle.formula.specs.Limits.{limits}
@@ -15,10 +15,12 @@ use Rattle.theory.specs.Record.{Assignment}
 use Rattle.theory.specs.Tests.{isOpen}
 use Rattle.rules.specs.Trail.{Trail}
 use Rattle.rules.specs.Search.{Search}
+use Rattle.rules.specs.Apply.{moveOf}
 use Rattle.rules.specs.Check.{badRecord}
 use Rattle.rules.specs.Inner.Tables.{Written}
 use Rattle.rules.specs.declared.rule.Rule.{Rule}
-use Rattle.rules.specs.declared.rule.Rule.the-variants.{BacktrackExists, Fail, Unit, Monotone, Decide, BacktrackForall, Succeed}
+use Rattle.rules.specs.declared.rule.Move.{Move}
+use Rattle.rules.specs.declared.rule.Move.the-variants.{Append, Flip, End}
 
 -- ---- the block's parts
 -- the formula of a prefix, clause ends and literal words
@@ -62,15 +64,15 @@ pub record HeldOn (b ls : List ℤ) (n : ℕ) : Type 0 where
   pub block : refusal limits b ≡ 0
   pub written : Written ls n
 
--- a rule has a place to write to: a cut is inside the record, and an entry more is inside the buffers
+-- a move has a place to write to: a cut is inside the record, and an entry more is inside the buffers
+abbrev pub MoveFits : List ℤ → ℕ → Move → Type 0
+MoveFits p n (Append k x) = n < length p
+MoveFits p n (Flip i) = i < n
+MoveFits p n (End t) = n ≤ n
+
+-- and so a rule, whatever the proposal
 abbrev pub Fitting : List ℤ → ℕ → Rule → Type 0
-Fitting p n (BacktrackExists i c) = i < n
-Fitting p n (Fail c) = n ≤ n
-Fitting p n (Unit l c) = n < length p
-Fitting p n (Monotone l) = n < length p
-Fitting p n (Decide l) = n < length p
-Fitting p n (BacktrackForall i) = i < n
-Fitting p n Succeed = n ≤ n
+Fitting p n rule = MoveFits p n (moveOf p rule (pos 0))
 
 -- a proposal that Decide may take: 0, or an open literal
 abbrev pub Permitted : List ℤ → Assignment → ℤ → Type 0

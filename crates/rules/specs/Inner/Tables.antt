@@ -7,12 +7,10 @@ use lib.Dec.{leb}
 use lib.IntN.{ℤ, pos, negsuc, negℤ}
 use lib.ListN.{length, getD, take}
 use Rattle.words.specs.Lists.{any, all}
-use Rattle.words.specs.Words.{mem}
-use Rattle.formula.specs.Formula.{universal, levelOf, level}
+use Rattle.formula.specs.Formula.{levelOf, level}
 use Rattle.formula.specs.Limits.{limits, maxVariables}
 use Rattle.formula.specs.Block.{noVariable, names, twice}
-use Rattle.theory.specs.Record.{Assignment, assigned}
-use Rattle.theory.specs.Tests.{occurs}
+use Rattle.theory.specs.Record.{Assignment, among, assigned}
 
 -- a table has a place for each variable, and place 0
 abbrev pub places : ℕ
@@ -23,20 +21,17 @@ abbrev pub signOf : ℤ → ℕ
 signOf (pos n) = 1
 signOf (negsuc n) = 2
 
--- the value of a variable: 0 unassigned, 1 true, 2 false
-abbrev pub valueOf : Assignment → ℕ → ℕ
-valueOf ρ v = cond (ρ (pos v)) 1 (cond (ρ (negℤ (pos v))) 2 0)
-
--- the signs with which a variable occurs: 0 none, 1 positive, 2 negative, 3 both
-abbrev pub signsOf : List ℤ → ℕ → ℕ
-signsOf ls v = cond (mem (pos v) ls) (cond (mem (negℤ (pos v)) ls) 3 1) (cond (mem (negℤ (pos v)) ls) 2 0)
+-- what a table of values holds for a variable: 0 unassigned, 1 true, 2 false
+abbrev pub valueIn : Assignment → ℕ → ℕ
+valueIn ρ v = cond (ρ (pos v)) 1 (cond (ρ (negℤ (pos v))) 2 0)
 
 -- each table, at every variable
 abbrev pub Values : Assignment → List ℕ → Type 0
-Values ρ t = (v : ℕ) → getD t v 0 ≡ valueOf ρ v
+Values ρ t = (v : ℕ) → getD t v 0 ≡ valueIn ρ v
 
-abbrev pub Universals : List ℤ → List ℕ → Type 0
-Universals p t = (v : ℕ) → getD t v 0 ≡ cond (universal p (pos v)) 1 0
+-- of the prefix's own words: 1 existential, 2 universal
+abbrev pub Quantifiers : List ℤ → List ℕ → Type 0
+Quantifiers p t = Values (among p) t
 
 abbrev pub Levels : List ℤ → List ℕ → Type 0
 Levels p t = (v : ℕ) → any (names v) p ≡ true → getD t v 0 ≡ levelOf p v
@@ -50,10 +45,6 @@ pub record Written (ls : List ℤ) (n : ℕ) : Type 0 where
   pub room : n ≤ length ls
   pub named : Known (take n ls)
   pub once : twice (take n ls) ≡ false
-
--- a literal occurs in the clauses m exactly if it is one of their literal words ls
-abbrev pub Spread : List ℤ → List (List ℤ) → Type 0
-Spread ls m = (l : ℤ) → occurs m l ≡ mem l ls
 
 -- n is the lowest level of an unassigned variable: it is at least k exactly if each variable of a level below k is assigned
 abbrev pub Lowest : List ℤ → Assignment → ℕ → Type 0

@@ -17,10 +17,11 @@ use Rattle.words.specs.Words.{eqZ, mem}
 use Rattle.words.specs.Laws.Words.{eqZ-refl, mem-i, mem-e}
 use Rattle.formula.specs.Formula.{level}
 use Rattle.theory.specs.Record.{Assignment}
-use Rattle.theory.specs.Tests.{unassignedE, unassignedU, inConflict, unitOn}
+use Rattle.theory.specs.Tests.{unassignedE, unassignedU, inConflict, unitOn, untrueOf}
 use Rattle.rules.specs.Due.{onFound, onPicked, literal, lowest, candidate, isUnit, lowestUnit}
 use Rattle.rules.specs.Inner.Tabled.{Sorted, as-false, as-true, as-existential, as-universal}
-use Rattle.rules.specs.Inner.Clauses.{conflictBy, staysUnit, unitFrom, lowestUnitBy}
+use Rattle.rules.specs.Inner.ByLiteral.{trueBy}
+use Rattle.rules.specs.Inner.Clauses.{keepsBy, conflictBy, staysUnit, unitFrom, lowestUnitBy}
 use Rattle.rules.specs.declared.found.Picked.{Picked}
 use Rattle.rules.specs.declared.found.Picked.the-variants.{Is, NoLiteral}
 use Rattle.rules.specs.declared.found.Found.the-variants.{At}
@@ -45,7 +46,7 @@ module _ {A : Type 0} (f g : A → Bool) where
 -- p is the prefix, ρ says which literals are true, st is a literal's status
 module _ (p : List ℤ) (ρ : Assignment) (st : ℤ → ℕ) where
   conflict-means : (C : List ℤ) → ((x : ℤ) → In x C → Sorted p ρ st x) → conflictBy st C ≡ inConflict p ρ C
-  unfolding conflictBy inConflict any
+  unfolding conflictBy keepsBy inConflict any
   conflict-means [] h = refl
   conflict-means (x ∷ C) h = go (h x (here refl)) (conflict-means C (λ y i. h y (there i)))
     where
@@ -57,6 +58,23 @@ module _ (p : List ℤ) (ρ : Assignment) (st : ℤ → ℕ) where
 
   pub lowest-conflict-means : (m : List (List ℤ)) → ((C : List ℤ) → In C m → (x : ℤ) → In x C → Sorted p ρ st x) → lowest (conflictBy st) 0 m ≡ lowest (inConflict p ρ) 0 m
   lowest-conflict-means m h = lowest-same (conflictBy st) (inConflict p ρ) 0 m (λ C i. conflict-means C (h C i))
+
+  -- a status says whether its literal is true
+  status-true : (x : ℤ) → Sorted p ρ st x → trueBy st x ≡ ρ x
+  status-true x (as-false s t e u) = rw (s, t)
+  status-true x (as-true s t) = rw (s, t)
+  status-true x (as-existential s t e u) = rw (s, t)
+  status-true x (as-universal s t e u) = rw (s, t)
+
+  any-true : (C : List ℤ) → ((x : ℤ) → In x C → Sorted p ρ st x) → any (trueBy st) C ≡ any ρ C
+  unfolding any
+  any-true [] h = refl
+  any-true (x ∷ C) h = rw (status-true x (h x (here refl)), any-true C (λ y i. h y (there i)))
+
+  pub untrue-means : (m : List (List ℤ)) → ((C : List ℤ) → In C m → (x : ℤ) → In x C → Sorted p ρ st x) → untrueOf (trueBy st) m ≡ untrueOf ρ m
+  unfolding untrueOf
+  untrue-means [] h = refl
+  untrue-means (C ∷ m) h = rw (any-true C (h C (here refl)), untrue-means m (λ D i. h D (there i)))
 
 -- and lev its level
 module _ (p : List ℤ) (ρ : Assignment) (st lev : ℤ → ℕ) where

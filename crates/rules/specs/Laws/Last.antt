@@ -10,11 +10,11 @@ use borrow.Author.Tests.{eqb-true}
 use Rattle.words.specs.Laws.Bools.{and-i, not-f}
 use Rattle.words.specs.Lists.{all}
 use Rattle.theory.specs.Record.{Entry, Record, without}
-use Rattle.rules.specs.Trail.{Trail, recordOf}
+use Rattle.rules.specs.Trail.{Trail, recordOf, entryAt, noEntry}
 use Rattle.rules.specs.Due.{onFound, last}
 use Rattle.rules.specs.Inner.Ready.{Room}
 use Rattle.rules.specs.Inner.Buffers.{lastKind}
-use Rattle.rules.specs.Laws.Records.{noEntry, entryAt, room-less, record-length, record-more}
+use Rattle.rules.specs.Laws.Records.{room-less, record-length, record-more}
 use Rattle.rules.specs.declared.found.Found.{Found}
 use Rattle.rules.specs.declared.found.Found.the-variants.{At, Nothing}
 

@@ -19,19 +19,12 @@ use Rattle.formula.specs.Block.{noVariable, twice}
 use Rattle.formula.specs.Inner.Named.{Named}
 use Rattle.formula.specs.Laws.Named.{named}
 use Rattle.theory.specs.Record.{Entry, entry, Record, literals}
-use Rattle.rules.specs.Trail.{Trail, trail, entries, recordOf, put, wiped, wipedTrail}
+use Rattle.rules.specs.Trail.{Trail, trail, entries, recordOf, noEntry, entryAt, put, wiped, wipedTrail}
 use Rattle.rules.specs.Check.{badKind, badEntries, badRecord}
 use Rattle.rules.specs.Inner.Ready.{Room, Kept}
 use Rattle.rules.specs.Laws.Wiped.{wiped-length, wiped-before}
 
 -- ---- both buffers as one list
--- the entry past the end
-abbrev pub noEntry : Entry
-noEntry = entry 0 (pos 0)
-
-abbrev pub entryAt : Trail → ℕ → Entry
-entryAt t i = entry (getD (t .kinds) i 0) (getD (t .lits) i (pos 0))
-
 entries-length : (ls : List ℤ) (ks : List ℕ) → length (entries (trail ls ks)) ≡ min (length ls) (length ks)
 unfolding entries zipWith
 entries-length [] ks = omega arith

@@ -1,22 +1,23 @@
 -- What each search of the due rule finds, and what it means that it finds nothing. By induction on the list that is searched.
 use Prim.Native.Nat.{ℕ, suc, _+_}
-use mathlib.Core.Path.{_≡_, refl, sym, ap}
+use mathlib.Core.Path.{_≡_, refl, sym, ap, _∙_}
 use mathlib.Core.Logic.{_⊎_, inl, inr}
 use mathlib.Core.Bool.{Bool, true, false, _||_, cond}
-use mathlib.Core.List.{List, [], _∷_}
+use mathlib.Core.List.{List, [], _∷_, _++_}
 use native.Mathlib.Omega.{arith}
 use lib.IntN.{ℤ, pos, negℤ, natAbs}
 use lib.ListN.{getD}
-use Rattle.words.specs.Laws.Bools.{and-i}
-use Rattle.words.specs.Lists.{In, here, there, all, any}
+use Rattle.words.specs.Lists.{In, here, there, any}
+use Rattle.words.specs.Laws.Lists.{all-i}
 use Rattle.words.specs.declared.Literal.{Literal}
 use Rattle.theory.specs.Record.{Assignment, assigned}
 use Rattle.theory.specs.Tests.{unitOn, monotone, isOpen, allAssigned}
 use Rattle.theory.specs.Laws.First.{First}
-use Rattle.rules.specs.Due.{literal, onFound, lowest, candidate, isUnit, lowestUnit, firstMonotone, firstUnassigned}
+use Rattle.rules.specs.Due.{literal, onFound, onPicked, firstOf, lowest, candidate, isUnit, lowestUnit, firstMonotone, firstUnassigned}
 use Rattle.rules.specs.Preferred.{firstOpen}
 use Rattle.rules.specs.declared.found.Found.{Found}
 use Rattle.rules.specs.declared.found.Found.the-variants.{At, Nothing}
+use Rattle.rules.specs.declared.found.Picked.{Picked}
 use Rattle.rules.specs.declared.found.Picked.the-variants.{Is, NoLiteral}
 use Rattle.rules.specs.declared.found.UnitFound.the-variants.{On, NoUnit}
 
@@ -61,51 +62,98 @@ unit-found p m ρ l c e = go (lowest (isUnit p ρ) 0 m) refl e
         record { clause = getD m i []; inside = rw z at t; decides = rw (← w0) (rw z at u) }
     go Nothing q e = let z : _≡_ {A = ℕ} 0 1 = cc in absurd (omega arith)
 
+-- ---- the first that a test picks
+pub record Picks (f : ℤ → Picked) (xs : List ℤ) (l : Literal) : Type 0 where
+  pub before : List ℤ
+  pub word : ℤ
+  pub after : List ℤ
+  pub whole : xs ≡ before ++ word ∷ after
+  pub none : (x : ℤ) → In x before → f x ≡ NoLiteral
+  pub is : f word ≡ Is l
+
+module _ (f : ℤ → Picked) where
+  pub first-none : (xs : List ℤ) → firstOf f xs ≡ NoLiteral → (x : ℤ) → In x xs → f x ≡ NoLiteral
+  unfolding firstOf
+  first-none [] e x i = elim i [ ]
+  first-none (y ∷ xs) e x i = go (f y) refl e i (λ e. first-none xs e x)
+    where
+      go : (o : Picked) → f y ≡ o → onPicked o Is (firstOf f xs) ≡ NoLiteral → In x (y ∷ xs) → (firstOf f xs ≡ NoLiteral → In x xs → f x ≡ NoLiteral) → f x ≡ NoLiteral
+      go (Is l) p e i ih = let z : _≡_ {A = ℕ} 0 1 = cc in absurd (omega arith)
+      go NoLiteral p e (here q) ih = rw q p
+      go NoLiteral p e (there i) ih = ih e i
+
+  pub first-found : (xs : List ℤ) (l : Literal) → firstOf f xs ≡ Is l → Picks f xs l
+  unfolding firstOf
+  first-found [] l e = let z : _≡_ {A = ℕ} 0 1 = cc in absurd (omega arith)
+  first-found (x ∷ xs) l e = go (f x) refl (first-found xs l) e
+    where
+      go : (o : Picked) → f x ≡ o → (firstOf f xs ≡ Is l → Picks f xs l) → onPicked o Is (firstOf f xs) ≡ Is l → Picks f (x ∷ xs) l
+      go (Is k) p ih e = record { before = []; word = x; after = xs; whole = refl; none = λ y i. elim i [ ]; is = p ∙ e }
+      go NoLiteral p ih e =
+          let w = ih e in
+          record { before = x ∷ w .before; word = w .word; after = w .after; whole = ap (λ (t : List ℤ). x ∷ t) (w .whole); none = none w; is = w .is }
+        where
+          none : (w : Picks f xs l) (y : ℤ) → In y (x ∷ w .before) → f y ≡ NoLiteral
+          none w y (here q) = rw q p
+          none w y (there i) = w .none y i
+
+  -- tests that agree on a list's words pick the same
+  pub first-same : (g : ℤ → Picked) (xs : List ℤ) → ((x : ℤ) → In x xs → f x ≡ g x) → firstOf f xs ≡ firstOf g xs
+  unfolding firstOf
+  first-same g [] h = refl
+  first-same g (x ∷ xs) h = rw (h x (here refl), first-same g xs (λ y i. h y (there i)))
+
 -- ---- Monotone
-pub monotone-found : (p : List ℤ) (m : List (List ℤ)) (ρ : Assignment) (qs : List ℤ) (l : Literal) → firstMonotone p m ρ qs ≡ Is l → monotone p m ρ (l .0) ≡ true
+pub monotone-found : (p : List ℤ) (m : List (List ℤ)) (ρ : Assignment) (l : Literal) → firstMonotone p m ρ ≡ Is l → monotone p m ρ (l .0) ≡ true
 unfolding firstMonotone
-monotone-found p m ρ [] l e = let z : _≡_ {A = ℕ} 0 1 = cc in absurd (omega arith)
-monotone-found p m ρ (q ∷ qs) l e = go (monotone p m ρ q) (monotone p m ρ (negℤ q)) refl refl (monotone-found p m ρ qs l) e
+monotone-found p m ρ l e = let w = first-found _ p l e in go (w .word) (monotone p m ρ (w .word)) (monotone p m ρ (negℤ (w .word))) refl refl (w .is)
   where
     same : (x : ℤ) → literal x ≡ l → monotone p m ρ x ≡ true → monotone p m ρ (l .0) ≡ true
     same x w h = let z : x ≡ l .0 = ap (λ (y : Literal). y .0) w in rw z at h
 
-    go : (a b : Bool) → monotone p m ρ q ≡ a → monotone p m ρ (negℤ q) ≡ b → (firstMonotone p m ρ qs ≡ Is l → monotone p m ρ (l .0) ≡ true)
-        → cond a (Is (literal q)) (cond b (Is (literal (negℤ q))) (firstMonotone p m ρ qs)) ≡ Is l → monotone p m ρ (l .0) ≡ true
-    go true b s t ih e = same q (cc) s
-    go false true s t ih e = same (negℤ q) (cc) t
-    go false false s t ih e = ih e
+    go : (q : ℤ) (a b : Bool) → monotone p m ρ q ≡ a → monotone p m ρ (negℤ q) ≡ b → cond a (Is (literal q)) (cond b (Is (literal (negℤ q))) NoLiteral) ≡ Is l → monotone p m ρ (l .0) ≡ true
+    go q true b s t e = same q (cc) s
+    go q false true s t e = same (negℤ q) (cc) t
+    go q false false s t e = let z : _≡_ {A = ℕ} 0 1 = cc in absurd (omega arith)
 
 -- ---- the first unassigned variable
-pub unassigned-none : (ρ : Assignment) (qs : List ℤ) → firstUnassigned ρ qs ≡ NoLiteral → allAssigned qs ρ ≡ true
-unfolding firstUnassigned allAssigned all
-unassigned-none ρ [] e = refl
-unassigned-none ρ (q ∷ qs) e = go (assigned ρ q) refl (unassigned-none ρ qs) e
-  where
-    go : (b : Bool) → assigned ρ q ≡ b → (firstUnassigned ρ qs ≡ NoLiteral → all (assigned ρ) qs ≡ true) → cond b (firstUnassigned ρ qs) (Is (literal (pos (natAbs q)))) ≡ NoLiteral → all (assigned ρ) (q ∷ qs) ≡ true
-    go true p ih e = and-i p (ih e)
-    go false p ih e = let z : _≡_ {A = ℕ} 0 1 = cc in absurd (omega arith)
+module _ (ρ : Assignment) where
+  -- what is not picked is assigned, and what is, is not
+  passed : (q : ℤ) → cond (assigned ρ q) NoLiteral (Is (literal (pos (natAbs q)))) ≡ NoLiteral → assigned ρ q ≡ true
+  passed q e = go (assigned ρ q) e
+    where
+      go : (b : Bool) → cond b NoLiteral (Is (literal (pos (natAbs q)))) ≡ NoLiteral → b ≡ true
+      go true e = refl
+      go false e = let z : _≡_ {A = ℕ} 0 1 = cc in absurd (omega arith)
 
--- it is the first word that is unassigned, with either sign
-pub unassigned-found : (ρ : Assignment) (qs : List ℤ) (l : Literal) → firstUnassigned ρ qs ≡ Is l → (w : First qs ρ) × (natAbs (l .0) ≡ natAbs (w .word))
-unfolding firstUnassigned allAssigned all
-unassigned-found ρ [] l e = let z : _≡_ {A = ℕ} 0 1 = cc in absurd (omega arith)
-unassigned-found ρ (q ∷ qs) l e = go (assigned ρ q) refl (unassigned-found ρ qs l) e
-  where
-    go : (b : Bool) → assigned ρ q ≡ b → (firstUnassigned ρ qs ≡ Is l → (w : First qs ρ) × (natAbs (l .0) ≡ natAbs (w .word))) → cond b (firstUnassigned ρ qs) (Is (literal (pos (natAbs q)))) ≡ Is l → (w : First (q ∷ qs) ρ) × (natAbs (l .0) ≡ natAbs (w .word))
-    go true a ih e =
-        let (w, v) = ih e in
-        (record { before = q ∷ w .before; word = w .word; after = w .after; whole = ap (λ (t : List ℤ). q ∷ t) (w .whole); set = and-i a (w .set); unset = w .unset }, v)
-    go false a ih e =
-        let w : literal (pos (natAbs q)) ≡ l = cc in
-        (record { before = []; word = q; after = qs; whole = refl; set = refl; unset = a }, ap (λ (x : Literal). natAbs (x .0)) (sym w))
+  picked : (q : ℤ) (l : Literal) → cond (assigned ρ q) NoLiteral (Is (literal (pos (natAbs q)))) ≡ Is l → (assigned ρ q ≡ false) × (natAbs (l .0) ≡ natAbs q)
+  picked q l e = go (assigned ρ q) e
+    where
+      go : (b : Bool) → cond b NoLiteral (Is (literal (pos (natAbs q)))) ≡ Is l → (b ≡ false) × (natAbs (l .0) ≡ natAbs q)
+      go true e = let z : _≡_ {A = ℕ} 0 1 = cc in absurd (omega arith)
+      go false e = let w : literal (pos (natAbs q)) ≡ l = cc in (refl, ap (λ (x : Literal). natAbs (x .0)) (sym w))
+
+  pub unassigned-none : (p : List ℤ) → firstUnassigned ρ p ≡ NoLiteral → allAssigned p ρ ≡ true
+  unfolding firstUnassigned allAssigned
+  unassigned-none p e = all-i (assigned ρ) p (λ q i. passed q (first-none _ p e q i))
+
+  -- it is the first word that is unassigned, with either sign
+  pub unassigned-found : (p : List ℤ) (l : Literal) → firstUnassigned ρ p ≡ Is l → (w : First p ρ) × (natAbs (l .0) ≡ natAbs (w .word))
+  unfolding firstUnassigned allAssigned
+  unassigned-found p l e =
+      let w = first-found _ p l e in
+      let (u, v) = picked (w .word) l (w .is) in
+      (record { before = w .before; word = w .word; after = w .after; whole = w .whole; set = all-i (assigned ρ) (w .before) (λ q i. passed q (w .none q i)); unset = u }, v)
 
 -- ---- a preferred literal: 0 or open
 pub first-open : (p : List ℤ) (ρ : Assignment) (ls : List ℤ) → (natAbs (firstOpen p ρ ls) ≡ 0) ⊎ (isOpen p ρ (firstOpen p ρ ls) ≡ true)
 unfolding firstOpen
-first-open p ρ [] = inl refl
-first-open p ρ (l ∷ ls) = go (isOpen p ρ l) refl (first-open p ρ ls)
+first-open p ρ ls = go (firstOf (λ l. cond (isOpen p ρ l) (Is (literal l)) NoLiteral) ls) refl
   where
-    go : (b : Bool) → isOpen p ρ l ≡ b → (natAbs (firstOpen p ρ ls) ≡ 0) ⊎ (isOpen p ρ (firstOpen p ρ ls) ≡ true) → (natAbs (cond b l (firstOpen p ρ ls)) ≡ 0) ⊎ (isOpen p ρ (cond b l (firstOpen p ρ ls)) ≡ true)
-    go true e ih = inr e
-    go false e ih = ih
+    found : (q : ℤ) (l : Literal) (b : Bool) → isOpen p ρ q ≡ b → cond b (Is (literal q)) NoLiteral ≡ Is l → isOpen p ρ (l .0) ≡ true
+    found q l true h e = let w : literal q ≡ l = cc in let z : q ≡ l .0 = ap (λ (y : Literal). y .0) w in rw z at h
+    found q l false h e = let z : _≡_ {A = ℕ} 0 1 = cc in absurd (omega arith)
+
+    go : (o : Picked) → firstOf (λ l. cond (isOpen p ρ l) (Is (literal l)) NoLiteral) ls ≡ o → (natAbs (onPicked o (λ l. l .0) (pos 0)) ≡ 0) ⊎ (isOpen p ρ (onPicked o (λ l. l .0) (pos 0)) ≡ true)
+    go (Is l) e = let w = first-found _ ls l e in inr (found (w .word) l (isOpen p ρ (w .word)) refl (w .is))
+    go NoLiteral e = inl refl

@@ -14,24 +14,25 @@ use Rattle.words.specs.Laws.Bools.{look, clash}
 use Rattle.formula.specs.Formula.{Formula, universal}
 use Rattle.formula.specs.Laws.Prefix.{stands-bound}
 use Rattle.theory.specs.Record.{entry, Record, Assignment, trueIn}
-use Rattle.theory.specs.Tests.{isOpen}
-use Rattle.theory.specs.Rules.{going, Quiet, Step}
+use Rattle.theory.specs.Tests.{monotoneOpen, isOpen}
+use Rattle.theory.specs.Rules.{going, Quiet, StepBy, Step}
 use Rattle.theory.specs.Laws.Tested.{open-e}
-use Rattle.theory.specs.Laws.Monotone.{monotone-wide}
+use Rattle.theory.specs.Laws.Monotone.{open-within}
 use Rattle.theory.specs.Laws.Moves.{good-step}
 use Rattle.theory.specs.Laws.Work.{good-taken}
 use Rattle.rules.specs.Trail.{put, recordOf}
 use Rattle.rules.specs.Search.{Search, recordIn, standingOf}
-use Rattle.rules.specs.Due.{due}
-use Rattle.rules.specs.Apply.{append, flip, kindOf, chosen, apply}
-use Rattle.rules.specs.Inner.Ready.{KeptIn, Fitting, Permitted}
+use Rattle.rules.specs.Due.{literal, due}
+use Rattle.rules.specs.Apply.{flip, kindOf, chosen, moveOf, moved, apply}
+use Rattle.rules.specs.Inner.Ready.{KeptIn, MoveFits, Fitting, Permitted}
 use Rattle.rules.specs.Laws.Wiped.{wiped-length}
 use Rattle.rules.specs.Laws.Records.{kept-good, kept-room, kept-more, record-length, record-get, record-at, record-put, record-cut}
 use Rattle.rules.specs.Laws.Last.{Last, last-none, last-at}
 use Rattle.rules.specs.Laws.Good.{passed-good, good-kept}
 use Rattle.rules.specs.Laws.WhyDue.{Reason, backtrack-exists, fail, unit, monotone, decide, backtrack-forall, succeed, reason}
 use Rattle.rules.specs.declared.rule.Rule.{Rule}
-use Rattle.rules.specs.declared.rule.Rule.the-variants.{BacktrackExists, Fail, Unit, Monotone, Decide, BacktrackForall, Succeed}
+use Rattle.rules.specs.declared.rule.Move.{Move}
+use Rattle.rules.specs.declared.rule.Move.the-variants.{Append, Flip}
 
 -- ---- Decide takes an open literal, with the kind of its quantifier
 chosen-open : (p : List ℤ) (ρ : Assignment) (l x : ℤ) → Permitted p ρ l → isOpen p ρ x ≡ true → isOpen p ρ (chosen l x) ≡ true
@@ -40,23 +41,23 @@ chosen-open p ρ l x (inr e) h = elim (look (eqb (natAbs l) 0)) [ inl z ↦ rw z
 
 decide-step : (F : Formula) (r : Record) → Quiet F r → (x : ℤ) → isOpen (F .prefix) (trueIn r) x ≡ true → Step F r (going (r ++ entry (kindOf (F .prefix) x) x ∷ []))
 decide-step F r q x o = elim (look (universal (F .prefix) x)) [
-  | inl u ↦ rw u (Step.decide-forall q x o u)
-  | inr u ↦ rw u (Step.decide-exists q x o (elim (stands-bound (F .prefix) x (open-e (F .prefix) (trueIn r) x o .bound)) [ inl e ↦ e | inr e ↦ clash e u ]))
+  | inl u ↦ rw u (StepBy.decide-forall q x o u)
+  | inr u ↦ rw u (StepBy.decide-exists q x o (elim (stands-bound (F .prefix) x (open-e (F .prefix) (trueIn r) x o .bound)) [ inl e ↦ e | inr e ↦ clash e u ]))
 ]
 
 -- ---- on the buffers of a guarded call
 module _ (F : Formula) (t : Search) (k : KeptIn (F .prefix) t) where
-  -- a rule that leads to the search u is one of the theory's, has a place to write to, and keeps what the guard has shown
-  record Done (rule : Rule) (u : Search) : Type 0 where
-    pub fits : Fitting (F .prefix) (t .count) rule
-    pub step : Step F (recordIn t) (standingOf u)
-    pub keeps : KeptIn (F .prefix) u
+  -- a move that is one of the theory's has a place to write to, and keeps what the guard has shown
+  record Done (m : Move) : Type 0 where
+    pub fits : MoveFits (F .prefix) (t .count) m
+    pub step : Step F (recordIn t) (standingOf (moved m t))
+    pub keeps : KeptIn (F .prefix) (moved m t)
 
   -- an entry more has a place: with it the record has distinct variables of the prefix still
   module _ (kind : ℕ) (x : ℤ) (s : Step F (recordIn t) (going (recordIn t ++ entry kind x ∷ []))) where
     more : t .count < length (F .prefix)
     more =
-        let g = good-taken F (recordIn t ++ entry kind x ∷ []) (good-step F (passed-good F (t .trail) (t .count) k) s) in
+        let g = good-taken F (recordIn t ++ entry kind x ∷ []) (good-step open-within F (passed-good F (t .trail) (t .count) k) s) in
         let a = length-append (recordIn t) (entry kind x ∷ []) in
         let b = record-length (t .trail) (t .count) (kept-room k) in
         omega arith
@@ -64,16 +65,16 @@ module _ (F : Formula) (t : Search) (k : KeptIn (F .prefix) t) where
     abbrev longer : recordOf (put (t .trail) (t .count) (entry kind x)) (t .count + 1) ≡ recordIn t ++ entry kind x ∷ []
     longer = record-put (t .trail) (t .count) (entry kind x) (kept-more k more)
 
-    appended : (rule : Rule) → Fitting (F .prefix) (t .count) rule ≡ (t .count < length (F .prefix)) → Done rule (append kind x t)
-    appended rule e =
+    appended : Done (Append kind (literal x))
+    appended =
         let h = more in
         record {
-          fits = rw e h;
+          fits = h;
           step = rw longer s;
           keeps = record {
             prefix = k .prefix;
             room = record { lits = rw length-set (k .room .lits); kinds = rw length-set (k .room .kinds) };
-            good = good-kept F (put (t .trail) (t .count) (entry kind x)) (t .count + 1) (k .prefix) (omega arith) (rw longer (good-step F (passed-good F (t .trail) (t .count) k) s));
+            good = good-kept F (put (t .trail) (t .count) (entry kind x)) (t .count + 1) (k .prefix) (omega arith) (rw longer (good-step open-within F (passed-good F (t .trail) (t .count) k) s));
           };
         }
 
@@ -90,35 +91,35 @@ module _ (F : Formula) (t : Search) (k : KeptIn (F .prefix) t) where
     abbrev shorter : recordOf (flip i t .trail) (i + 1) ≡ recordOf (t .trail) i ++ entry 0 (negℤ (getD (t .trail .lits) i (pos 0))) ∷ []
     shorter = record-cut (t .trail) (t .count) i (entry 0 (negℤ (getD (t .trail .lits) i (pos 0)))) inside (kept-room k)
 
-    flipped : (rule : Rule) → Fitting (F .prefix) (t .count) rule ≡ (i < t .count) → Step F (recordIn t) (going (recordOf (t .trail) i ++ entry 0 (negℤ (getD (t .trail .lits) i (pos 0))) ∷ [])) → Done rule (flip i t)
-    flipped rule e s =
+    flipped : Step F (recordIn t) (going (recordOf (t .trail) i ++ entry 0 (negℤ (getD (t .trail .lits) i (pos 0))) ∷ [])) → Done (Flip i)
+    flipped s =
         let h = inside in
         let f = kept-good k .few in
         record {
-          fits = rw e h;
+          fits = h;
           step = rw shorter s;
           keeps = record {
             prefix = k .prefix;
             room = record { lits = rw (length-set, wiped-length) (k .room .lits); kinds = rw (length-set, wiped-length) (k .room .kinds) };
-            good = good-kept F (flip i t .trail) (i + 1) (k .prefix) (omega arith) (rw shorter (good-step F (passed-good F (t .trail) (t .count) k) s));
+            good = good-kept F (flip i t .trail) (i + 1) (k .prefix) (omega arith) (rw shorter (good-step open-within F (passed-good F (t .trail) (t .count) k) s));
           };
         }
 
-  done : {rule : Rule} → Reason F (recordIn t) rule → (l : ℤ) → Permitted (F .prefix) (trueIn (recordIn t)) l → Done rule (apply (F .prefix) rule l t)
-  unfolding apply
+  done : {rule : Rule} → Reason F (recordIn t) rule → (l : ℤ) → Permitted (F .prefix) (trueIn (recordIn t)) l → Done (moveOf (F .prefix) rule l)
+  unfolding monotoneOpen
   done (backtrack-exists i c h e) l a =
       let w = last-at 1 (recordIn t) i e in
-      flipped 1 i w (BacktrackExists i c) refl (Step.backtrack-exists h (recordOf (t .trail) i) (drop (suc i) (recordIn t)) (getD (t .trail .lits) i (pos 0)) (split 1 i w) (w .none-after))
-  done (fail c h e) l a = record { fits = omega arith; step = Step.fail h (last-none 1 0 (recordIn t) e); keeps = k }
-  done (unit x c q u) l a = appended 0 (x .0) (Step.unit q (u .clause) (u .inside) (x .0) (u .decides)) (Unit x c) refl
-  done (monotone x q h) l a = appended 0 (x .0) (Step.monotone q (x .0) (monotone-wide (F .prefix) (F .clauses) (trueIn (recordIn t)) (x .0) h)) (Monotone x) refl
+      flipped 1 i w (StepBy.backtrack-exists h (recordOf (t .trail) i) (drop (suc i) (recordIn t)) (getD (t .trail .lits) i (pos 0)) (split 1 i w) (w .none-after))
+  done (fail c h e) l a = record { fits = omega arith; step = StepBy.fail h (last-none 1 0 (recordIn t) e); keeps = k }
+  done (unit x c q u) l a = appended 0 (x .0) (StepBy.unit q (u .clause) (u .inside) (x .0) (u .decides))
+  done (monotone x q h) l a = appended 0 (x .0) (StepBy.monotone q (x .0) h)
   done (decide x q h) l a =
       let y = chosen l (x .0) in
-      appended (kindOf (F .prefix) y) y (decide-step F (recordIn t) q y (chosen-open (F .prefix) (trueIn (recordIn t)) l (x .0) a h)) (Decide x) refl
+      appended (kindOf (F .prefix) y) y (decide-step F (recordIn t) q y (chosen-open (F .prefix) (trueIn (recordIn t)) l (x .0) a h))
   done (backtrack-forall i q f e) l a =
       let w = last-at 2 (recordIn t) i e in
-      flipped 2 i w (BacktrackForall i) refl (Step.backtrack-forall q f (recordOf (t .trail) i) (drop (suc i) (recordIn t)) (getD (t .trail .lits) i (pos 0)) (split 2 i w) (w .none-after))
-  done (succeed q f e) l a = record { fits = omega arith; step = Step.succeed q f (last-none 2 0 (recordIn t) e); keeps = k }
+      flipped 2 i w (StepBy.backtrack-forall q f (recordOf (t .trail) i) (drop (suc i) (recordIn t)) (getD (t .trail .lits) i (pos 0)) (split 2 i w) (w .none-after))
+  done (succeed q f e) l a = record { fits = omega arith; step = StepBy.succeed q f (last-none 2 0 (recordIn t) e); keeps = k }
 
   -- ---- so does the due rule, with a permitted proposal
   pub due-fits : Fitting (F .prefix) (t .count) (due F (recordIn t))
@@ -126,18 +127,9 @@ module _ (F : Formula) (t : Search) (k : KeptIn (F .prefix) t) where
 
   module _ (l : ℤ) (a : Permitted (F .prefix) (trueIn (recordIn t)) l) where
     pub due-step : Step F (recordIn t) (standingOf (apply (F .prefix) (due F (recordIn t)) l t))
+    unfolding apply
     due-step = done (reason F (k .prefix) (recordIn t)) l a .step
 
     pub due-keeps : KeptIn (F .prefix) (apply (F .prefix) (due F (recordIn t)) l t)
+    unfolding apply
     due-keeps = done (reason F (k .prefix) (recordIn t)) l a .keeps
-
--- ---- the buffers keep their lengths, whatever the rule
-pub apply-lengths : (p : List ℤ) (rule : Rule) (l : ℤ) (t : Search) → (length (apply p rule l t .trail .lits) ≡ length (t .trail .lits)) × (length (apply p rule l t .trail .kinds) ≡ length (t .trail .kinds))
-unfolding apply
-apply-lengths p (BacktrackExists i c) l t = (simp (length-set, wiped-length), simp (length-set, wiped-length))
-apply-lengths p (Fail c) l t = (refl, refl)
-apply-lengths p (Unit x c) l t = (simp length-set, simp length-set)
-apply-lengths p (Monotone x) l t = (simp length-set, simp length-set)
-apply-lengths p (Decide x) l t = (simp length-set, simp length-set)
-apply-lengths p (BacktrackForall i) l t = (simp (length-set, wiped-length), simp (length-set, wiped-length))
-apply-lengths p Succeed l t = (refl, refl)

@@ -1,21 +1,22 @@
--- Which places of the two buffers a rule writes. "A cut sets the places from the new to the old length to 0 in both buffers." "No other place
--- is written": an entry more goes to the end of the record, and a cut to its own place, which is the new end, and those up to the old length.
+-- Which places of the two buffers a rule writes: an entry more goes to the end of the record, and a cut to its own place, which is the new end,
+-- and to those up to the old length.
 use Prim.Native.Nat.{ℕ, _+_, _≤_, _<_}
 use mathlib.Core.Path.{_≡_, refl, _∙_}
 use mathlib.Core.Logic.{_⊎_, inl, inr}
 use mathlib.Core.List.{List}
 use native.Mathlib.Omega.{arith}
 use lib.IntN.{ℤ, pos}
+use lib.ListN.{length, length-set}
 use lib.Seq.{getD-set-other}
-use Rattle.theory.specs.Record.{Entry}
-use Rattle.rules.specs.Trail.{Trail, put, wipedTrail}
+use Rattle.theory.specs.Record.{Entry, entry}
+use Rattle.rules.specs.Trail.{Trail, noEntry, entryAt, put, wipedTrail}
 use Rattle.rules.specs.Search.{Search}
-use Rattle.rules.specs.Apply.{flip, apply}
-use Rattle.rules.specs.Laws.Wiped.{wiped-inside, wiped-outside}
-use Rattle.rules.specs.Laws.Records.{noEntry, entryAt}
+use Rattle.rules.specs.Apply.{moveOf, moved, apply}
+use Rattle.rules.specs.Laws.Wiped.{wiped-length, wiped-inside, wiped-outside}
 use Rattle.rules.specs.declared.rule.State.the-variants.{Open}
 use Rattle.rules.specs.declared.rule.Rule.{Rule}
-use Rattle.rules.specs.declared.rule.Rule.the-variants.{BacktrackExists, Fail, Unit, Monotone, Decide, BacktrackForall, Succeed}
+use Rattle.rules.specs.declared.rule.Move.{Move}
+use Rattle.rules.specs.declared.rule.Move.the-variants.{Append, Flip, End}
 
 -- ---- one place of a trail
 put-other : (t : Trail) (i j : ℕ) (e : Entry) → (j ≡ i → ⊥) → entryAt (put t i e) j ≡ entryAt t j
@@ -39,46 +40,46 @@ not-cut : (j n i : ℕ) → Elsewhere j n (i + 1) → (j < i + 1) ⊎ (n ≤ j)
 not-cut j n i (inl h) = inl (omega arith)
 not-cut j n i (inr h) = inr (h .0)
 
+-- ---- any move
+module _ (t : Search) (j : ℕ) where
+  -- but for the last entry and the places that are set to 0 nothing is written [writes.nothing-else]
+  moved-untouched : (m : Move) → Elsewhere j (t .count) (moved m t .count) → entryAt (moved m t .trail) j ≡ entryAt (t .trail) j
+  moved-untouched (Append k x) h = put-other (t .trail) (t .count) j (entry k (x .0)) (not-last j (t .count) (t .count) h)
+  moved-untouched (Flip i) h = put-other (wipedTrail (t .trail) (i + 1) (t .count)) i j _ (not-last j (t .count) i h) ∙ wiped-other (t .trail) (i + 1) (t .count) j (not-cut j (t .count) i h)
+  moved-untouched (End s) h = refl
+
+  -- from the new to the old length both buffers are 0 [cut.wipes]
+  moved-zeros : (m : Move) → moved m t .count ≤ j → j < t .count → entryAt (moved m t .trail) j ≡ noEntry
+  moved-zeros (Append k x) h l = absurd (omega arith)
+  moved-zeros (Flip i) h l = put-other (wipedTrail (t .trail) (i + 1) (t .count)) i j _ (λ e. omega arith) ∙ wiped-blank (t .trail) (i + 1) (t .count) j h l
+  moved-zeros (End s) h l = absurd (omega arith)
+
+-- the buffers keep their lengths
+moved-lengths : (m : Move) (t : Search) → (length (moved m t .trail .lits) ≡ length (t .trail .lits)) × (length (moved m t .trail .kinds) ≡ length (t .trail .kinds))
+moved-lengths (Append k x) t = (simp length-set, simp length-set)
+moved-lengths (Flip i) t = (simp (length-set, wiped-length), simp (length-set, wiped-length))
+moved-lengths (End s) t = (refl, refl)
+
+-- a rule that ends the search leaves the record [ended.leaves]
+moved-ended : (m : Move) (t : Search) → (moved m t .state ≡ Open → ⊥) → (moved m t .trail ≡ t .trail) × (moved m t .count ≡ t .count)
+moved-ended (Append k x) t h = absurd (h refl)
+moved-ended (Flip i) t h = absurd (h refl)
+moved-ended (End s) t h = (refl, refl)
+
 -- ---- any rule
-module _ (p : List ℤ) (l : ℤ) (t : Search) where
-  -- but for the last entry and the places that are set to 0 nothing is written
-  appended : (j : ℕ) (e : Entry) → Elsewhere j (t .count) (t .count + 1) → entryAt (put (t .trail) (t .count) e) j ≡ entryAt (t .trail) j
-  appended j e h = put-other (t .trail) (t .count) j e (not-last j (t .count) (t .count) h)
-
-  flipped : (i j : ℕ) → Elsewhere j (t .count) (i + 1) → entryAt (flip i t .trail) j ≡ entryAt (t .trail) j
-  flipped i j h = put-other (wipedTrail (t .trail) (i + 1) (t .count)) i j _ (not-last j (t .count) i h) ∙ wiped-other (t .trail) (i + 1) (t .count) j (not-cut j (t .count) i h)
-
-  pub apply-untouched : (rule : Rule) (j : ℕ) → Elsewhere j (t .count) (apply p rule l t .count) → entryAt (apply p rule l t .trail) j ≡ entryAt (t .trail) j
+module _ (p : List ℤ) (rule : Rule) (l : ℤ) (t : Search) where
+  pub apply-untouched : (j : ℕ) → Elsewhere j (t .count) (apply p rule l t .count) → entryAt (apply p rule l t .trail) j ≡ entryAt (t .trail) j
   unfolding apply
-  apply-untouched (BacktrackExists i c) j h = flipped i j h
-  apply-untouched (Fail c) j h = refl
-  apply-untouched (Unit x c) j h = appended j _ h
-  apply-untouched (Monotone x) j h = appended j _ h
-  apply-untouched (Decide x) j h = appended j _ h
-  apply-untouched (BacktrackForall i) j h = flipped i j h
-  apply-untouched Succeed j h = refl
+  apply-untouched j h = moved-untouched t j (moveOf p rule l) h
 
-  -- from the new to the old length both buffers are 0
-  cut-off : (i j : ℕ) → i + 1 ≤ j → j < t .count → entryAt (flip i t .trail) j ≡ noEntry
-  cut-off i j h k = put-other (wipedTrail (t .trail) (i + 1) (t .count)) i j _ (λ e. omega arith) ∙ wiped-blank (t .trail) (i + 1) (t .count) j h k
-
-  pub apply-zeros : (rule : Rule) (j : ℕ) → apply p rule l t .count ≤ j → j < t .count → entryAt (apply p rule l t .trail) j ≡ noEntry
+  pub apply-zeros : (j : ℕ) → apply p rule l t .count ≤ j → j < t .count → entryAt (apply p rule l t .trail) j ≡ noEntry
   unfolding apply
-  apply-zeros (BacktrackExists i c) j h k = cut-off i j h k
-  apply-zeros (Fail c) j h k = absurd (omega arith)
-  apply-zeros (Unit x c) j h k = absurd (omega arith)
-  apply-zeros (Monotone x) j h k = absurd (omega arith)
-  apply-zeros (Decide x) j h k = absurd (omega arith)
-  apply-zeros (BacktrackForall i) j h k = cut-off i j h k
-  apply-zeros Succeed j h k = absurd (omega arith)
+  apply-zeros j h k = moved-zeros t j (moveOf p rule l) h k
 
-  -- "Fail and Succeed leave the record."
-  pub apply-ended : (rule : Rule) → (apply p rule l t .state ≡ Open → ⊥) → (apply p rule l t .trail ≡ t .trail) × (apply p rule l t .count ≡ t .count)
+  pub apply-lengths : (length (apply p rule l t .trail .lits) ≡ length (t .trail .lits)) × (length (apply p rule l t .trail .kinds) ≡ length (t .trail .kinds))
   unfolding apply
-  apply-ended (BacktrackExists i c) h = absurd (h refl)
-  apply-ended (Fail c) h = (refl, refl)
-  apply-ended (Unit x c) h = absurd (h refl)
-  apply-ended (Monotone x) h = absurd (h refl)
-  apply-ended (Decide x) h = absurd (h refl)
-  apply-ended (BacktrackForall i) h = absurd (h refl)
-  apply-ended Succeed h = (refl, refl)
+  apply-lengths = moved-lengths (moveOf p rule l) t
+
+  pub apply-ended : (apply p rule l t .state ≡ Open → ⊥) → (apply p rule l t .trail ≡ t .trail) × (apply p rule l t .count ≡ t .count)
+  unfolding apply
+  apply-ended h = moved-ended (moveOf p rule l) t h

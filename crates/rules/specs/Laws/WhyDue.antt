@@ -7,7 +7,7 @@ use Rattle.words.specs.Laws.Lists.{any-i}
 use Rattle.words.specs.declared.Literal.{Literal}
 use Rattle.formula.specs.Formula.{Formula}
 use Rattle.theory.specs.Record.{Record, trueIn}
-use Rattle.theory.specs.Tests.{inConflict, conflict, monotone as isMonotone, isOpen}
+use Rattle.theory.specs.Tests.{inConflict, conflict, monotone as isMonotone, untrueOf, isOpen}
 use Rattle.theory.specs.Rules.{Conflict, Quiet, Full}
 use Rattle.theory.specs.Laws.First.{first-open}
 use Rattle.rules.specs.Due.{onFound, onUnit, onPicked, lowest, last, lowestUnit, firstMonotone, firstUnassigned, dueAssigned, dueDecide, dueMonotone, dueUnit, dueConflict, due}
@@ -27,52 +27,47 @@ pub data Reason (F : Formula) (r : Record) : Rule → Type 0 where
   backtrack-exists : (i c : ℕ) → Conflict F r → last 1 0 r ≡ At i → Reason F r (BacktrackExists i c)
   fail : (c : ℕ) → Conflict F r → last 1 0 r ≡ Nothing → Reason F r (Fail c)
   unit : (l : Literal) (c : ℕ) → Quiet F r → UnitOf (F .prefix) (F .clauses) (trueIn r) (l .0) → Reason F r (Unit l c)
-  monotone : (l : Literal) → Quiet F r → isMonotone (F .prefix) (F .clauses) (trueIn r) (l .0) ≡ true → Reason F r (Monotone l)
+  monotone : (l : Literal) → Quiet F r → isMonotone (F .prefix) (untrueOf (trueIn r) (F .clauses)) (trueIn r) (l .0) ≡ true → Reason F r (Monotone l)
   decide : (l : Literal) → Quiet F r → isOpen (F .prefix) (trueIn r) (l .0) ≡ true → Reason F r (Decide l)
   backtrack-forall : (i : ℕ) → Quiet F r → Full F r → last 2 0 r ≡ At i → Reason F r (BacktrackForall i)
   succeed : Quiet F r → Full F r → last 2 0 r ≡ Nothing → Reason F r Succeed
 
+-- by what a search finds
+on-found : (P : Rule → Type 0) (o : Found) {f : ℕ → Rule} {b : Rule} → ((i : ℕ) → o ≡ At i → P (f i)) → (o ≡ Nothing → P b) → P (onFound o f b)
+on-found P (At i) h k = h i refl
+on-found P Nothing h k = k refl
+
+on-picked : (P : Rule → Type 0) (o : Picked) {f : Literal → Rule} {b : Rule} → ((l : Literal) → o ≡ Is l → P (f l)) → (o ≡ NoLiteral → P b) → P (onPicked o f b)
+on-picked P (Is l) h k = h l refl
+on-picked P NoLiteral h k = k refl
+
+on-unit : (P : Rule → Type 0) (o : UnitFound) {f : Literal → ℕ → Rule} {b : Rule} → ((l : Literal) (c : ℕ) → o ≡ On l c → P (f l c)) → (o ≡ NoUnit → P b) → P (onUnit o f b)
+on-unit P (On l c) h k = h l c refl
+on-unit P NoUnit h k = k refl
+
 module _ (F : Formula) (bound : Bound (F .prefix)) (r : Record) where
-  by-conflict : (c : ℕ) → Conflict F r → Reason F r (dueConflict F r c)
-  by-conflict c h = go (last 1 0 r) refl
-    where
-      go : (o : Found) → last 1 0 r ≡ o → Reason F r (onFound o (λ i. BacktrackExists i c) (Fail c))
-      go (At i) e = backtrack-exists i c h e
-      go Nothing e = fail c h e
+  by-conflict : (c : ℕ) → Conflict F r → Reason F r (dueConflict r c)
+  by-conflict c h = on-found (Reason F r) (last 1 0 r) (λ i e. backtrack-exists i c h e) (λ e. fail c h e)
 
   module _ (quiet : Quiet F r) where
-    by-assigned : Full F r → Reason F r (dueAssigned F r)
-    by-assigned f = go (last 2 0 r) refl
-      where
-        go : (o : Found) → last 2 0 r ≡ o → Reason F r (onFound o (λ i. BacktrackForall i) Succeed)
-        go (At i) e = backtrack-forall i quiet f e
-        go Nothing e = succeed quiet f e
+    by-assigned : Full F r → Reason F r (dueAssigned r)
+    by-assigned f = on-found (Reason F r) (last 2 0 r) (λ i e. backtrack-forall i quiet f e) (λ e. succeed quiet f e)
 
-    by-decide : Reason F r (dueDecide F r)
-    by-decide = go (firstUnassigned (trueIn r) (F .prefix)) refl
-      where
-        go : (o : Picked) → firstUnassigned (trueIn r) (F .prefix) ≡ o → Reason F r (onPicked o (λ l. Decide l) (dueAssigned F r))
-        go (Is l) e = let (w, v) = unassigned-found (trueIn r) (F .prefix) l e in decide l quiet (first-open (bare (F .prefix)) (bare-proper (F .prefix) bound) (trueIn r) w (l .0) v)
-        go NoLiteral e = by-assigned (unassigned-none (trueIn r) (F .prefix) e)
+    by-decide : Reason F r (dueDecide (F .prefix) r)
+    by-decide = on-picked (Reason F r) (firstUnassigned (trueIn r) (F .prefix))
+        (λ l e. let (w, v) = unassigned-found (trueIn r) (F .prefix) l e in decide l quiet (first-open (bare (F .prefix)) (bare-proper (F .prefix) bound) (trueIn r) w (l .0) v))
+        (λ e. by-assigned (unassigned-none (trueIn r) (F .prefix) e))
 
     by-monotone : Reason F r (dueMonotone F r)
-    by-monotone = go (firstMonotone (F .prefix) (F .clauses) (trueIn r) (F .prefix)) refl
-      where
-        go : (o : Picked) → firstMonotone (F .prefix) (F .clauses) (trueIn r) (F .prefix) ≡ o → Reason F r (onPicked o (λ l. Monotone l) (dueDecide F r))
-        go (Is l) e = monotone l quiet (monotone-found (F .prefix) (F .clauses) (trueIn r) (F .prefix) l e)
-        go NoLiteral e = by-decide
+    by-monotone = on-picked (Reason F r) (firstMonotone (F .prefix) (untrueOf (trueIn r) (F .clauses)) (trueIn r)) (λ l e. monotone l quiet (monotone-found (F .prefix) (untrueOf (trueIn r) (F .clauses)) (trueIn r) l e)) (λ e. by-decide)
 
     by-unit : Reason F r (dueUnit F r)
-    by-unit = go (lowestUnit (F .prefix) (trueIn r) (F .clauses)) refl
-      where
-        go : (o : UnitFound) → lowestUnit (F .prefix) (trueIn r) (F .clauses) ≡ o → Reason F r (onUnit o (λ l c. Unit l c) (dueMonotone F r))
-        go (On l c) e = unit l c quiet (unit-found (F .prefix) (F .clauses) (trueIn r) l c e)
-        go NoUnit e = by-monotone
+    by-unit = on-unit (Reason F r) (lowestUnit (F .prefix) (trueIn r) (F .clauses)) (λ l c e. unit l c quiet (unit-found (F .prefix) (F .clauses) (trueIn r) l c e)) (λ e. by-monotone)
 
   pub reason : Reason F r (due F r)
   unfolding due conflict
-  reason = go (lowest (inConflict (F .prefix) (trueIn r)) 0 (F .clauses)) refl
-    where
-      go : (o : Found) → lowest (inConflict (F .prefix) (trueIn r)) 0 (F .clauses) ≡ o → Reason F r (onFound o (dueConflict F r) (dueUnit F r))
-      go (At c) e = let t = lowest-at (inConflict (F .prefix) (trueIn r)) [] 0 (F .clauses) c e in by-conflict c (any-i (inConflict (F .prefix) (trueIn r)) (t .2) (t .3))
-      go Nothing e = by-unit (lowest-none (inConflict (F .prefix) (trueIn r)) 0 (F .clauses) e)
+  reason =
+      let f = inConflict (F .prefix) (trueIn r) in
+      on-found (Reason F r) (lowest f 0 (F .clauses))
+      (λ c e. let t = lowest-at f [] 0 (F .clauses) c e in by-conflict c (any-i f (t .2) (t .3)))
+      (λ e. by-unit (lowest-none f 0 (F .clauses) e))

@@ -1,11 +1,11 @@
 -- A refused call returns before anything is written; else the first V places are wiped, and there are as many.
 use borrow.Author.Needs.{needs}
-use Rattle.session.proofs.Exits.{open-refused, open-clears}
+use Rattle.session.proofs.Exits.{open-stops, open-clears}
 use Rattle.session.proofs.open.Statement.{statement}
 use Rattle.session.proofs.open.Tie as tie
 
 returns : tie.Need-returns
-returns c = open-refused _ _ _ (c .before .open-refusal .ensures) (c .if1 .taken)
+returns c = open-stops _ _ _ (c .before .open-refusal .ensures) (c .if1 .taken)
 
 returns-2 : tie.Need-returns-2
 returns-2 c =

@@ -1,14 +1,14 @@
 -- What the rows that a call has passed show: the block's formula is proper and its prefix bound, the record is one that the rules keep.
-use Prim.Native.Nat.{ℕ, _+_, _-_, _≤_}
-use mathlib.Core.Path.{_≡_, refl, _∙_}
+use Prim.Native.Nat.{ℕ, _+_, _≤_, _<_}
+use mathlib.Core.Path.{_≡_, refl}
 use mathlib.Core.Logic.{_⊎_, inl, inr}
 use mathlib.Core.Bool.{Bool, true, false, not, _&&_, and-false}
 use mathlib.Core.List.{List}
 use lib.Dec.{eqb, ltb}
 use lib.IntN.{ℤ, natAbs}
 use lib.ListN.{length}
-use borrow.Author.Tests.{eqb-true, eqb-false, ltb-false, not-false, le-ltb, eq-eqb, ne-eqb}
-use Rattle.words.specs.Laws.Bools.{clash, look, or-fl, or-fr, not-f}
+use borrow.Author.Tests.{eqb-true, ltb-false, not-false, le-ltb, lt-ltb, eq-eqb, ne-eqb}
+use Rattle.words.specs.Laws.Bools.{clash, or-fl, or-fr}
 use Rattle.words.specs.Rows.{refusalOf}
 use Rattle.words.specs.Laws.Rows.{goes-on, first-part, passed}
 use Rattle.words.specs.declared.Literal.{Literal}
@@ -20,42 +20,48 @@ use Rattle.theory.specs.Tests.{isOpen}
 use Rattle.rules.specs.declared.rule.State.{State}
 use Rattle.rules.specs.declared.rule.State.the-variants.{Open, Valid, Unsat}
 use Rattle.rules.specs.Due.{due}
-use Rattle.rules.specs.Trail.{recordOf}
-use Rattle.rules.specs.Inner.Ready.{KeptIn, Permitted}
 use Rattle.rules.specs.Preferred.{decides}
-use Rattle.rules.specs.Inner.Ready.{OnBuffers}
+use Rattle.rules.specs.Trail.{Trail, recordOf}
+use Rattle.rules.specs.Search.{search, recordIn}
+use Rattle.rules.specs.Inner.Ready.{OnBuffers, OnBlock, Fitting, Permitted}
+use Rattle.rules.specs.Laws.Accepted.{prefix-length, on-block}
+use Rattle.rules.specs.Laws.Steps.{due-fits}
 use Rattle.session.specs.declared.Revision.{Revision}
 use Rattle.session.specs.declared.Session.{Session}
 use Rattle.session.specs.Memory.{Memory}
 use Rattle.session.specs.Refusals.{lastRevision, short, over, proposed, ofBuffers, openRows, openRefusal, ofSession, sessionRows, ofStep, stepRows, stepRefusal, ofRun, runRows, runRefusal}
 use Rattle.session.specs.Inner.Guards.{sessionRefusal}
 use Rattle.session.specs.Outcome.{searchOf}
-use Rattle.rules.specs.Laws.Accepted.{prefix-length, accepted-bound}
 
 -- ---- rows 1 to 11: the buffers have a place for each variable
 module _ (b : List ℤ) (m : Memory) where
+  pub from-11 : refusal limits b ≡ 0 → openRefusal b m ≡ refusalOf (ofBuffers b m)
+  unfolding refusal openRefusal
+  from-11 = goes-on (rows limits b) (ofBuffers b m) refl
+
   pub opened : openRefusal b m ≡ 0 → OnBuffers b (m .trail)
   unfolding refusal openRefusal
   opened e =
+      let n = variablesOf b in
+      let ls = length (m .trail .lits) in
+      let ks = length (m .trail .kinds) in
       let r : short b m ≡ false = passed (openRows b m) refl e 11 in
       record {
         block = first-part (rows limits b) (ofBuffers b m) e;
-        room = record {
-          lits = ltb-false (length (m .trail .lits)) (variablesOf b) (or-fl (ltb (length (m .trail .lits)) (variablesOf b)) (ltb (length (m .trail .kinds)) (variablesOf b)) r);
-          kinds = ltb-false (length (m .trail .kinds)) (variablesOf b) (or-fr (ltb (length (m .trail .lits)) (variablesOf b)) (ltb (length (m .trail .kinds)) (variablesOf b)) r);
-        };
+        room = record { lits = ltb-false ls n (or-fl (ltb ls n) (ltb ks n) r); kinds = ltb-false ks n (or-fr (ltb ls n) (ltb ks n) r) };
       }
 
   pub open-passes : OnBuffers b (m .trail) → openRefusal b m ≡ 0
-  unfolding refusal openRefusal
-  open-passes o =
-      goes-on (rows limits b) (ofBuffers b m) refl (o .block)
-      ∙ rw (le-ltb (length (m .trail .lits)) (variablesOf b) (o .room .lits), le-ltb (length (m .trail .kinds)) (variablesOf b) (o .room .kinds))
+  open-passes o = rw (from-11 (o .block), le-ltb (length (m .trail .lits)) (variablesOf b) (o .room .lits), le-ltb (length (m .trail .kinds)) (variablesOf b) (o .room .kinds))
+
+-- ---- rows 1 to 12: the due rule has a place to write to
+pub fitting : {b : List ℤ} {t : Trail} {n : ℕ} → OnBlock b t n → Fitting (prefixOf b) n (due (formulaOf b) (recordOf t n))
+unfolding formulaOf
+fitting {b} {t} {n} o = due-fits (formulaOf b) (search t n Open) (o .kept)
 
 -- ---- rows 1 to 14, which a step and a run share
 pub record Guarded (s : Session) (b : List ℤ) (m : Memory) (seen : Revision) : Type 0 where
-  pub block : refusal limits b ≡ 0
-  pub kept : KeptIn (prefixOf b) (searchOf s m)
+  pub on : OnBlock b (m .trail) (s .length)
   pub live : s .state ≡ Open
   pub current : seen .0 ≡ s .revision .0
 
@@ -64,24 +70,49 @@ over-open Open h = refl
 over-open Valid h = clash refl h
 over-open Unsat h = clash refl h
 
+-- a proposal that passes rows 16 and 17 is 0, or such as the row asks, and the other way round
+module _ (l : Literal) where
+  proposed-so : (x : Bool) → (proposed l && not x) ≡ false → (natAbs (l .0) ≡ 0) ⊎ (x ≡ true)
+  proposed-so = go (eqb (natAbs (l .0)) 0) refl
+    where
+      go : (z : Bool) → eqb (natAbs (l .0)) 0 ≡ z → (x : Bool) → (not z && not x) ≡ false → (natAbs (l .0) ≡ 0) ⊎ (x ≡ true)
+      go true p x e = inl (eqb-true (natAbs (l .0)) 0 p)
+      go false p true e = inr refl
+      go false p false e = clash refl e
+
+  so-proposed : (x : Bool) → (natAbs (l .0) ≡ 0) ⊎ (x ≡ true) → (proposed l && not x) ≡ false
+  so-proposed x (inl e) = rw (eq-eqb (natAbs (l .0)) 0 e)
+  so-proposed x (inr e) = rw e (and-false (proposed l))
+
 module _ (s : Session) (b : List ℤ) (m : Memory) (seen : Revision) where
+  -- the rows from 12 on, where those before have passed; and from 15 on
+  pub from-12 : openRefusal b m ≡ 0 → sessionRefusal s b m seen ≡ refusalOf (ofSession s b m seen)
+  unfolding openRefusal sessionRefusal
+  from-12 = goes-on (openRows b m) (ofSession s b m seen) refl
+
+  pub step-from-15 : (l : Literal) → sessionRefusal s b m seen ≡ 0 → stepRefusal s b m seen l ≡ refusalOf (ofStep s b m seen l)
+  unfolding stepRefusal sessionRefusal
+  step-from-15 l = goes-on (sessionRows s b m seen) (ofStep s b m seen l) refl
+
+  pub run-from-15 : (budget : ℕ) → sessionRefusal s b m seen ≡ 0 → runRefusal s b m seen budget ≡ refusalOf (ofRun s b m seen budget)
+  unfolding runRefusal sessionRefusal
+  run-from-15 budget = goes-on (sessionRows s b m seen) (ofRun s b m seen budget) refl
+
   pub guarded : sessionRefusal s b m seen ≡ 0 → Guarded s b m seen
   unfolding openRefusal sessionRefusal
   guarded e =
       let o = opened b m (first-part (openRows b m) (ofSession s b m seen) e) in
       let r = passed (sessionRows s b m seen) refl e in
       record {
-        block = o .block;
-        kept = record { prefix = accepted-bound b (o .block); room = rw (prefix-length b (o .block)) (o .room); good = r 12 };
+        on = on-block b (m .trail) (s .length) o (r 12);
         live = over-open (s .state) (r 13);
         current = eqb-true (seen .0) (s .revision .0) (not-false _ (r 14));
       }
 
-  -- an accepted step: its revision can go up, and its proposal is one that Decide may take
+  -- an accepted step: its proposal is one that Decide may take
   pub record StepGuarded (l : Literal) : Type 0 where
     pub guard : Guarded s b m seen
-    pub below : s .revision .0 ≡ lastRevision → ⊥
-    pub permitted : Permitted (prefixOf b) (trueIn (recordOf (m .trail) (s .length))) (l .0)
+    pub permitted : Permitted (prefixOf b) (trueIn (recordIn (searchOf s m))) (l .0)
 
   pub step-guarded : (l : Literal) → stepRefusal s b m seen l ≡ 0 → StepGuarded l
   unfolding stepRefusal sessionRefusal formulaOf
@@ -89,15 +120,8 @@ module _ (s : Session) (b : List ℤ) (m : Memory) (seen : Revision) where
       let r = passed (stepRows s b m seen l) refl e in
       record {
         guard = guarded (first-part (sessionRows s b m seen) (ofStep s b m seen l) e);
-        below = eqb-false (s .revision .0) lastRevision (r 15);
-        permitted = go (eqb (natAbs (l .0)) 0) refl (look (isOpen (prefixOf b) (trueIn (recordOf (m .trail) (s .length))) (l .0))) (r 17);
+        permitted = proposed-so l (isOpen (prefixOf b) (trueIn (recordIn (searchOf s m))) (l .0)) (r 17);
       }
-    where
-      go : (z : Bool) → eqb (natAbs (l .0)) 0 ≡ z → (isOpen (prefixOf b) (trueIn (recordOf (m .trail) (s .length))) (l .0) ≡ true) ⊎ (isOpen (prefixOf b) (trueIn (recordOf (m .trail) (s .length))) (l .0) ≡ false)
-          → (not z && not (isOpen (prefixOf b) (trueIn (recordOf (m .trail) (s .length))) (l .0))) ≡ false → Permitted (prefixOf b) (trueIn (recordOf (m .trail) (s .length))) (l .0)
-      go true p o e = inl (eqb-true (natAbs (l .0)) 0 p)
-      go false p (inl o) e = inr o
-      go false p (inr o) e = clash (not-f o) e
 
   -- an accepted run: its revision can go up by its budget
   pub record RunGuarded (budget : ℕ) : Type 0 where
@@ -113,34 +137,22 @@ module _ (s : Session) (b : List ℤ) (m : Memory) (seen : Revision) where
         below = ltb-false lastRevision (s .revision .0 + budget) (r 15);
       }
 
--- ---- the other way round: a step that is so breaks no row
-module _ (s : Session) (b : List ℤ) (m : Memory) (seen : Revision) (g : Guarded s b m seen) where
-  guard-passes : sessionRefusal s b m seen ≡ 0
-  unfolding openRefusal sessionRefusal
-  guard-passes =
-      let o = open-passes b m (record { block = g .block; room = rw (← prefix-length b (g .block)) (g .kept .room) }) in
-      goes-on (openRows b m) (ofSession s b m seen) refl o ∙ rw (g .kept .good, g .live, eq-eqb (seen .0) (s .revision .0) (g .current))
+  -- ---- the other way round: a call that is so breaks no row but 15
+  module _ (g : Guarded s b m seen) where
+    guard-passes : sessionRefusal s b m seen ≡ 0
+    guard-passes =
+        let o = open-passes b m (record { block = g .on .block; room = rw (← prefix-length b (g .on .block)) (g .on .kept .room) }) in
+        rw (from-12 o, g .on .kept .good, g .live, eq-eqb (seen .0) (s .revision .0) (g .current))
 
-  from-15 : (l : Literal) → stepRefusal s b m seen l ≡ refusalOf (ofStep s b m seen l)
-  unfolding stepRefusal sessionRefusal
-  from-15 l = goes-on (sessionRows s b m seen) (ofStep s b m seen l) refl guard-passes
+    pub step-last : s .revision .0 ≡ lastRevision → (l : Literal) → stepRefusal s b m seen l ≡ 15
+    step-last e l = rw (step-from-15 l guard-passes, eq-eqb (s .revision .0) lastRevision e)
 
-  -- row 15 before 16 and 17
-  pub step-last : s .revision .0 ≡ lastRevision → (l : Literal) → stepRefusal s b m seen l ≡ 15
-  step-last e l = rw (from-15 l, eq-eqb (s .revision .0) lastRevision e)
+    pub run-last : (budget : ℕ) → lastRevision < s .revision .0 + budget → runRefusal s b m seen budget ≡ 15
+    run-last budget h = rw (run-from-15 budget guard-passes, lt-ltb lastRevision (s .revision .0 + budget) h)
 
-  module _ (below : s .revision .0 ≡ lastRevision → ⊥) (l : Literal) where
-    unproposed : (x : Bool) → natAbs (l .0) ≡ 0 → (proposed l && x) ≡ false
-    unproposed x e = rw (eq-eqb (natAbs (l .0)) 0 e)
-
-    not-due : (natAbs (l .0) ≡ 0) ⊎ (decides (due (formulaOf b) (recordOf (m .trail) (s .length))) ≡ true) → (proposed l && not (decides (due (formulaOf b) (recordOf (m .trail) (s .length))))) ≡ false
-    not-due (inl e) = unproposed _ e
-    not-due (inr e) = rw e (and-false (proposed l))
-
-    not-free : Permitted (prefixOf b) (trueIn (recordOf (m .trail) (s .length))) (l .0) → (proposed l && not (isOpen (prefixOf b) (trueIn (recordOf (m .trail) (s .length))) (l .0))) ≡ false
-    not-free (inl e) = unproposed _ e
-    not-free (inr e) = rw e (and-false (proposed l))
-
-    pub step-passes : (natAbs (l .0) ≡ 0) ⊎ (decides (due (formulaOf b) (recordOf (m .trail) (s .length))) ≡ true) → Permitted (prefixOf b) (trueIn (recordOf (m .trail) (s .length))) (l .0) → stepRefusal s b m seen l ≡ 0
+    pub step-passes : (s .revision .0 ≡ lastRevision → ⊥) → (l : Literal) → let r = recordIn (searchOf s m) in
+        (natAbs (l .0) ≡ 0) ⊎ (decides (due (formulaOf b) r) ≡ true) → Permitted (prefixOf b) (trueIn r) (l .0) → stepRefusal s b m seen l ≡ 0
     unfolding formulaOf
-    step-passes d a = rw (from-15 l, ne-eqb (s .revision .0) lastRevision below, not-due d, not-free a)
+    step-passes below l d a =
+        let r = recordIn (searchOf s m) in
+        rw (step-from-15 l guard-passes, ne-eqb (s .revision .0) lastRevision below, so-proposed l (decides (due (formulaOf b) r)) d, so-proposed l (isOpen (prefixOf b) (trueIn r) (l .0)) a)

@@ -1,4 +1,4 @@
--- The question that a variable asks of the answers for its two literals: `asked`, "one of its two values" or "both". By cases.
+-- The question that a variable asks of the answers for its two literals: `asked`, one of its two values or both. By cases.
 use mathlib.Core.Path.{_≡_, refl, sym}
 use mathlib.Core.Logic.{_⊎_, inl, inr}
 use mathlib.Core.Bool.{Bool, true, false, and-comm, or-comm}
@@ -32,7 +32,7 @@ asked-first false false false f g = refl
 asked-first true true y f g = g refl refl
 asked-first true false y f g = refl
 
--- "both" fails if one fails; either question fails if both fail
+-- to ask for both fails if one fails; either question fails if both fail
 pub asked-false : (x y : Bool) → (x ≡ false) ⊎ (y ≡ false) → asked true x y ≡ false
 unfolding asked
 asked-false x y (inl h) = rw h

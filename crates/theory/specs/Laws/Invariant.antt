@@ -15,7 +15,7 @@ use Rattle.formula.specs.Laws.Prefix.{existential-universal}
 use Rattle.formula.specs.Proper.{Proper}
 use Rattle.formula.specs.Truth.{asked}
 use Rattle.theory.specs.Record.{Entry, entry, Record, Assignment, trueIn, without, forced}
-use Rattle.theory.specs.Rules.{State, going, valid, unsat, Step, backtrack-exists, fail, unit, monotone, decide-exists, decide-forall, backtrack-forall, succeed, Path, stop, take}
+use Rattle.theory.specs.Rules.{State, going, valid, unsat, MonotoneTest, Within, StepBy, backtrack-exists, fail, unit, monotone, decide-exists, decide-forall, backtrack-forall, succeed, PathBy, stop, take}
 use Rattle.theory.specs.Laws.Assignment.{put, after, true-append}
 use Rattle.theory.specs.Laws.Value.{valueOf}
 use Rattle.theory.specs.Laws.Decide.{decide-law}
@@ -132,20 +132,20 @@ module _ (F : Formula) (r0 : Record) where
     invariant-end i h w =
         passed-up F v (trueIn r0) (i .later) (i .carried) (and-r (without (flipped v) r0) (without (flipped v) (i .later)) (rw (i .whole, all-append) at h)) (rw (true-now i) at w)
 
-  module _ (ok : Proper F) (start : forced r0 ≡ true) where
+  module _ {μ : MonotoneTest} (within : Within μ) (ok : Proper F) (start : forced r0 ≡ true) where
     -- each rule keeps it
-    pub holds-step : {r : Record} {s : State} → Invariant F r0 r → Step F r s → Holds F r0 s
+    pub holds-step : {r : Record} {s : State} → Invariant F r0 r → StepBy μ F r s → Holds F r0 s
     unfolding worth
     holds-step {r} i (backtrack-exists c a b l e h) = invariant-cut start false a b l i e h (conflict-law F (trueIn r) ok c)
     holds-step {r} i (fail c h) = invariant-end start false i h (conflict-law F (trueIn r) ok c)
     holds-step {r} i (unit q C j l h) = invariant-grow (entry 0 l) i (unit-law F ok (trueIn r) C j l h)
-    holds-step {r} i (monotone q l h) = invariant-grow (entry 0 l) i (monotone-law F ok (trueIn r) l h)
+    holds-step {r} i (monotone q l h) = invariant-grow (entry 0 l) i (monotone-law F ok (trueIn r) l (within .wide (F .prefix) (F .clauses) (trueIn r) l h))
     holds-step {r} i (decide-exists q l o e) = invariant-grow (entry 1 l) i (rw (existential-universal ok l e) at (decide-law F ok (trueIn r) l o))
     holds-step {r} i (decide-forall q l o e) = invariant-grow (entry 2 l) i (rw e at (decide-law F ok (trueIn r) l o))
     holds-step {r} i (backtrack-forall q f a b l e h) = invariant-cut start true a b l i e h (leaf-law F (trueIn r) q f)
     holds-step {r} i (succeed q f h) = invariant-end start true i h (leaf-law F (trueIn r) q f)
 
     -- and so does each path
-    pub holds-path : {n : ℕ} {s t : State} → Holds F r0 s → Path F n s t → Holds F r0 t
+    pub holds-path : {n : ℕ} {s t : State} → Holds F r0 s → PathBy μ F n s t → Holds F r0 t
     holds-path h stop = h
     holds-path h (take s p) = holds-path (holds-step h s) p

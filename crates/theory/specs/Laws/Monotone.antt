@@ -1,5 +1,5 @@
--- Which Monotone rules the theory covers: `monotoneWide` is the widest, and both the one that counts every clause and the one that counts
--- only clauses with no true literal are cases of it, since a sign that does not occur in the counted clauses is absent from those that count.
+-- Two tests of Monotone that are within the widest: the one that counts only clauses with no true literal, and the one that counts all. A sign
+-- that does not occur in the counted clauses is absent from those that lack a true literal.
 use mathlib.Core.Path.{_≡_}
 use mathlib.Core.Logic.{_⊎_, inl, inr}
 use mathlib.Core.Bool.{Bool, true, false, not, cond, _&&_, _||_}
@@ -11,6 +11,7 @@ use Rattle.words.specs.Laws.Lists.{all-i, any-i}
 use Rattle.words.specs.Words.{mem}
 use Rattle.words.specs.Laws.Words.{negneg}
 use Rattle.theory.specs.Record.{Assignment}
+use Rattle.theory.specs.Rules.{Within}
 use Rattle.theory.specs.Tests.{unassignedE, unassignedU, occurs, oneSign, monotone, untrueOf, monotoneOpen, absent, monotoneWide}
 
 -- any count that leaves out no clause that lacks a true literal: m is the matrix, n what is counted
@@ -43,12 +44,11 @@ untrue-i ρ {C} (there {y = D} {xs = m} i) h = go (any ρ D) (untrue-i ρ i h)
     go true j = j
     go false j = there j
 
-module _ (p : List ℤ) (m : List (List ℤ)) (ρ : Assignment) (l : ℤ) where
-  -- "over the whole matrix"
-  pub monotone-wide : monotone p m ρ l ≡ true → monotoneWide p m ρ l ≡ true
-  monotone-wide = counted-wide m m ρ (λ C i e. i) p l
+-- over the clauses with no true literal
+pub open-within : Within monotoneOpen
+unfolding monotoneOpen
+open-within = record { wide = λ p m ρ l. counted-wide m (untrueOf ρ m) ρ (λ C i e. untrue-i ρ i e) p l }
 
-  -- over the clauses with no true literal
-  pub monotone-open-wide : monotoneOpen p m ρ l ≡ true → monotoneWide p m ρ l ≡ true
-  unfolding monotoneOpen
-  monotone-open-wide = counted-wide m (untrueOf ρ m) ρ (λ C i e. untrue-i ρ i e) p l
+-- over all clauses
+pub whole-within : Within monotone
+whole-within = record { wide = λ p m ρ l. counted-wide m m ρ (λ C i e. i) p l }

@@ -15,7 +15,7 @@ use Rattle.formula.specs.Formula.{Formula, existential, universal}
 use Rattle.formula.specs.Laws.Prefix.{stands, existential-neg, universal-neg, existential-stands, universal-stands, twice-before, twice-snoc}
 use Rattle.formula.specs.Block.{twice}
 use Rattle.theory.specs.Record.{entry, Record, trueIn, assigned, Entry, literals}
-use Rattle.theory.specs.Rules.{State, going, verdict, Step, backtrack-exists, fail, unit, monotone, decide-exists, decide-forall, backtrack-forall, succeed, valid, unsat, Path, stop, take}
+use Rattle.theory.specs.Rules.{State, going, verdict, MonotoneTest, Within, StepBy, backtrack-exists, fail, unit, monotone, decide-exists, decide-forall, backtrack-forall, succeed, valid, unsat, PathBy, stop, take}
 use Rattle.theory.specs.Start.{suits, allSuit, Good}
 use Rattle.theory.specs.Laws.Tested.{unassignedE-e, unassignedU-e, unit-e, open-e, wide-e}
 use Rattle.theory.specs.Laws.Assignment.{assigned-neg, assigned-among, literals-append}
@@ -42,19 +42,19 @@ pub suits-neg : (p : List ℤ) (l : ℤ) → suits p 0 (negℤ l) ≡ suits p 0 
 unfolding suits
 suits-neg p l = rw (existential-neg p l, universal-neg p l)
 
-pub move : (F : Formula) {r : Record} {s : State} → Step F r s → Move F r s
+pub move : {μ : MonotoneTest} → Within μ → (F : Formula) {r : Record} {s : State} → StepBy μ F r s → Move F r s
 unfolding suits
-move F (backtrack-exists c a b l e h) = cuts 1 a b l refl e
-move F (fail c h) = ends false
-move F {r} (unit q C j l h) = let u = unit-e (F .prefix) (trueIn r) C l h in grows 0 l (u .unset) (or-l (universal (F .prefix) l) (u .exists))
-move F {r} (monotone q l h) = elim (wide-e (F .prefix) (F .clauses) (trueIn r) l h) [
+move w F (backtrack-exists c a b l e h) = cuts 1 a b l refl e
+move w F (fail c h) = ends false
+move w F {r} (unit q C j l h) = let u = unit-e (F .prefix) (trueIn r) C l h in grows 0 l (u .unset) (or-l (universal (F .prefix) l) (u .exists))
+move w F {r} (monotone q l h) = elim (wide-e (F .prefix) (F .clauses) (trueIn r) l (w .wide (F .prefix) (F .clauses) (trueIn r) l h)) [
   | inl k ↦ let (e, u) = unassignedE-e (F .prefix) (trueIn r) l (k .0) in grows 0 l u (or-l (universal (F .prefix) l) e)
   | inr k ↦ let (e, u) = unassignedU-e (F .prefix) (trueIn r) l (k .0) in grows 0 l u (or-r (existential (F .prefix) l) e)
 ]
-move F {r} (decide-exists q l o e) = grows 1 l (open-e (F .prefix) (trueIn r) l o .unset) e
-move F {r} (decide-forall q l o e) = grows 2 l (open-e (F .prefix) (trueIn r) l o .unset) e
-move F (backtrack-forall q f a b l e h) = cuts 2 a b l refl e
-move F (succeed q f h) = ends true
+move w F {r} (decide-exists q l o e) = grows 1 l (open-e (F .prefix) (trueIn r) l o .unset) e
+move w F {r} (decide-forall q l o e) = grows 2 l (open-e (F .prefix) (trueIn r) l o .unset) e
+move w F (backtrack-forall q f a b l e h) = cuts 2 a b l refl e
+move w F (succeed q f h) = ends true
 
 -- ---- good records stay good
 abbrev pub GoodState : Formula → State → Type 0
@@ -97,16 +97,20 @@ module _ (F : Formula) where
       let (h, u, s) = good-at a b (entry k l) g in
       good-grow a 0 (negℤ l) h (assigned-neg (trueIn a) l ∙ u) (suits-neg (F .prefix) l ∙ suits-forced (F .prefix) k l s)
 
-  pub good-step : {r : Record} {s : State} → Good F r → Step F r s → GoodState F s
-  good-step {r} g s = go g (move F s)
-    where
-      go : {s : State} → Good F r → Move F r s → GoodState F s
-      go g (grows k l a h) = good-grow r k l g a h
-      go g (cuts k a b l d e) = good-cut a b k l (rw e at g)
-      go g (ends true) = tt
-      go g (ends false) = tt
+pub good-step : {μ : MonotoneTest} → Within μ → (F : Formula) {r : Record} {s : State} → Good F r → StepBy μ F r s → GoodState F s
+good-step w F {r} g s = go g (move w F s)
+  where
+    go : {s : State} → Good F r → Move F r s → GoodState F s
+    go g (grows k l a h) = good-grow F r k l g a h
+    go g (cuts k a b l d e) = good-cut F a b k l (rw e at g)
+    go g (ends true) = tt
+    go g (ends false) = tt
 
--- ---- one more rule at a path's end, as a history of steps grows
-pub path-snoc : (F : Formula) {n : ℕ} {s t : State} {r : Record} → Path F n s (going r) → Step F r t → Path F (suc n) s t
+-- ---- paths put together: one after another, and one more rule at the end, as a history of steps grows
+pub path-append : {μ : MonotoneTest} (F : Formula) {n m : ℕ} {s t u : State} → PathBy μ F n s t → PathBy μ F m t u → (k : ℕ) × PathBy μ F k s u
+path-append F stop q = (_, q)
+path-append F (take x p) q = (_, take x (path-append F p q .1))
+
+pub path-snoc : {μ : MonotoneTest} (F : Formula) {n : ℕ} {s t : State} {r : Record} → PathBy μ F n s (going r) → StepBy μ F r t → PathBy μ F (suc n) s t
 path-snoc F stop x = take x stop
 path-snoc F (take s p) x = take s (path-snoc F p x)

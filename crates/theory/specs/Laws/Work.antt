@@ -18,7 +18,7 @@ use Rattle.formula.specs.Formula.{Formula}
 use Rattle.formula.specs.Block.{twice}
 use Rattle.formula.specs.Laws.Prefix.{stands, stands-cons, stands-none, twice-head, twice-tail}
 use Rattle.theory.specs.Record.{Entry, entry, Record, literals, Assignment, among, trueIn, assigned, forced}
-use Rattle.theory.specs.Rules.{State, going, valid, unsat, Step, Path, stop, take}
+use Rattle.theory.specs.Rules.{State, going, valid, unsat, MonotoneTest, Within, StepBy, PathBy, stop, take}
 use Rattle.theory.specs.Start.{suits, allSuit, Good, rest}
 use Rattle.theory.specs.Laws.Assignment.{put, after, true-snoc, true-append, assigned-var, assigned-own, assigned-still, assigned-sign, assigned-among}
 use Rattle.theory.specs.Laws.Value.{rest-same, rest-unset}
@@ -136,24 +136,6 @@ module _ (F : Formula) where
         d,
       ) (omega arith)
 
-  -- every rule lowers the work
-  pub step-less : {r : Record} {s : State} → Step F r s → work F s < work F (going r)
-  unfolding work
-  step-less {r} s = go (move F s)
-    where
-      positive : 0 < work F (going r)
-      positive = let h = nodes-pos (free (F .prefix) (trueIn r)) in omega arith
-
-      go : {s : State} → Move F r s → work F s < work F (going r)
-      go (grows k l a h) = grows-less r k l a (suits-stands (F .prefix) k l h)
-      go (cuts k a b l d e) = rw e (cuts-less k a b l d)
-      go (ends true) = positive
-      go (ends false) = positive
-
-  pub path-work : {n : ℕ} {s t : State} → Path F n s t → n + work F t ≤ work F s
-  path-work stop = omega arith
-  path-work (take s p) = let k = step-less s in let j = path-work p in omega arith
-
   -- forced entries owe nothing
   pub forced-owed : (ρ : Assignment) (r : Record) → forced r ≡ true → owed (F .prefix) ρ r ≡ 0
   unfolding owed debt forced all
@@ -161,3 +143,22 @@ module _ (F : Formula) where
   forced-owed ρ (e ∷ r) h =
       let k = forced-owed (put (e .literal) ρ) r (and-r (eqb (e .kind) 0) (forced r) h) in
       rw (and-l (eqb (e .kind) 0) (forced r) h) (omega arith)
+
+module _ {μ : MonotoneTest} (within : Within μ) (F : Formula) where
+  -- every rule lowers the work
+  pub step-less : {r : Record} {s : State} → StepBy μ F r s → work F s < work F (going r)
+  unfolding work
+  step-less {r} s = go (move within F s)
+    where
+      positive : 0 < work F (going r)
+      positive = let h = nodes-pos (free (F .prefix) (trueIn r)) in omega arith
+
+      go : {s : State} → Move F r s → work F s < work F (going r)
+      go (grows k l a h) = grows-less F r k l a (suits-stands (F .prefix) k l h)
+      go (cuts k a b l d e) = rw e (cuts-less F k a b l d)
+      go (ends true) = positive
+      go (ends false) = positive
+
+  pub path-work : {n : ℕ} {s t : State} → PathBy μ F n s t → n + work F t ≤ work F s
+  path-work stop = omega arith
+  path-work (take s p) = let k = step-less s in let j = path-work p in omega arith

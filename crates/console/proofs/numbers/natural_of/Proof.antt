@@ -6,13 +6,14 @@ use native.Mathlib.Omega.{arith}
 use lib.ListN.{length, getD, drop}
 use borrow.Author.Tests.{ltb-true, ltb-false}
 use borrow.Author.Needs.{needs}
+use Rattle.console.specs.Room.{longMost}
 use Rattle.console.specs.Numbers.{valueOf, naturalOf}
 use Rattle.console.proofs.Digits.{begins, empty, ends, low, high, over, goes}
 use Rattle.console.proofs.numbers.natural_of.Statement.{statement}
 use Rattle.console.proofs.numbers.natural_of.Tie as tie
 
 abbrev Inv-loop : tie.InvT-loop
-Inv-loop word value₀ i₀ value i = (i ≤ length word) × (value ≤ 18446744073709551615) × (valueOf value (drop i word) ≡ naturalOf word)
+Inv-loop word value₀ i₀ value i = (i ≤ length word) × (value ≤ longMost) × (valueOf value (drop i word) ≡ naturalOf word)
 
 abbrev μ-loop : tie.MeasureT-loop
 μ-loop word value₀ i₀ value i = length word - i
@@ -22,9 +23,6 @@ returns c = empty (c .before .args .word .now) (c .if1 .taken)
 
 loop-holds : tie.Need-loop-holds Inv-loop μ-loop
 loop-holds c = (search needs, search needs, begins (c .before .args .word .now) (c .if1 .left))
-
-shared-slice-read-b : tie.Need-shared-slice-read-b Inv-loop μ-loop
-shared-slice-read-b c = search needs
 
 returns-2 : tie.Need-returns-2 Inv-loop μ-loop
 returns-2 c =
@@ -49,17 +47,8 @@ returns-3 c =
     let b : getD w (head .loop .i) 0 ≤ 57 = ltb-false _ _ (c .before .if3 .left) in
     sym (over (head .loop .value) w (head .loop .i) (read .before .loop-test .taken) (c .before .before .if2 .left) b (c .if4 .taken)) ∙ head .loop .inv .2
 
-mul-value : tie.Need-mul-value Inv-loop μ-loop
-mul-value c = search needs
-
 add-value : tie.Need-add-value Inv-loop μ-loop
 add-value c = omega (arith, ltb-false)
-
-add-i : tie.Need-add-i Inv-loop μ-loop
-add-i c = search needs
-
-loop-less : tie.Need-loop-less Inv-loop μ-loop
-loop-less c = search needs
 
 loop-again : tie.Need-loop-again Inv-loop μ-loop
 loop-again c =
@@ -79,18 +68,5 @@ pub natural-of-spec : {M : Type 1} → statement M
 natural-of-spec =
     tie.close
     (tie.spec
-    Inv-loop
-    μ-loop
-    returns
-    loop-holds
-    shared-slice-read-b
-    returns-2
-    cast-digit
-    sub-if4
-    returns-3
-    mul-value
-    add-value
-    add-i
-    loop-less
-    loop-again
-    returns-4)
+    Inv-loop μ-loop returns loop-holds (λ c. search needs) returns-2 cast-digit sub-if4 returns-3
+    (λ c. search needs) add-value (λ c. search needs) (λ c. search needs) loop-again returns-4)

@@ -6,12 +6,6 @@ use borrow.Author.Needs.{needs}
 use Rattle.formula.proofs.header.bad_count.Statement.{statement}
 use Rattle.formula.proofs.header.bad_count.Tie as tie
 
-negative-at-requires : tie.Need-negative-at-requires
-negative-at-requires c κs = search needs
-
-size-at-requires : tie.Need-size-at-requires
-size-at-requires c κs = search needs
-
 returns : tie.Need-returns
 returns c = or-first _ (c .before .negative-at .ensures) (c .if1 .taken)
 
@@ -21,4 +15,4 @@ returns-2 c =
     or-second _ (c .before .before .negative-at .ensures) (c .before .if1 .left) (ap (ltb (start .args .limit)) (c .size-at .ensures))
 
 pub bad-count-spec : {M : Type 1} → statement M
-bad-count-spec = tie.close (tie.spec negative-at-requires size-at-requires returns returns-2)
+bad-count-spec = tie.close (tie.spec (λ c κs. search needs) (λ c κs. search needs) returns returns-2)

@@ -11,15 +11,6 @@ use borrow.Author.Needs.{needs}
 use Rattle.formula.proofs.header.bad_counts.Statement.{statement}
 use Rattle.formula.proofs.header.bad_counts.Tie as tie
 
-bad-count-requires : tie.Need-bad-count-requires
-bad-count-requires c κs = search needs
-
-bad-count-requires-2 : tie.Need-bad-count-requires-2
-bad-count-requires-2 c κs = search needs
-
-bad-count-requires-3 : tie.Need-bad-count-requires-3
-bad-count-requires-3 c κs = search needs
-
 -- the first two tests
 two : (c : tie.Joined1) → let b = c .before .before .args .block .now in c .if1 .if2 ≡ badCount (limits .variables) (word b 0) || badCount (limits .clauses) (word b 1)
 two c =
@@ -35,4 +26,4 @@ returns-2 c = or-second _ (two (c .before .before)) (c .before .if2 .left) (rw l
 pub bad-counts-spec : {M : Type 1} → statement M
 bad-counts-spec =
     tie.close
-    (tie.spec bad-count-requires bad-count-requires-2 bad-count-requires-3 returns returns-2)
+    (tie.spec (λ c κs. search needs) (λ c κs. search needs) (λ c κs. search needs) returns returns-2)

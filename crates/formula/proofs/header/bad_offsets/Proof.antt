@@ -10,15 +10,6 @@ use borrow.Author.Needs.{needs}
 use Rattle.formula.proofs.header.bad_offsets.Statement.{statement}
 use Rattle.formula.proofs.header.bad_offsets.Tie as tie
 
-is-not-requires : tie.Need-is-not-requires
-is-not-requires c κs = search needs
-
-is-not-requires-2 : tie.Need-is-not-requires-2
-is-not-requires-2 c κs = search needs
-
-is-not-requires-3 : tie.Need-is-not-requires-3
-is-not-requires-3 c κs = search needs
-
 -- the first two tests
 two : (c : tie.Joined1) → let b = c .before .before .args .block .now in c .if1 .if2 ≡ isNot 6 (word b 3) || isNot (6 + variablesOf b) (word b 4)
 two c =
@@ -36,4 +27,4 @@ returns-2 c =
 
 pub bad-offsets-spec : {M : Type 1} → statement M
 bad-offsets-spec =
-    tie.close (tie.spec is-not-requires is-not-requires-2 is-not-requires-3 returns returns-2)
+    tie.close (tie.spec (λ c κs. search needs) (λ c κs. search needs) (λ c κs. search needs) returns returns-2)

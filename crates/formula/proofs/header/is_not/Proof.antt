@@ -8,12 +8,6 @@ use borrow.Author.Needs.{needs}
 use Rattle.formula.proofs.header.is_not.Statement.{statement}
 use Rattle.formula.proofs.header.is_not.Tie as tie
 
-negative-at-requires : tie.Need-negative-at-requires
-negative-at-requires c κs = search needs
-
-size-at-requires : tie.Need-size-at-requires
-size-at-requires c κs = search needs
-
 returns : tie.Need-returns
 returns c = rw not-number (or-first _ (c .before .negative-at .ensures) (c .if1 .taken))
 
@@ -24,4 +18,4 @@ returns-2 c =
     (or-second _ (c .before .before .negative-at .ensures) (c .before .if1 .left) (ap (λ s. not (eqb s (start .args .n))) (c .size-at .ensures)))
 
 pub is-not-spec : {M : Type 1} → statement M
-is-not-spec = tie.close (tie.spec negative-at-requires size-at-requires returns returns-2)
+is-not-spec = tie.close (tie.spec (λ c κs. search needs) (λ c κs. search needs) returns returns-2)

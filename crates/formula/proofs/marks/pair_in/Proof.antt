@@ -21,9 +21,6 @@ abbrev μ-loop : tie.MeasureT-loop
 loop-holds : tie.Need-loop-holds Inv-loop μ-loop
 loop-holds c = begin _ _ _ _ (c .pre .1)
 
-sub-i : tie.Need-sub-i Inv-loop μ-loop
-sub-i c = omega arith
-
 -- the literal before the i-th is within the clause, and names a variable
 literal-small : (c : tie.In-loop Inv-loop μ-loop) → natAbs (getD (c .before .before .args .clause .now) (c .before .loop .i - 1) (pos 0)) ≤ limits .variables
 literal-small c = c .before .before .pre .0 .at (c .before .loop .i - 1) (omega (arith, c .loop-test .taken, c .before .loop .inv .at)) .most
@@ -41,9 +38,6 @@ module _ (c : tie.After-place-at Inv-loop μ-loop) where
 
   other-is : 2 * maxVariables - c .place-at .result ≡ 2 * limits .variables - c .place-at .result
   other-is = omega (arith, variables-are)
-
-mul-other : tie.Need-mul-other Inv-loop μ-loop
-mul-other c = omega arith
 
 sub-other : tie.Need-sub-other Inv-loop μ-loop
 sub-other c = omega (arith, placed c)
@@ -72,9 +66,6 @@ mul-marks c = omega (arith, placed (c .before .before .before .before))
 element-write-marks : tie.Need-element-write-marks Inv-loop μ-loop
 element-write-marks c = placed (c .before .before .before .before)
 
-loop-less : tie.Need-loop-less Inv-loop μ-loop
-loop-less c = omega arith
-
 loop-again : tie.Need-loop-again Inv-loop μ-loop
 loop-again c =
     let passed = c .before .before in
@@ -92,9 +83,9 @@ pair-in-spec =
     Inv-loop
     μ-loop
     loop-holds
-    sub-i
+    (λ c. omega arith)
     place-at-requires
-    mul-other
+    (λ c. omega arith)
     sub-other
     mul-if1
     element-copy-out-if1
@@ -103,6 +94,6 @@ pair-in-spec =
     element-copy-out-if2
     mul-marks
     element-write-marks
-    loop-less
+    (λ c. omega arith)
     loop-again
     returns-2)

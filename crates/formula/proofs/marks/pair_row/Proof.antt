@@ -17,9 +17,6 @@ abbrev μ-loop : tie.MeasureT-loop
 loop-holds : tie.Need-loop-holds Inv-loop μ-loop
 loop-holds c = begin _ _ (c .pre .1)
 
-size-at-requires : tie.Need-size-at-requires Inv-loop μ-loop
-size-at-requires c κs = tt
-
 -- the clause lies within the literals
 module _ (c : tie.After-size-at Inv-loop μ-loop) where
   start-within : c .before .before .loop .from ≤ c .size-at .result
@@ -40,9 +37,6 @@ part-pair-in-start c = start-within c
 part-pair-in-end : tie.Need-part-pair-in-end Inv-loop μ-loop
 part-pair-in-end c = end-within c
 
-add-pair-in : tie.Need-add-pair-in Inv-loop μ-loop
-add-pair-in c = omega arith
-
 pair-in-requires : tie.Need-pair-in-requires Inv-loop μ-loop
 pair-in-requires c κs =
     let read = c .before .before in
@@ -55,12 +49,6 @@ returns c =
     let read = called .before .before .before in
     let turn = read .before in
     hit _ _ _ _ _ _ (turn .before .loop .inv) (turn .loop-test .taken) _ (read .size-at .ensures) _ (called .pair-in .ensures .0) (c .if1 .taken)
-
-add-i : tie.Need-add-i Inv-loop μ-loop
-add-i c = omega arith
-
-loop-less : tie.Need-loop-less Inv-loop μ-loop
-loop-less c = omega arith
 
 loop-again : tie.Need-loop-again Inv-loop μ-loop
 loop-again c =
@@ -80,15 +68,15 @@ pair-row-spec =
     Inv-loop
     μ-loop
     loop-holds
-    size-at-requires
+    (λ c κs. tt)
     mul-pair-in
     sub-pair-in
     part-pair-in-start
     part-pair-in-end
-    add-pair-in
+    (λ c. omega arith)
     pair-in-requires
     returns
-    add-i
-    loop-less
+    (λ c. omega arith)
+    (λ c. omega arith)
     loop-again
     returns-2)

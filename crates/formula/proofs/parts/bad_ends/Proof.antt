@@ -37,12 +37,6 @@ module _ (c : tie.After-negative-at Inv-loop μ-loop) where
 loop-holds : tie.Need-loop-holds Inv-loop μ-loop
 loop-holds c = (omega arith, refl)
 
-size-at-requires : tie.Need-size-at-requires Inv-loop μ-loop
-size-at-requires c κs = search needs
-
-negative-at-requires : tie.Need-negative-at-requires Inv-loop μ-loop
-negative-at-requires c κs = search needs
-
 returns : tie.Need-returns Inv-loop μ-loop
 returns c =
     let r = c .before in
@@ -50,12 +44,6 @@ returns c =
     let bad : badEnd (total r) (from r) (end r) ≡ true =
     ⊎-elim (λ t. end-negative _ _ _ _ is _ (r .negative-at .ensures) (t .taken)) (⊎-elim (λ t. end-falls _ _ _ _ is (t .1 .taken)) (λ t. end-over _ _ _ _ is (t .2 .taken))) (c .if1 .came) in
     sym (ends-bad _ _ _ _ (r .before .before .loop-test .taken) bad) ∙ r .before .before .before .loop .inv .1
-
-add-i : tie.Need-add-i Inv-loop μ-loop
-add-i c = search needs
-
-loop-less : tie.Need-loop-less Inv-loop μ-loop
-loop-less c = search needs
 
 loop-again : tie.Need-loop-again Inv-loop μ-loop
 loop-again c =
@@ -74,10 +62,10 @@ bad-ends-spec =
     Inv-loop
     μ-loop
     loop-holds
-    size-at-requires
-    negative-at-requires
+    (λ c κs. search needs)
+    (λ c κs. search needs)
     returns
-    add-i
-    loop-less
+    (λ c. search needs)
+    (λ c. search needs)
     loop-again
     returns-2)

@@ -10,15 +10,6 @@ use borrow.Author.Needs.{needs}
 use Rattle.formula.proofs.parts.last_negative.Statement.{statement}
 use Rattle.formula.proofs.parts.last_negative.Tie as tie
 
-sub-negative-at : tie.Need-sub-negative-at
-sub-negative-at c = search needs
-
-negative-at-requires : tie.Need-negative-at-requires
-negative-at-requires c κs = search needs
-
-returns : tie.Need-returns
-returns c = search needs
-
 returns-2 : tie.Need-returns-2
 returns-2 c =
     let p = c .before .args .prefix .now in
@@ -26,4 +17,4 @@ returns-2 c =
     le-ltb 0 (length p) (c .if1 .left) ∙ sym (ap negative (List·getD-eq-default p (pos 0) empty))
 
 pub last-negative-spec : {M : Type 1} → statement M
-last-negative-spec = tie.close (tie.spec sub-negative-at negative-at-requires returns returns-2)
+last-negative-spec = tie.close (tie.spec (λ c. search needs) (λ c κs. search needs) (λ c. search needs) returns-2)

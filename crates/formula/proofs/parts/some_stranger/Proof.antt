@@ -23,9 +23,6 @@ abbrev μ-loop : tie.MeasureT-loop
 loop-holds : tie.Need-loop-holds Inv-loop μ-loop
 loop-holds c = (omega arith, refl)
 
-size-at-requires : tie.Need-size-at-requires Inv-loop μ-loop
-size-at-requires c κs = search needs
-
 returns : tie.Need-returns Inv-loop μ-loop
 returns c =
     let read = c .before in
@@ -36,12 +33,6 @@ returns c =
     let none : noVariable n w ≡ true =
     ⊎-elim (λ t. zero-is-none n w _ (read .size-at .ensures) (t .taken)) (λ t. over-is-none n w _ (read .size-at .ensures) (t .1 .taken)) (c .if1 .came) in
     sym (any-found (noVariable n) (start .args .ws .now) (turn .before .loop .i) (pos 0) (turn .loop-test .taken) none) ∙ turn .before .loop .inv .1
-
-add-i : tie.Need-add-i Inv-loop μ-loop
-add-i c = search needs
-
-loop-less : tie.Need-loop-less Inv-loop μ-loop
-loop-less c = search needs
 
 loop-again : tie.Need-loop-again Inv-loop μ-loop
 loop-again c =
@@ -65,9 +56,9 @@ some-stranger-spec =
     Inv-loop
     μ-loop
     loop-holds
-    size-at-requires
+    (λ c κs. search needs)
     returns
-    add-i
-    loop-less
+    (λ c. search needs)
+    (λ c. search needs)
     loop-again
     returns-2)

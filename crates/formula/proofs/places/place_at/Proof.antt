@@ -12,12 +12,6 @@ use Rattle.formula.proofs.places.place_at.Tie as tie
 returns : tie.Need-returns
 returns c = place-none (c .before .args .ws .now) _ maxVariables (sym variables-are) (c .if1 .taken)
 
-mul-word : tie.Need-mul-word
-mul-word c = search needs
-
-shared-slice-copy-out-word : tie.Need-shared-slice-copy-out-word
-shared-slice-copy-out-word c = search needs
-
 cast-word : tie.Need-cast-word
 cast-word c =
     let start = c .before .before in
@@ -43,8 +37,8 @@ place-at-spec =
     tie.close
     (tie.spec
     returns
-    mul-word
-    shared-slice-copy-out-word
+    (λ c. search needs)
+    (λ c. search needs)
     cast-word
     add-result
     cast-result

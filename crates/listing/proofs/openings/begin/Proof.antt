@@ -1,6 +1,6 @@
 -- The first V places are wiped, and the words that are lent are the first group.
 use borrow.Author.Needs.{needs}
-use Rattle.listing.proofs.Begun.{writable, begun}
+use Rattle.listing.proofs.Groups.{writable, begun}
 use Rattle.listing.proofs.openings.begin.Statement.{statement}
 use Rattle.listing.proofs.openings.begin.Tie as tie
 

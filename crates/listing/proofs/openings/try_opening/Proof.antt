@@ -1,5 +1,5 @@
 -- The start is the opening's, and a record that passes row 12.
-use Rattle.listing.proofs.Begun.{searchable, searched}
+use Rattle.listing.proofs.Groups.{searchable, searched}
 use borrow.Author.Needs.{needs}
 use Rattle.listing.proofs.openings.try_opening.Statement.{statement}
 use Rattle.listing.proofs.openings.try_opening.Tie as tie

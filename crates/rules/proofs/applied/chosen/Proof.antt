@@ -4,7 +4,7 @@ use lib.IntN.{natAbs}
 use mir.Syntax.{w32}
 use mir.ValLaws.{toZ-ofZ}
 use borrow.Author.Needs.{needs, sfits-of}
-use Rattle.rules.proofs.Exits.{first-chosen, proposal-chosen}
+use Rattle.rules.proofs.Places.{first-chosen, proposal-chosen}
 use Rattle.rules.proofs.applied.chosen.Statement.{statement}
 use Rattle.rules.proofs.applied.chosen.Tie as tie
 
@@ -13,18 +13,15 @@ sized c =
     c .size .ensures
     ∙ ap natAbs (toZ-ofZ w32 (c .before .before .args .proposal .0) (sfits-of (c .before .struct-told .given .0 .1)))
 
-size-requires : tie.Need-size-requires
-size-requires c κs = search needs
-
 returns : tie.Need-returns
 returns c =
     let start = c .before .before .before in
-    first-chosen (start .args .proposal .0) (start .args .first .0) (sym (sized (c .before)) ∙ c .if1 .taken)
+    first-chosen (start .args .proposal .0) (start .args .first) (sym (sized (c .before)) ∙ c .if1 .taken)
 
 returns-2 : tie.Need-returns-2
 returns-2 c =
     let start = c .before .before .before in
-    proposal-chosen (start .args .proposal .0) (start .args .first .0) (λ e. c .if1 .left (sized (c .before) ∙ e))
+    proposal-chosen (start .args .proposal) (start .args .first) (λ e. c .if1 .left (sized (c .before) ∙ e))
 
 pub chosen-spec : {M : Type 1} → statement M
-chosen-spec = tie.close (tie.spec size-requires returns returns-2)
+chosen-spec = tie.close (tie.spec (λ c κs. search needs) returns returns-2)

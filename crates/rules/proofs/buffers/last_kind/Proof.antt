@@ -14,22 +14,10 @@ Inv-loop kinds count kind i₀ i = (i ≤ count) × (lastKind kinds kind i ≡ l
 abbrev μ-loop : tie.MeasureT-loop
 μ-loop kinds count kind i₀ i = i
 
-loop-holds : tie.Need-loop-holds Inv-loop μ-loop
-loop-holds c = search needs
-
-sub-i : tie.Need-sub-i Inv-loop μ-loop
-sub-i c = omega arith
-
-shared-slice-read-if1 : tie.Need-shared-slice-read-if1 Inv-loop μ-loop
-shared-slice-read-if1 c = omega arith
-
 returns : tie.Need-returns Inv-loop μ-loop
 returns c =
     let turn = c .before .before in
     sym (last-here _ _ _ (turn .loop-test .taken) (c .if1 .taken)) ∙ turn .before .loop .inv .1
-
-loop-less : tie.Need-loop-less Inv-loop μ-loop
-loop-less c = omega arith
 
 loop-again : tie.Need-loop-again Inv-loop μ-loop
 loop-again c =
@@ -42,4 +30,4 @@ returns-2 c = sym (last-end _ _ _ (c .loop-test .left)) ∙ c .before .loop .inv
 pub last-kind-spec : {M : Type 1} → statement M
 last-kind-spec =
     tie.close
-    (tie.spec Inv-loop μ-loop loop-holds sub-i shared-slice-read-if1 returns loop-less loop-again returns-2)
+    (tie.spec Inv-loop μ-loop (λ c. search needs) (λ c. omega arith) (λ c. omega arith) returns (λ c. omega arith) loop-again returns-2)

@@ -12,32 +12,17 @@ Inv-loop kinds₀ from to i₀ kinds i = Wiping 0 from to kinds₀ i kinds
 abbrev μ-loop : tie.MeasureT-loop
 μ-loop kinds₀ from to i₀ kinds i = to - i
 
-loop-holds : tie.Need-loop-holds Inv-loop μ-loop
-loop-holds c = wiping-begin
-
-same-length : tie.Need-same-length Inv-loop μ-loop
-same-length c = search needs
-
 returns : tie.Need-returns Inv-loop μ-loop
 returns c = wiping-past (c .before .before .loop .inv) (c .if1 .taken)
 
-slice-write-kinds : tie.Need-slice-write-kinds Inv-loop μ-loop
-slice-write-kinds c = omega arith
-
-add-i : tie.Need-add-i Inv-loop μ-loop
-add-i c = omega arith
-
-loop-less : tie.Need-loop-less Inv-loop μ-loop
-loop-less c = omega arith
-
 loop-again : tie.Need-loop-again Inv-loop μ-loop
 loop-again c = wiping-more (c .before .before .loop .inv) (c .before .loop-test .taken)
-
-same-length-2 : tie.Need-same-length-2 Inv-loop μ-loop
-same-length-2 c = search needs
 
 returns-2 : tie.Need-returns-2 Inv-loop μ-loop
 returns-2 c = wiping-end (c .before .loop .inv) (c .loop-test .left)
 
 pub wipe-kinds-spec : {M : Type 1} → statement M
-wipe-kinds-spec = tie.close (tie.spec Inv-loop μ-loop loop-holds same-length returns slice-write-kinds add-i loop-less loop-again same-length-2 returns-2)
+wipe-kinds-spec =
+    tie.close
+    (tie.spec Inv-loop μ-loop (λ c. wiping-begin) (λ c. search needs) returns (λ c. omega arith) (λ c. omega arith) (λ c. omega arith)
+    loop-again (λ c. search needs) returns-2)

@@ -7,8 +7,7 @@ use borrow.Author.Needs.{needs}
 use Rattle.rules.specs.Due.{lowest}
 use Rattle.rules.specs.Inner.ByLiteral.{statusIn}
 use Rattle.rules.specs.Inner.Clauses.{conflictBy}
-use Rattle.rules.proofs.Walk.{Turn, turn, placed-part, Walk, walk-start, walk-on, walk-stop, walk-end}
-use Rattle.rules.proofs.Conflict.{lowest-hit, lowest-miss, lowest-none}
+use Rattle.rules.proofs.Walk.{Turn, turn, placed-part, Walk, walk-start, walk-on, walk-stop, walk-end, lowest-hit, lowest-miss, lowest-none}
 use Rattle.rules.proofs.clauses.lowest_conflict.Statement.{statement}
 use Rattle.rules.proofs.clauses.lowest_conflict.Tie as tie
 
@@ -19,28 +18,10 @@ Inv-loop ends literals statuses from₀ c₀ from c =
 abbrev μ-loop : tie.MeasureT-loop
 μ-loop ends literals statuses from₀ c₀ from c = length ends - c
 
-loop-holds : tie.Need-loop-holds Inv-loop μ-loop
-loop-holds c = walk-start _ _ _ (c .pre)
-
-size-at-requires : tie.Need-size-at-requires Inv-loop μ-loop
-size-at-requires c κs = search needs
-
 -- the clause of this turn
 module _ (c : tie.After-size-at Inv-loop μ-loop) where
   this : Turn (c .before .before .before .args .ends .now) (c .before .before .before .args .literals .now) (c .before .before .loop .from) (c .before .before .loop .c) (c .size-at .result)
   this = turn _ _ _ _ _ (c .before .loop-test .taken) (c .size-at .ensures) (c .before .before .loop .inv .ends)
-
-mul-in-conflict : tie.Need-mul-in-conflict Inv-loop μ-loop
-mul-in-conflict c = let t = this c in omega arith
-
-sub-in-conflict : tie.Need-sub-in-conflict Inv-loop μ-loop
-sub-in-conflict c = this c .starts
-
-part-in-conflict-start : tie.Need-part-in-conflict-start Inv-loop μ-loop
-part-in-conflict-start c = this c .starts
-
-part-in-conflict-end : tie.Need-part-in-conflict-end Inv-loop μ-loop
-part-in-conflict-end c = this c .stops
 
 in-conflict-requires : tie.Need-in-conflict-requires Inv-loop μ-loop
 in-conflict-requires c κs =
@@ -54,12 +35,6 @@ returns c =
     let l = c .before .before .before .before .before .loop in
     sym (lowest-hit _ _ _ _ (sym (c .before .in-conflict .ensures) ∙ c .if1 .taken)) ∙ walk-stop _ _ _ _ _ _ (l .inv) t
 
-add-c : tie.Need-add-c Inv-loop μ-loop
-add-c c = search needs
-
-loop-less : tie.Need-loop-less Inv-loop μ-loop
-loop-less c = search needs
-
 loop-again : tie.Need-loop-again Inv-loop μ-loop
 loop-again c =
     let t = this (c .before .before .before) in
@@ -72,18 +47,5 @@ returns-2 c = lowest-none _ _ ∙ walk-end _ _ _ _ _ (c .loop-test .left) (c .be
 pub lowest-conflict-spec : {M : Type 1} → statement M
 lowest-conflict-spec =
     tie.close
-    (tie.spec
-    Inv-loop
-    μ-loop
-    loop-holds
-    size-at-requires
-    mul-in-conflict
-    sub-in-conflict
-    part-in-conflict-start
-    part-in-conflict-end
-    in-conflict-requires
-    returns
-    add-c
-    loop-less
-    loop-again
-    returns-2)
+    (tie.spec Inv-loop μ-loop (λ c. walk-start _ _ _ (c .pre)) (λ c κs. search needs) (λ c. let t = this c in omega arith) (λ c. this c .starts)
+    (λ c. this c .starts) (λ c. this c .stops) in-conflict-requires returns (λ c. search needs) (λ c. search needs) loop-again returns-2)

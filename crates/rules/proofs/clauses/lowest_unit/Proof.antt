@@ -33,12 +33,6 @@ Inv-search ends literals statuses levels found₀ from₀ c₀ found from c =
 abbrev μ-search : tie.MeasureT-search
 μ-search ends literals statuses levels found₀ from₀ c₀ found from c = length ends - c
 
-search-holds : tie.Need-search-holds Inv-loop μ-loop Inv-search μ-search
-search-holds c = (refl, walk-start _ _ _ (c .pre))
-
-size-at-requires : tie.Need-size-at-requires Inv-loop μ-loop Inv-search μ-search
-size-at-requires c κs = search needs
-
 -- the clause of this turn
 module _ (c : tie.After-size-at Inv-loop μ-loop Inv-search μ-search) where
   this : Turn (c .before .before .before .args .ends .now) (c .before .before .before .args .literals .now) (c .before .before .search .from) (c .before .before .search .c) (c .size-at .result)
@@ -47,20 +41,11 @@ module _ (c : tie.After-size-at Inv-loop μ-loop Inv-search μ-search) where
 loop-holds : tie.Need-loop-holds Inv-loop μ-loop Inv-search μ-search
 loop-holds c = (refl, this c .starts, refl, look-start _ _ _ _ _)
 
-is-unit-requires : tie.Need-is-unit-requires Inv-loop μ-loop Inv-search μ-search
-is-unit-requires c κs = c .before .before .before .before .pre .placed
-
-literal-at-requires : tie.Need-literal-at-requires Inv-loop μ-loop Inv-search μ-search
-literal-at-requires c κs = search needs
-
 with-requires : tie.Need-with-requires Inv-loop μ-loop Inv-search μ-search
 with-requires c κs = (c .before .before .before .before .before .before .before .pre .placed, c .if2 .left)
 
 add-j : tie.Need-add-j Inv-loop μ-loop Inv-search μ-search
 add-j c = let t = this (c .before .before .before .before .before .before) in omega (arith, c .before .before .if2 .left, c .before .before .before .before .before .before .before .before .before .good)
-
-loop-less : tie.Need-loop-less Inv-loop μ-loop Inv-search μ-search
-loop-less c = omega (arith, c .before .before .if2 .left)
 
 loop-again : tie.Need-loop-again Inv-loop μ-loop Inv-search μ-search
 loop-again c =
@@ -105,22 +90,6 @@ returns-2 c =
 pub lowest-unit-spec : {M : Type 1} → statement M
 lowest-unit-spec =
     tie.close
-    (tie.spec
-    Inv-loop
-    μ-loop
-    Inv-search
-    μ-search
-    search-holds
-    size-at-requires
-    loop-holds
-    is-unit-requires
-    literal-at-requires
-    with-requires
-    add-j
-    loop-less
-    loop-again
-    add-c
-    search-less
-    search-again
-    returns
-    returns-2)
+    (tie.spec Inv-loop μ-loop Inv-search μ-search (λ c. (refl, walk-start _ _ _ (c .pre))) (λ c κs. search needs) loop-holds
+    (λ c κs. c .before .before .before .before .pre .placed) (λ c κs. search needs) with-requires add-j
+    (λ c. omega (arith, c .before .before .if2 .left)) loop-again add-c search-less search-again returns returns-2)

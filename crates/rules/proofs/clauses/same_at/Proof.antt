@@ -7,20 +7,8 @@ use Rattle.words.specs.Laws.Words.{eqZ-ne, same-sign}
 use Rattle.rules.proofs.clauses.same_at.Statement.{statement}
 use Rattle.rules.proofs.clauses.same_at.Tie as tie
 
-size-at-requires : tie.Need-size-at-requires
-size-at-requires c κs = search needs
-
-size-at-requires-2 : tie.Need-size-at-requires-2
-size-at-requires-2 c κs = search needs
-
 returns : tie.Need-returns
 returns c = sym (eqZ-ne (λ e. c .if1 .taken (c .before .before .size-at .ensures ∙ ap natAbs e ∙ sym (c .before .size-at2 .ensures))))
-
-negative-at-requires : tie.Need-negative-at-requires
-negative-at-requires c κs = search needs
-
-negative-at-requires-2 : tie.Need-negative-at-requires-2
-negative-at-requires-2 c κs = search needs
 
 returns-2 : tie.Need-returns-2
 returns-2 c =
@@ -31,12 +19,4 @@ returns-2 c =
     rw (c .before .negative-at .ensures, c .negative-at2 .ensures) (same-sign x y e)
 
 pub same-at-spec : {M : Type 1} → statement M
-same-at-spec =
-    tie.close
-    (tie.spec
-    size-at-requires
-    size-at-requires-2
-    returns
-    negative-at-requires
-    negative-at-requires-2
-    returns-2)
+same-at-spec = tie.close (tie.spec (λ c κs. search needs) (λ c κs. search needs) returns (λ c κs. search needs) (λ c κs. search needs) returns-2)

@@ -9,9 +9,6 @@ use borrow.Author.Needs.{needs}
 use Rattle.rules.proofs.clauses.status_at.Statement.{statement}
 use Rattle.rules.proofs.clauses.status_at.Tie as tie
 
-place-at-requires : tie.Need-place-at-requires
-place-at-requires c κs = search needs
-
 element-copy-out-result : tie.Need-element-copy-out-result
 element-copy-out-result c = omega (arith, variables-are, c .place-at .ensures, place-within (getD (c .before .args .ws .now) (c .before .args .i) (pos 0)) (c .before .pre))
 
@@ -19,4 +16,4 @@ returns : tie.Need-returns
 returns c = ap (λ at. getD (c .before .before .args .statuses .now) at 0) (c .before .place-at .ensures)
 
 pub status-at-spec : {M : Type 1} → statement M
-status-at-spec = tie.close (tie.spec place-at-requires element-copy-out-result returns)
+status-at-spec = tie.close (tie.spec (λ c κs. search needs) element-copy-out-result returns)

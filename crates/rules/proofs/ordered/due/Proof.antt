@@ -1,79 +1,80 @@
--- The lowest clause in conflict, or none, picks the case; the tables are those of the checked record.
-use mathlib.Core.Path.{_∙_}
+-- The lowest clause in conflict, or none, picks the case; the parts are those of an accepted block, and the tables those of a checked record.
+use mathlib.Core.Path.{_≡_, _∙_}
+use denote.Ref.{now}
+use Rattle.formula.specs.Formula.{clausesFrom, formulaOf}
+use Rattle.theory.specs.Tests.{inConflict}
 use Rattle.theory.specs.Record.{Record, trueIn}
 use Rattle.rules.specs.Trail.{trail, recordOf}
-use Rattle.rules.specs.Inner.Ready.{formula}
+use Rattle.rules.specs.Due.{lowest, due}
+use Rattle.rules.specs.Inner.Ready.{formula, Ready}
 use Rattle.rules.specs.Inner.Tabled.{Tabled, Sorts}
 use Rattle.rules.specs.Laws.Records.{kept-room}
 use Rattle.rules.specs.Laws.ClausesReady.{ready-clauses, conflict-ready, sorts}
-use Rattle.rules.specs.Laws.Kept.{kept-written, kept-tabled}
+use Rattle.rules.specs.Laws.Accepted.{kept-written, kept-tabled, accepted-ready, formula-is}
 use borrow.Author.Needs.{needs}
+use Rattle.rules.proofs.Filled.{bound-written, quantifiers-of}
 use Rattle.rules.proofs.ordered.due.Statement.{statement}
-use Rattle.rules.proofs.Ways as out
 use Rattle.rules.proofs.ordered.due.Tie as tie
 
-values-of-requires : tie.Need-values-of-requires
-values-of-requires c κs = kept-written _ _ _ (c .before .pre .1)
+-- the parts
+module _ (c : tie.After-literals) where
+  abbrev start : tie.Start
+  start = c .before .before .before .before
 
-universals-of-requires : tie.Need-universals-of-requires
-universals-of-requires c κs = search needs
+  parts : Ready (now (c .before .before .prefix .result)) (now (c .before .ends .result)) (now (c .literals .result))
+  parts = rw (c .before .before .prefix .ensures, c .before .ends .ensures, c .literals .ensures) (accepted-ready _ (start .pre .block))
+
+  whole : formulaOf (start .args .block .now) ≡ formula (now (c .before .before .prefix .result)) (now (c .before .ends .result)) (now (c .literals .result))
+  whole = formula-is (start .args .block .now) (c .before .before .prefix .ensures) (c .before .ends .ensures) (c .literals .ensures)
 
 statuses-of-requires : tie.Need-statuses-of-requires
-statuses-of-requires c κs = c .before .before .before .before .before .pre .0 .prefix .room
+statuses-of-requires c κs = parts (c .before .before .before .before) .prefix .room
 
 lowest-conflict-requires : tie.Need-lowest-conflict-requires
-lowest-conflict-requires c κs = ready-clauses _ _ _ (c .before .before .before .before .before .before .before .pre .0)
-
-enum-known-clause : tie.Need-enum-known-clause
-enum-known-clause c = search needs
+lowest-conflict-requires c κs = ready-clauses _ _ _ (parts (c .before .before .before .before .before .before))
 
 -- what the tables are told of the record
 module _ (c : tie.After-statuses) where
-  abbrev start : tie.Start
-  start = c .before .before .before .before .before .before .before
+  abbrev cut : tie.After-literals
+  cut = c .before .before .before .before .before .before
 
   abbrev record·of : Record
-  record·of = recordOf (trail (start .args .lits .now) (start .args .kinds .now)) (start .args .count)
+  record·of = recordOf (trail (start cut .args .lits .now) (start cut .args .kinds .now)) (start cut .args .count)
 
-  told : Tabled record·of (c .before .before .before .before .before .values-of .result) (start .args .kinds .now) (start .args .count)
-  told = kept-tabled _ _ _ (start .pre .1) _ (c .before .before .before .before .before .values-of .ensures)
+  told : Tabled record·of (c .before .before .before .before .before .values-of .result) (start cut .args .kinds .now) (start cut .args .count)
+  told = kept-tabled _ _ _ (start cut .pre .kept) _ (c .before .before .before .before .before .values-of .ensures)
 
-  sorting : Sorts (start .args .prefix .now) (trueIn record·of) (c .before .statuses-of .result)
-  sorting = sorts _ (start .pre .0 .prefix) _ _ (c .before .before .before .before .universals-of .result) (c .before .statuses-of .result) (told .values) (c .before .before .before .before .universals-of .ensures) (told .consistent) (c .before .statuses-of .ensures)
+  sorting : Sorts (now (cut .before .before .prefix .result)) (trueIn record·of) (c .before .statuses-of .result)
+  sorting = sorts _ (parts cut .prefix) _ _ (c .before .before .before .before .values-of2 .result) (told .values) (quantifiers-of _ (c .before .before .before .before .values-of2 .result) (c .before .before .before .before .values-of2 .ensures)) (told .consistent) (c .before .statuses-of .result) (c .before .statuses-of .ensures)
 
 due-conflict-requires : tie.Need-due-conflict-requires
-due-conflict-requires c κs = kept-room (start (c .before .before .before .before) .pre .1) .kinds
-
-enum-told : tie.Need-enum-told
-enum-told c = search needs
+due-conflict-requires c κs = kept-room (start (cut (c .before .before .before .before)) .pre .kept) .kinds
 
 due-unit-requires : tie.Need-due-unit-requires
-due-unit-requires c κs = (start (c .before .before .before .before .before) .pre .0, kept-room (start (c .before .before .before .before .before) .pre .1) .kinds)
+due-unit-requires c κs =
+    let parted = cut (c .before .before .before .before .before) in
+    (parts parted, kept-room (start parted .pre .kept) .kinds)
+
+-- the search is the definition's
+module _ (c : tie.After-lowest-conflict) where
+  conflict-is : c .lowest-conflict .result ≡ lowest (inConflict (now (cut (c .before) .before .before .prefix .result)) (trueIn (record·of (c .before)))) 0 (clausesFrom (now (cut (c .before) .literals .result)) 0 (now (cut (c .before) .before .ends .result)))
+  conflict-is = c .lowest-conflict .ensures ∙ conflict-ready _ _ _ (parts (cut (c .before))) _ (c .before .before .statuses-of .result) (sorting (c .before))
 
 returns : tie.Need-returns
+unfolding due
 returns c =
     let found = c .before .before .before .before in
-    let begun = start (found .before) in
-    out.in-conflict _ _ (found .lowest-conflict .ensures ∙ conflict-ready _ _ _ (begun .pre .0) _ (found .before .before .statuses-of .result) (sorting (found .before))) (c .before .before .clause .given .1)
-    (c .due-conflict .ensures (formula (begun .args .prefix .now) (begun .args .ends .now) (begun .args .literals .now)) _ _ (told (found .before)))
+    rw (whole (cut (found .before)), ← conflict-is found, c .before .before .clause .given .1) (c .due-conflict .ensures _ _ (told (found .before)))
 
 returns-2 : tie.Need-returns-2
+unfolding due
 returns-2 c =
     let found = c .before .before .before .before .before in
-    out.quiet _ _ (found .lowest-conflict .ensures ∙ conflict-ready _ _ _ (start (found .before) .pre .0) _ (found .before .before .statuses-of .result) (sorting (found .before))) (c .before .before .before .enum-told .given .1)
-    (c .due-unit .ensures _ (told (found .before)) (sorting (found .before)))
+    rw (whole (cut (found .before)), ← conflict-is found, c .before .before .before .enum-told .given .1) (c .due-unit .ensures _ (told (found .before)) (sorting (found .before)))
 
 pub due-spec : {M : Type 1} → statement M
 due-spec =
     tie.close
-    (tie.spec
-    values-of-requires
-    universals-of-requires
-    statuses-of-requires
-    lowest-conflict-requires
-    enum-known-clause
-    due-conflict-requires
-    enum-told
-    due-unit-requires
-    returns
-    returns-2)
+    (tie.spec (λ c κs. search needs) (λ c κs. search needs) (λ c κs. search needs) (λ c κs. kept-written _ _ _ (start c .pre .kept))
+    (λ c κs. bound-written (parts (c .before) .prefix)) statuses-of-requires lowest-conflict-requires (λ c. search needs) due-conflict-requires
+    (λ c. search needs) due-unit-requires returns returns-2)

@@ -1,41 +1,40 @@
--- The first monotone variable, or none, picks the case; the literals that occur are those of all clauses.
-use Rattle.rules.specs.Laws.Occurs.{ready-named, ready-spread}
-use denote.Ref.{now}
-use Rattle.formula.specs.Formula.{clausesFrom}
+-- The first monotone variable, or none, picks the case; the literals that occur are those of the clauses with no true literal.
+use mathlib.Core.Path.{_≡_, _∙_}
 use borrow.Author.Needs.{needs}
+use Rattle.formula.specs.Formula.{clausesFrom}
+use Rattle.theory.specs.Record.{Record, trueIn}
+use Rattle.theory.specs.Tests.{untrueOf}
+use Rattle.rules.specs.Due.{firstMonotone}
+use Rattle.rules.specs.Inner.Tables.{Values}
+use Rattle.rules.specs.Inner.Tabled.{Sorts}
+use Rattle.rules.specs.Laws.VariablesMean.{monotone-means}
+use Rattle.rules.specs.Laws.ClausesReady.{ready-clauses, untrue-ready}
 use Rattle.rules.proofs.ordered.due_monotone.Statement.{statement}
-use Rattle.rules.proofs.Ways as out
 use Rattle.rules.proofs.ordered.due_monotone.Tie as tie
 
 occurring-requires : tie.Need-occurring-requires
-occurring-requires c κs = ready-named _ _ _ (c .before .pre .0)
+occurring-requires c κs = ready-clauses _ _ _ (c .before .pre .0)
 
-first-monotone-requires : tie.Need-first-monotone-requires
-first-monotone-requires c κs = search needs
+-- the search is the definition's
+module _ (c : tie.After-first-monotone) where
+  abbrev start : tie.Start
+  start = c .before .before .before .before
 
-enum-known-literal : tie.Need-enum-known-literal
-enum-known-literal c = search needs
-
-enum-told : tie.Need-enum-told
-enum-told c = search needs
-
-due-decide-requires : tie.Need-due-decide-requires
-due-decide-requires c κs = search needs
+  search-is : (r : Record) → Values (trueIn r) (start .args .values .now) → Sorts (start .args .prefix .now) (trueIn r) (start .args .statuses .now)
+      → c .first-monotone .result ≡ firstMonotone (start .args .prefix .now) (untrueOf (trueIn r) (clausesFrom (start .args .literals .now) 0 (start .args .ends .now))) (trueIn r)
+  search-is r said sorting =
+      c .first-monotone .ensures
+      ∙ monotone-means _ (start .pre .0 .prefix) _ _ (start .args .values .now) (c .before .before .occurring .result) said
+      (rw (← untrue-ready _ _ _ (start .pre .0) (trueIn r) (start .args .statuses .now) sorting) (c .before .before .occurring .ensures))
 
 returns : tie.Need-returns
-returns c = λ r told. out.monotone _ r (c .before .before .before .first-monotone .ensures _ _ _ (told .values) (c .before .before .before .before .before .occurring .ensures) (ready-spread _ _ _ (c .before .before .before .before .before .before .before .pre .0))) (c .before .literal .given .1)
+returns c r told sorting = rw (← search-is (c .before .before .before) r (told .values) sorting, c .before .literal .given .1)
 
 returns-2 : tie.Need-returns-2
-returns-2 c = λ r told. out.no-monotone _ r (c .before .before .before .first-monotone .ensures _ _ _ (told .values) (c .before .before .before .before .before .occurring .ensures) (ready-spread _ _ _ (c .before .before .before .before .before .before .before .pre .0))) (c .before .enum-told .given .1) (c .due-decide .ensures (clausesFrom (now (c .before .before .before .before .before .before .before .args .literals)) 0 (now (c .before .before .before .before .before .before .before .args .ends))) r told)
+returns-2 c r told sorting = rw (← search-is (c .before .before .before) r (told .values) sorting, c .before .enum-told .given .1) (c .due-decide .ensures r told)
 
 pub due-monotone-spec : {M : Type 1} → statement M
 due-monotone-spec =
     tie.close
-    (tie.spec
-    occurring-requires
-    first-monotone-requires
-    enum-known-literal
-    enum-told
-    due-decide-requires
-    returns
-    returns-2)
+    (tie.spec occurring-requires (λ c κs. search needs) (λ c. search needs) (λ c. search needs)
+    (λ c κs. search needs) returns returns-2)

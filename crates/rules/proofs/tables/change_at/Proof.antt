@@ -10,17 +10,8 @@ use Rattle.rules.proofs.Levels.{change-last, change-next}
 use Rattle.rules.proofs.tables.change_at.Statement.{statement}
 use Rattle.rules.proofs.tables.change_at.Tie as tie
 
-add-next : tie.Need-add-next
-add-next c = search needs
-
 returns : tie.Need-returns
 returns c = sym (change-last _ (c .before .args .prefix .now) (c .before .args .i) (c .if1 .taken))
-
-negative-at-requires : tie.Need-negative-at-requires
-negative-at-requires c κs = search needs
-
-negative-at-requires-2 : tie.Need-negative-at-requires-2
-negative-at-requires-2 c κs = search needs
 
 -- the two words at hand
 module _ (c : tie.After-negative-at2) (t : Bool) where
@@ -36,6 +27,4 @@ returns-3 : tie.Need-returns-3
 returns-3 c = compared (c .before) false (c .if2 .left)
 
 pub change-at-spec : {M : Type 1} → statement M
-change-at-spec =
-    tie.close
-    (tie.spec add-next returns negative-at-requires negative-at-requires-2 returns-2 returns-3)
+change-at-spec = tie.close (tie.spec (λ c. search needs) returns (λ c κs. search needs) (λ c κs. search needs) returns-2 returns-3)

@@ -17,12 +17,6 @@ Inv-loop prefix levels₀ level₀ i₀ levels level i = Levelled prefix levels 
 abbrev μ-loop : tie.MeasureT-loop
 μ-loop prefix levels₀ level₀ i₀ levels level i = length prefix - i
 
-loop-holds : tie.Need-loop-holds Inv-loop μ-loop
-loop-holds c = begin _
-
-size-at-requires : tie.Need-size-at-requires Inv-loop μ-loop
-size-at-requires c κs = search needs
-
 mul-levels : tie.Need-mul-levels Inv-loop μ-loop
 mul-levels c =
     let turned = c .before in
@@ -34,21 +28,12 @@ array-write-levels c =
     let turned = c .before in
     placed _ _ _ (bound-named (turned .before .before .pre)) (turned .loop-test .taken) (c .size-at .ensures)
 
-change-at-requires : tie.Need-change-at-requires Inv-loop μ-loop
-change-at-requires c κs = omega arith
-
 add-level : tie.Need-add-level Inv-loop μ-loop
 add-level c =
     let turned = c .before .before in
     let start = turned .before .before in
     let few = change-few (getD (start .args .prefix .now) (turned .before .loop .i) (pos 0)) (drop (turned .before .loop .i + 1) (start .args .prefix .now)) in
     omega (arith, c .change-at .ensures, start .pre .room, variables-are)
-
-add-i : tie.Need-add-i Inv-loop μ-loop
-add-i c = omega arith
-
-loop-less : tie.Need-loop-less Inv-loop μ-loop
-loop-less c = omega arith
 
 loop-again : tie.Need-loop-again Inv-loop μ-loop
 loop-again c =
@@ -64,4 +49,5 @@ returns c = end _ _ _ _ (c .before .loop .inv) (c .loop-test .left)
 pub levels-of-spec : {M : Type 1} → statement M
 levels-of-spec =
     tie.close
-    (tie.spec Inv-loop μ-loop loop-holds size-at-requires mul-levels array-write-levels change-at-requires add-level add-i loop-less loop-again returns)
+    (tie.spec Inv-loop μ-loop (λ c. begin _) (λ c κs. search needs) mul-levels array-write-levels (λ c κs. omega arith) add-level
+    (λ c. omega arith) (λ c. omega arith) loop-again returns)

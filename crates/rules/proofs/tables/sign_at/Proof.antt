@@ -3,12 +3,9 @@ use mathlib.Core.Path.{sym, _∙_}
 use lib.IntN.{pos}
 use lib.ListN.{getD}
 use borrow.Author.Needs.{needs}
-use Rattle.rules.proofs.Values.{sign-minus, sign-plus}
+use Rattle.rules.proofs.Filled.{sign-minus, sign-plus}
 use Rattle.rules.proofs.tables.sign_at.Statement.{statement}
 use Rattle.rules.proofs.tables.sign_at.Tie as tie
-
-negative-at-requires : tie.Need-negative-at-requires
-negative-at-requires c κs = search needs
 
 returns : tie.Need-returns
 returns c =
@@ -21,4 +18,4 @@ returns-2 c =
     sign-plus (getD (start .args .ws .now) (start .args .i) (pos 0)) (sym (c .before .negative-at .ensures) ∙ c .if1 .left)
 
 pub sign-at-spec : {M : Type 1} → statement M
-sign-at-spec = tie.close (tie.spec negative-at-requires returns returns-2)
+sign-at-spec = tie.close (tie.spec (λ c κs. search needs) returns returns-2)

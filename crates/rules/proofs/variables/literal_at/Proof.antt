@@ -7,17 +7,8 @@ use Rattle.rules.specs.Due.{literal}
 use Rattle.rules.proofs.variables.literal_at.Statement.{statement}
 use Rattle.rules.proofs.variables.literal_at.Tie as tie
 
-mul-word : tie.Need-mul-word
-mul-word c = search needs
-
-shared-slice-copy-out-word : tie.Need-shared-slice-copy-out-word
-shared-slice-copy-out-word c = search needs
-
-returns : tie.Need-returns
-returns c = search needs
-
 returns-2 : tie.Need-returns-2
 returns-2 c = sym (ap literal (List·getD-eq-default (c .before .args .ws .now) (pos 0) (c .if1 .left)))
 
 pub literal-at-spec : {M : Type 1} → statement M
-literal-at-spec = tie.close (tie.spec mul-word shared-slice-copy-out-word returns returns-2)
+literal-at-spec = tie.close (tie.spec (λ c. search needs) (λ c. search needs) (λ c. search needs) returns-2)

@@ -1,19 +1,16 @@
--- The opposite of the literal at the index.
+-- The opposite of the literal at the index: a variable is far from the least word.
 use mathlib.Core.Path.{_≡_, ap, _∙_}
 use mir.Syntax.{w32}
 use mir.Val.{toZ, ofZ}
 use mir.ValLaws.{toZ-ofZ}
 use borrow.Author.Needs.{needs, sfits-of}
 use Rattle.words.specs.Words.{opposite}
+use Rattle.words.specs.Laws.Words.{opposite-is}
+use Rattle.formula.specs.Laws.Limits.{variables-small}
+use native.Mathlib.Nat.{le-trans}
 use Rattle.rules.specs.Due.{literal}
 use Rattle.rules.proofs.variables.opposite_at.Statement.{statement}
 use Rattle.rules.proofs.variables.opposite_at.Tie as tie
-
-literal-at-requires : tie.Need-literal-at-requires
-literal-at-requires c κs = search needs
-
-opposite-requires : tie.Need-opposite-requires
-opposite-requires c κs = search needs
 
 returns : tie.Need-returns
 returns c =
@@ -22,7 +19,8 @@ returns c =
     ap literal
     (toZ-ofZ w32 (c .opposite .result) (sfits-of (c .opposite .ok))
     ∙ c .opposite .ensures
-    ∙ ap opposite (back ∙ ap (λ z. z .0) (c .before .before .literal-at .ensures)))
+    ∙ ap opposite (back ∙ ap (λ z. z .0) (c .before .before .literal-at .ensures))
+    ∙ opposite-is _ (le-trans (c .before .before .before .pre) variables-small))
 
 pub opposite-at-spec : {M : Type 1} → statement M
-opposite-at-spec = tie.close (tie.spec literal-at-requires opposite-requires returns)
+opposite-at-spec = tie.close (tie.spec (λ c κs. search needs) (λ c κs. search needs) returns)

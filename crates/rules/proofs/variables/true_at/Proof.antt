@@ -1,35 +1,22 @@
 -- A negative word is made true by its opposite, any other is true itself.
-use mathlib.Core.Path.{_≡_, sym, _∙_}
-use mathlib.Core.Bool.{true, false}
+use mathlib.Core.Path.{sym, _∙_, ap}
 use lib.IntN.{pos}
 use lib.ListN.{getD}
 use borrow.Author.Needs.{needs}
-use Rattle.words.specs.Words.{negative}
+use Rattle.rules.specs.Due.{literal}
+use Rattle.rules.proofs.Filled.{minus-true, plus-true}
 use Rattle.rules.proofs.variables.true_at.Statement.{statement}
 use Rattle.rules.proofs.variables.true_at.Tie as tie
-
-negative-at-requires : tie.Need-negative-at-requires
-negative-at-requires c κs = search needs
-
-opposite-at-requires : tie.Need-opposite-at-requires
-opposite-at-requires c κs = search needs
-
-literal-at-requires : tie.Need-literal-at-requires
-literal-at-requires c κs = search needs
 
 returns : tie.Need-returns
 returns c =
     let start = c .before .before .before in
-    let e : negative (getD (start .args .ws .now) (start .args .i) (pos 0)) ≡ true = sym (c .before .before .negative-at .ensures) ∙ c .before .if1 .taken in
-    rw e (c .opposite-at .ensures)
+    c .opposite-at .ensures ∙ ap literal (minus-true (getD (start .args .ws .now) (start .args .i) (pos 0)) (sym (c .before .before .negative-at .ensures) ∙ c .before .if1 .taken))
 
 returns-2 : tie.Need-returns-2
 returns-2 c =
     let start = c .before .before .before in
-    let e : negative (getD (start .args .ws .now) (start .args .i) (pos 0)) ≡ false = sym (c .before .before .negative-at .ensures) ∙ c .before .if1 .left in
-    rw e (c .literal-at .ensures)
+    c .literal-at .ensures ∙ ap literal (plus-true (getD (start .args .ws .now) (start .args .i) (pos 0)) (sym (c .before .before .negative-at .ensures) ∙ c .before .if1 .left))
 
 pub true-at-spec : {M : Type 1} → statement M
-true-at-spec =
-    tie.close
-    (tie.spec negative-at-requires opposite-at-requires literal-at-requires returns returns-2)
+true-at-spec = tie.close (tie.spec (λ c κs. search needs) (λ c κs. search needs) (λ c κs. search needs) returns returns-2)

@@ -1,42 +1,42 @@
 -- A way out for each part of the table; after its last row the search goes on for as many steps as it answers.
 use native.Mathlib.Omega.{arith}
 use borrow.Author.Needs.{needs}
-use Rattle.session.proofs.Lent.{checked}
-use Rattle.session.proofs.Exits.{run-refused, run-over, run-moves, steps-within}
+use mathlib.Core.Path.{sym, _∙_}
+use Rattle.session.specs.Laws.Accepted.{guarded}
+use Rattle.session.proofs.Exits.{run-stops, run-over, run-moves, steps-within}
 use Rattle.session.proofs.Session.run.Statement.{statement}
 use Rattle.session.proofs.Session.run.Tie as tie
 
 returns : tie.Need-returns
-returns c = run-refused _ _ _ _ _ _ (c .before .session-refusal .ensures) (c .if1 .taken)
+returns c = run-stops _ _ _ _ _ _ (c .before .session-refusal .ensures) (c .if1 .taken)
 
 returns-2 : tie.Need-returns-2
 returns-2 c =
-    let g = c .before .before in
-    run-over _ _ _ _ _ _ (g .before .session-refusal .ensures) (g .if1 .left) (c .before .wide .ensures) (omega (arith, c .if2 .taken))
+    let g = c .before in
+    run-over _ _ _ _ _ _ (g .before .session-refusal .ensures) (g .if1 .left) (omega (arith, c .if2 .taken))
 
 search-requires : tie.Need-search-requires
 search-requires c κs =
-    let g = c .before .before .before .before in
-    checked _ _ _ _ (g .before .session-refusal .ensures) (g .if1 .left)
+    let g = c .before .before .before in
+    guarded _ _ _ _ (sym (g .before .session-refusal .ensures) ∙ g .if1 .left) .on
 
 add-moved : tie.Need-add-moved
 add-moved c =
-    let f = c .before .before .before .before .before in
+    let f = c .before .before .before .before in
     let v = f .before .before .before in
-    let g = v .before .before in
+    let g = v .before in
     let start = g .before .before .before .before .before in
-    let on = checked (start .args .self) _ _ _ (g .before .session-refusal .ensures) (g .if1 .left) in
+    let on = guarded (start .args .self) _ _ _ (sym (g .before .session-refusal .ensures) ∙ g .if1 .left) .on in
     let w = steps-within on (start .args .budget) (start .args .preferred .now) (f .search .ensures) in
-    omega (arith, w, v .if2 .left, v .before .wide .ensures, c .wide2 .ensures, start .good)
+    omega (arith, w, v .if2 .left, start .good)
 
 returns-3 : tie.Need-returns-3
 returns-3 c =
-    let f = c .before .before .before .before .before .before in
+    let f = c .before .before .before .before .before in
     let v = f .before .before .before in
-    let g = v .before .before in
+    let g = v .before in
     let start = g .before .before .before .before .before in
-    run-moves _ _ _ _ _ _ (g .before .session-refusal .ensures) (g .if1 .left) (v .before .wide .ensures) (omega (arith, start .good)) (omega (arith, v .if2 .left))
-    _ _ _ (f .search .ensures) (c .before .wide2 .ensures) (c .moved .ensures)
+    run-moves _ _ _ _ _ _ (g .before .session-refusal .ensures) (g .if1 .left) (omega (arith, start .good)) (omega (arith, v .if2 .left)) _ _ _ (f .search .ensures) (c .moved .ensures)
 
 pub run-spec : {M : Type 1} → statement M
 run-spec =
@@ -47,12 +47,11 @@ run-spec =
     (λ c. search needs)
     returns
     (λ c. search needs)
-    (λ c κs. search needs)
     (λ c. search needs)
     (λ c. search needs)
     returns-2
     search-requires
-    (λ c κs. search needs)
+    (λ c. search needs)
     add-moved
     (λ c κs. search needs)
     (λ c. search needs)

@@ -4,9 +4,6 @@ use Rattle.session.proofs.Guards.{block-refused, buffers-short, buffers
 use Rattle.session.proofs.guard.open_refusal.Statement.{statement}
 use Rattle.session.proofs.guard.open_refusal.Tie as tie
 
-enum-told : tie.Need-enum-told
-enum-told c = search needs
-
 returns : tie.Need-returns
 returns c = block-refused _ _ (c .before .before .before .check .ensures) _ (c .before .number .given .1)
 
@@ -26,7 +23,7 @@ open-refusal-spec =
     (tie.spec
     (λ c κs. search needs)
     (λ c. search needs)
-    enum-told
+    (λ c. search needs)
     (λ c κs. search needs)
     returns
     returns-2

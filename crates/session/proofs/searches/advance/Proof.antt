@@ -1,12 +1,13 @@
 -- The due rule, with the proposal that the preferences give it.
 use borrow.Author.Needs.{needs}
-use Rattle.session.proofs.Lent.{fitting, held}
+use Rattle.rules.specs.Laws.Accepted.{held-on}
+use Rattle.session.specs.Laws.Accepted.{fitting}
 use Rattle.session.proofs.Rounds.{advanced}
 use Rattle.session.proofs.searches.advance.Statement.{statement}
 use Rattle.session.proofs.searches.advance.Tie as tie
 
 proposal-requires : tie.Need-proposal-requires
-proposal-requires c κs = held (c .before .before .before .before .before .pre)
+proposal-requires c κs = held-on _ _ _ (c .before .before .before .before .before .pre)
 
 apply-requires : tie.Need-apply-requires
 apply-requires c κs =

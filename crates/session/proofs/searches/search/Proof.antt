@@ -15,12 +15,6 @@ abbrev μ-loop : tie.MeasureT-loop
 loop-holds : tie.Need-loop-holds Inv-loop μ-loop
 loop-holds c = begun (c .before .pre) _ _
 
-same-length : tie.Need-same-length Inv-loop μ-loop
-same-length c = c .before .before .before .loop .inv .lits-long
-
-same-length-2 : tie.Need-same-length-2 Inv-loop μ-loop
-same-length-2 c = c .before .before .before .loop .inv .kinds-long
-
 returns : tie.Need-returns Inv-loop μ-loop
 returns c =
     let l = c .before .before .before .loop in
@@ -36,12 +30,6 @@ loop-again c =
     let t = o .before .before in
     more (t .before .loop .inv) (t .loop-test .taken) (o .before .is-over .ensures) (o .if1 .left) (a .advance .ensures)
 
-same-length-3 : tie.Need-same-length-3 Inv-loop μ-loop
-same-length-3 c = c .before .loop .inv .lits-long
-
-same-length-4 : tie.Need-same-length-4 Inv-loop μ-loop
-same-length-4 c = c .before .loop .inv .kinds-long
-
 returns-2 : tie.Need-returns-2 Inv-loop μ-loop
 returns-2 c = used (c .before .loop .inv) (c .loop-test .left)
 
@@ -53,13 +41,13 @@ search-spec =
     μ-loop
     loop-holds
     (λ c κs. search needs)
-    same-length
-    same-length-2
+    (λ c. c .before .before .before .loop .inv .lits-long)
+    (λ c. c .before .before .before .loop .inv .kinds-long)
     returns
     advance-requires
     (λ c. search needs)
     (λ c. search needs)
     loop-again
-    same-length-3
-    same-length-4
+    (λ c. c .before .loop .inv .lits-long)
+    (λ c. c .before .loop .inv .kinds-long)
     returns-2)

@@ -7,13 +7,13 @@ use borrow.Author.Needs.{needs}
 use Rattle.session.proofs.states.state_of.Statement.{statement}
 use Rattle.session.proofs.states.state_of.Tie as tie
 
-ended : (n : ℕ) → (n ≡ 0 → ⊥) → (n ≡ 1 → ⊥) → Unsat ≡ stateNumbered n
-ended zero f g = absurd (f refl)
-ended (suc zero) f g = absurd (g refl)
-ended (suc (suc n)) f g = refl
+past-both : (n : ℕ) → (n ≡ 0 → ⊥) → (n ≡ 1 → ⊥) → Unsat ≡ stateNumbered n
+past-both zero f g = absurd (f refl)
+past-both (suc zero) f g = absurd (g refl)
+past-both (suc (suc n)) f g = refl
 
 returns-3 : tie.Need-returns-3
-returns-3 c = ended _ (c .before .if1 .left) (c .if2 .left)
+returns-3 c = past-both _ (c .before .if1 .left) (c .if2 .left)
 
 pub state-of-spec : {M : Type 1} → statement M
 state-of-spec = tie.close (tie.spec (λ c. search needs) (λ c. search needs) returns-3)

@@ -15,9 +15,6 @@ returns-2 : tie.Need-returns-2
 unfolding decidedBy
 returns-2 c = rw (le-leb _ _ (c .before .before .if1 .left), le-ltb _ _ (c .if2 .taken))
 
-size-at-requires : tie.Need-size-at-requires
-size-at-requires c κs = search needs
-
 mul-result : tie.Need-mul-result
 mul-result c = omega (arith, variables-are, c .size-at .ensures, c .before .before .before .before .pre (c .before .before .before .before .args .self .place))
 
@@ -29,6 +26,4 @@ unfolding decidedBy
 returns-3 c = rw (le-leb _ _ (c .before .before .before .before .before .if1 .left), lt-ltb _ _ (c .before .before .before .if2 .left), ← c .before .before .size-at .ensures)
 
 pub is-unit-spec : {M : Type 1} → statement M
-is-unit-spec =
-    tie.close
-    (tie.spec returns returns-2 size-at-requires mul-result element-copy-out-result returns-3)
+is-unit-spec = tie.close (tie.spec returns returns-2 (λ c κs. search needs) mul-result element-copy-out-result returns-3)

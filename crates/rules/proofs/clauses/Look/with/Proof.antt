@@ -13,9 +13,6 @@ use Rattle.rules.proofs.Looks.{with-false, with-true, with-first, with-
 use Rattle.rules.proofs.clauses.Look.with.Statement.{statement}
 use Rattle.rules.proofs.clauses.Look.with.Tie as tie
 
-status-at-requires : tie.Need-status-at-requires
-status-at-requires c κs = c .pre .0 (c .args .j)
-
 returns : tie.Need-returns
 returns c =
     let a = c .before .before .args in
@@ -25,9 +22,6 @@ returns-2 : tie.Need-returns-2
 returns-2 c =
     let a = c .before .before .before .args in
     λ C. with-true _ _ _ _ (a .self .place) (a .self .above) _ C (a .self .over) (sym (c .before .before .status-at .ensures) ∙ c .if2 .taken)
-
-same-at-requires : tie.Need-same-at-requires
-same-at-requires c κs = search needs
 
 returns-3 : tie.Need-returns-3
 returns-3 c =
@@ -43,9 +37,6 @@ returns-5 : tie.Need-returns-5
 returns-5 c =
     let a = c .before .before .before .before .before .before .before .before .args in
     λ C. with-same _ _ _ _ (a .self .place) (a .self .above) _ C (sym (c .before .before .before .before .before .before .before .status-at .ensures) ∙ c .before .before .before .before .if3 .taken) (c .before .before .if4 .left) (a .self .over) (sym (c .before .same-at .ensures) ∙ not-false _ (c .if5 .left))
-
-size-at-requires : tie.Need-size-at-requires
-size-at-requires c κs = search needs
 
 mul-level : tie.Need-mul-level
 mul-level c = omega (arith, variables-are, c .size-at .ensures, c .before .before .before .before .before .pre .0 (c .before .before .before .before .before .args .j))
@@ -73,16 +64,5 @@ returns-7 c = lowered (c .before) _ (omega (arith, c .if6 .left))
 pub with-spec : {M : Type 1} → statement M
 with-spec =
     tie.close
-    (tie.spec
-    status-at-requires
-    returns
-    returns-2
-    same-at-requires
-    returns-3
-    returns-4
-    returns-5
-    size-at-requires
-    mul-level
-    element-copy-out-level
-    returns-6
-    returns-7)
+    (tie.spec (λ c κs. c .pre .0 (c .args .j)) returns returns-2 (λ c κs. search needs) returns-3 returns-4 returns-5 (λ c κs. search needs)
+    mul-level element-copy-out-level returns-6 returns-7)

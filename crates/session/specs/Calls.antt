@@ -1,0 +1,52 @@
+-- [demand.2.history] A desk after a list of calls, each on that block and that record and with the latest session.
+use Prim.Native.Nat.{ℕ, _+_}
+use mathlib.Core.List.{List, [], _∷_}
+use lib.IntN.{ℤ}
+use Rattle.words.specs.Outcomes.{Outcome}
+use Rattle.words.specs.declared.Literal.{Literal}
+use Rattle.session.specs.declared.Revision.{Revision}
+use Rattle.session.specs.declared.Session.{Session}
+use Rattle.session.specs.declared.Answer.{Answer}
+use Rattle.session.specs.declared.Answer.the-variants.{To, Refused}
+use Rattle.session.specs.declared.Ran.{Ran}
+use Rattle.session.specs.declared.Ran.the-variants.{Until, Stopped}
+use Rattle.session.specs.Memory.{Memory}
+use Rattle.session.specs.Outcome.{stepOutcome}
+use Rattle.session.specs.Run.{runOf}
+
+-- the latest session, the memory, and the accepted steps so far
+pub record Desk : Type 0 where
+  pub latest : Session
+  pub memory : Memory
+  pub steps : ℕ
+
+abbrev pub desk : Session → Memory → ℕ → Desk
+desk s m n = record { latest = s; memory = m; steps = n }
+
+pub data Call : Type 0 where
+  step : Revision → Literal → Call
+  run : Revision → ℕ → List ℤ → Call
+
+-- an answer's session and accepted steps; a refused call leaves both
+abbrev pub afterStep : Desk → Answer → Memory → Desk
+afterStep d (To s) m = desk s m (d .steps + 1)
+afterStep d (Refused n) m = desk (d .latest) m (d .steps)
+
+abbrev pub afterRun : Desk → Ran → Memory → Desk
+afterRun d (Until s n) m = desk s m (d .steps + n)
+afterRun d (Stopped n) m = desk (d .latest) m (d .steps)
+
+-- the calls on a desk
+abbrev pub stepAt : List ℤ → Desk → Revision → Literal → Outcome Memory Answer
+stepAt b d = stepOutcome (d .latest) b (d .memory)
+
+abbrev pub runAt : List ℤ → Desk → Revision → ℕ → List ℤ → Outcome Memory Ran
+runAt b d = runOf (d .latest) b (d .memory)
+
+unfoldable pub call : List ℤ → Desk → Call → Desk
+call b d (step seen l) = let o = stepAt b d seen l in afterStep d (o .answer) (o .memory)
+call b d (run seen budget preferred) = let o = runAt b d seen budget preferred in afterRun d (o .answer) (o .memory)
+
+unfoldable pub play : List ℤ → Desk → List Call → Desk
+play b d [] = d
+play b d (c ∷ cs) = play b (call b d c) cs
