@@ -45,7 +45,7 @@ module _ (p : List ℤ) (start : ℕ) (out : List ℕ) {u : Bool} (is : u ≡ ne
         pub openings-pass : 2 ≤ length out → 0 ≡ refusalOf (rowsOf p start out)
         openings-pass r = rw (first-word p, ← is, x, ← e, le-ltb (limits .group) k h, ← t, le-ltb m start l, le-ltb (length out) 2 r)
 
--- ---- rows 1 to 11, and then these
+-- ---- the block's rows and row 11, and then these
 module _ (b : List ℤ) (m : PageMemory) (start : ℕ) {r : ℕ} (e : r ≡ openRefusal b (workOf m)) where
   pub page-buffers : (r ≡ 0 → ⊥) → r ≡ pageRefusal b m start
   unfolding pageRefusal openRefusal

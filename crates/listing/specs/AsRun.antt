@@ -1,5 +1,5 @@
 -- [opening.start] The search of an opening is a run of a session: on the record that begins as the opening's values, a run at revision 0 with the
--- page's budget and preferences is accepted, and leaves what the search leaves. Rows 1 to 11 are the page's own, and rows 12 to 15 pass at a
+-- page's budget and preferences is accepted, and leaves what the search leaves. The block's rows and row 11 are the page's own, and rows 12 to 15 pass at a
 -- start.
 use Prim.Native.Nat.{ℕ, _+_, _<_}
 use mathlib.Core.Path.{_≡_, refl, _∙_}

@@ -32,7 +32,7 @@ pageMemory ls ks out = record { work = trail ls ks; output = out }
 abbrev pub workOf : PageMemory → Memory
 workOf m = record { trail = m .work }
 
--- ---- [calls.page] when a page is refused: rows 18 to 21, after rows 1 to 11
+-- ---- [calls.page] when a page is refused: rows 18 to 21, after those of an opening
 -- [row.18]
 abbrev pub firstUniversal : Formula → Bool
 firstUniversal F = ltb 0 (length (F .prefix)) && negative (word (F .prefix) 0)

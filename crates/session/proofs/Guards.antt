@@ -28,7 +28,7 @@ use Rattle.session.specs.Refusals.{short, over, ofBuffers, openRows, ope
 use Rattle.session.specs.Laws.Accepted.{from-11, from-12}
 use Rattle.session.specs.Inner.Guards.{sessionRefusal, proposalRefusal}
 
--- ---- rows 1 to 11
+-- ---- the block's rows and row 11
 refused-some : (n k : ℕ) → checkedOf n ≡ Refused k → k ≡ 0 → ⊥
 unfolding checkedOf
 refused-some zero k e z = let y : _≡_ {A = ℕ} 0 1 = cc in omega arith

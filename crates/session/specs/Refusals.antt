@@ -1,4 +1,4 @@
--- When a call on a session is turned away: rows 11 to 17, after the block's rows 1 to 10, in the table's order.
+-- When a call on a session is turned away: rows 11 to 17, after the block's rows, in the table's order.
 use Prim.Native.Nat.{ℕ, _+_}
 use mathlib.Core.Bool.{Bool, true, false, not, _&&_, _||_}
 use mathlib.Core.List.{List, [], _∷_, _++_}

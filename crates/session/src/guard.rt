@@ -27,7 +27,7 @@ fn is_short(block: &[i32], lits: &[i32], kinds: &[u8]) -> bool
     kinds.len() < n
 }
 
-// Rows 1 to 11: the number of the first that applies, 0 if none does. A page asks them too.
+// The block's rows and row 11: the number of the first that applies, 0 if none does. A page asks them too.
 pub fn open_refusal(block: &[i32], lits: &[i32], kinds: &[u8]) -> u32
     ensures { λ r. ⌜ OpenRefusalPromise (now (block .entry)) (memory (now (lits .entry)) (now (kinds .entry))) r ⌝ }
 {
@@ -66,7 +66,7 @@ pub(crate) fn is_decide(rule: Rule) -> bool
     }
 }
 
-// Rows 1 to 14, which a step and a run share.
+// The same and rows 12 to 14, which a step and a run share.
 pub(crate) fn session_refusal(
     session: Session,
     block: &[i32],

@@ -13,7 +13,7 @@ use Rattle.listing.specs.Page.{PageMemory}
 use Rattle.words.specs.Outcomes.{Outcome, outcome}
 use Rattle.rules.specs.Inner.Ready.{OnBuffers}
 
--- the block passes rows 1 to 10, the buffers row 11, and the first group, of k variables, row 19
+-- the block passes its rows, the buffers row 11, and the first group, of k variables, row 19
 pub record OnGroup (b : List ℤ) (work : Trail) (k : ℕ) : Type 0 where
   pub on : OnBuffers b work
   pub group : k ≡ firstGroup (prefixOf b)

@@ -1,4 +1,4 @@
--- Checked input: what the guard of a call has shown when a rule is looked for. The parts of an accepted block (rows 1 to 10), and a record
+-- Checked input: what the guard of a call has shown when a rule is looked for. The parts of an accepted block (which passes its rows), and a record
 -- that passes rows 11 and 12.
 use Prim.Native.Nat.{ℕ, _≤_, _<_}
 use mathlib.Core.Path.{_≡_}
@@ -51,7 +51,7 @@ pub record Kept (p : List ℤ) (t : Trail) (n : ℕ) : Type 0 where
 abbrev pub KeptIn : List ℤ → Search → Type 0
 KeptIn p s = Kept p (s .trail) (s .count)
 
--- ---- the doors, with the block itself: rows 1 to 11, then 12, and then only which literals are true, with no kinds
+-- ---- the doors, with the block itself: its rows and 11, then 12, and then only which literals are true, with no kinds
 pub record OnBuffers (b : List ℤ) (t : Trail) : Type 0 where
   pub block : refusal limits b ≡ 0
   pub room : Room (variablesOf b) t

@@ -33,7 +33,7 @@ use Rattle.session.specs.Refusals.{lastRevision, short, over, proposed, 
 use Rattle.session.specs.Inner.Guards.{sessionRefusal}
 use Rattle.session.specs.Outcome.{searchOf}
 
--- ---- rows 1 to 11: the buffers have a place for each variable
+-- ---- the block's rows and row 11: the buffers have a place for each variable
 module _ (b : List ℤ) (m : Memory) where
   pub from-11 : refusal limits b ≡ 0 → openRefusal b m ≡ refusalOf (ofBuffers b m)
   unfolding refusal openRefusal
