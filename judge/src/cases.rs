@@ -315,7 +315,7 @@ fn largest_first_group() -> Talk {
 /// conflict, so the openings 2 and 3 ask for 13 steps, and opening 1 for 9.
 fn paused_after_entries() -> Talk {
     let g = [vec![1, 2], vec![-3, 4], vec![3, -4]];
-    let more = [vec![1, 2, 5], vec![-1, -5, 6], vec![-1, -5, -6]];
+    let more = [vec![-1, -5, 6], vec![-1, -5, -6], vec![-1, 5, 6]];
     let block = lay_out(&[1, 2, -3, 4, 5, 6], &[g, more].concat());
     let mut talk = Talk::at("a page that pauses after an entry", &block, 6);
     talk.say("page 0 8", "page 0 1 0 1");

@@ -48,15 +48,15 @@ const A_WHOLE_DESK: Talk = &[
     ("step 1 -2", "step 0 2 2 0"),
     ("show", "show 2 2 0 lits 1 -2 0 0 7 kinds 1 2 0 0 out 9 9"),
     ("run 2 1 -3", "run 0 3 3 0 1"),
-    ("show", "show 3 3 0 lits 1 -2 -3 0 7 kinds 1 2 1 0 out 9 9"),
-    ("run 3 4294967295 -3", "run 0 4 13 2 10"),
-    ("step 13 0", "step 13"),
-    ("show", "show 4 13 2 lits -1 2 -3 4 7 kinds 0 2 0 0 out 9 9"),
+    ("show", "show 3 3 0 lits 1 -2 3 0 7 kinds 1 2 0 0 out 9 9"),
+    ("run 3 4294967295 -3", "run 0 4 11 2 8"),
+    ("step 11 0", "step 13"),
+    ("show", "show 4 11 2 lits -1 2 -3 4 7 kinds 0 2 0 0 out 9 9"),
     ("page 0 100", "page 0 2 0 0"),
     ("page 0 0", "page 0 0 0 1"),
     ("page 2 0", "page 0 2 0 0"),
     ("page 3 0", "page 20"),
-    ("show", "show 4 13 2 lits 0 0 0 0 7 kinds 0 0 0 0 out 9 9"),
+    ("show", "show 4 11 2 lits 0 0 0 0 7 kinds 0 0 0 0 out 9 9"),
 ];
 
 #[test]
