@@ -332,7 +332,7 @@ impl Search<'_> {
                     lowest_universal = lowest_universal.min(self.tables.level[size(literal)]);
                 } else if found == 0 {
                     found = literal;
-                } else if found != literal {
+                } else {
                     continue 'clauses;
                 }
             }

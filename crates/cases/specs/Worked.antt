@@ -96,3 +96,8 @@ worked c =
 pub worked-by-hand : map worked table ≡ map (λ (c : Case). seen (c .said) (c .state)) table
 unfolding table caseA caseA-monotone caseB caseC caseD caseE caseF caseG caseH caseI caseJ caseK leastWord caseL caseL-calls caseM caseN caseO blockA blockG all-0 worked calling stepOutcome openOutcome runOf stepRefusal openRefusal runRefusal pageOf pageRefusal pageFrom valuesOf openingStart advance runFrom refusal limits twice badEnds bothSigns repeats all any eqZ mem formulaOf clausesFrom existential universal change levelOf level run firstGroup literals assigned unassignedE unassignedU inConflict unitOn occurs oneSign untrueOf isMonotone isOpen due lowest last candidate lowestUnit firstOf firstMonotone firstUnassigned firstOpen entries zipWith recordOf wiped apply badEntries badRecord ones
 worked-by-hand = refl
+
+-- [case.n] the same on record buffers of no places: 23 is looked at before 11
+pub without-places : openOutcome (caseN .block) (memory [] []) (record { 0 = 0 }) .answer ≡ Refused 23
+unfolding caseN openOutcome openRefusal refusal limits twice badEnds bothSigns repeats all any eqZ mem clausesFrom
+without-places = refl
