@@ -24,18 +24,18 @@ enum { MOKI_OPEN = 0, MOKI_VALID = 1, MOKI_UNSAT = 2 };
    it comes as a pointer alone, so no call can see how many there are. */
 enum { MOKI_SESSION_WORDS = 3, MOKI_RUN_WORDS = 4, MOKI_PAGE_WORDS = 3 };
 
-/* Refusals 1 to 10. */
+/* Refusals 1 to 10 and 23. */
 uint32_t moki_check(const int32_t *block, size_t block_length);
 
-/* Refusals 1 to 11. The answer is the session: length, revision, state. */
+/* Refusals 1 to 11 and 23. The answer is the session: length, revision, state. */
 uint32_t moki_open(const int32_t *block, size_t block_length,
                    int32_t *lits, size_t lits_length,
                    uint8_t *kinds, size_t kinds_length,
                    uint64_t first_revision,
                    uint64_t answer[MOKI_SESSION_WORDS]);
 
-/* Refusals 1 to 17. The session goes in as three numbers; the answer is the next
-   session. Proposal 0 leaves the choice to the solver. */
+/* Refusals 1 to 17 and 23. The session goes in as three numbers; the answer is the
+   next session. Proposal 0 leaves the choice to the solver. */
 uint32_t moki_step(size_t length, uint64_t revision, uint32_t state,
                    const int32_t *block, size_t block_length,
                    int32_t *lits, size_t lits_length,
@@ -43,8 +43,8 @@ uint32_t moki_step(size_t length, uint64_t revision, uint32_t state,
                    uint64_t seen_revision, int32_t proposal,
                    uint64_t answer[MOKI_SESSION_WORDS]);
 
-/* Refusals 1 to 15. The answer is the next session, then the count of accepted
-   steps. */
+/* Refusals 1 to 15 and 23. The answer is the next session, then the count of
+   accepted steps. */
 uint32_t moki_run(size_t length, uint64_t revision, uint32_t state,
                   const int32_t *block, size_t block_length,
                   int32_t *lits, size_t lits_length,
@@ -53,8 +53,8 @@ uint32_t moki_run(size_t length, uint64_t revision, uint32_t state,
                   const int32_t *preferred, size_t preferred_length,
                   uint64_t answer[MOKI_RUN_WORDS]);
 
-/* Refusals 1 to 11 and 18 to 21. The openings from start on that win, two words of
-   output each: the opening, and how many ones its number has. The answer is where
+/* Refusals 1 to 11, 18 to 21 and 23. The openings from start on that win, two words
+   of output each: the opening, and how many ones its number has. The answer is where
    the next page begins, the count of openings written, and 1 if the page stopped
    because the search of that next opening didn't end within the budget, else 0. The
    record is for work: its first V places are 0 afterwards. */

@@ -1,5 +1,5 @@
-//! The formula block: its check (refusals 1 to 10) and what an accepted block
-//! stands for.
+//! The formula block: its check (refusals 1 to 10 and 23) and what an accepted
+//! block stands for.
 //!
 //! "A slice of signed 32-bit words with a header of counts and offsets". All
 //! sums here are made in 64 bits, so that no word, the least 32-bit number
@@ -13,11 +13,15 @@ pub const LIMITS: [i64; 3] = [256, 1024, 4096];
 /// The words before the prefix: V, C, T and the three offsets.
 pub const HEADER: usize = 6;
 
+/// The rows of the check, in the table's order: 23 comes "straight after 10".
+pub const ROWS: [u8; 11] = [1, 2, 3, 4, 5, 6, 7, 8, 9, 10, 23];
+
 /// The number of the first row of the table that refuses the block, 0 if none
 /// does. "Checked in this order, each check over the whole input."
 pub fn check(block: &[i32]) -> u8 {
     let words = Words::of(block);
-    (1..=10).find(|&row| words.breaks(row)).unwrap_or(0)
+    let broken = ROWS.into_iter().find(|&row| words.breaks(row));
+    broken.unwrap_or(0)
 }
 
 /// Whether a block breaks one row of the table, whatever the other rows say.
@@ -34,7 +38,7 @@ impl Words {
         Words(block.iter().map(|&word| i64::from(word)).collect())
     }
 
-    /// The ten rows, in the table's order.
+    /// The rows, in the table's order.
     fn breaks(&self, row: u8) -> bool {
         match row {
             1 => self.0.len() < HEADER,
@@ -47,6 +51,7 @@ impl Words {
             8 => self.ends_wrong(),
             9 => self.literals().iter().any(|&word| self.no_literal(word)),
             10 => self.clauses().any(both_signs),
+            23 => self.clauses().any(repeats),
             _ => false,
         }
     }
@@ -149,6 +154,13 @@ fn both_signs(clause: &[i64]) -> bool {
     words.iter().any(|&word| word > 0 && words.contains(&-word))
 }
 
+/// Row 23: "a clause that repeats a literal". The word 0 is none.
+fn repeats(clause: &[i64]) -> bool {
+    let mut seen = HashSet::new();
+    let mut literals = clause.iter().filter(|&&word| word != 0);
+    literals.any(|word| !seen.insert(word))
+}
+
 /// The block of a prefix and clauses, with nothing checked.
 pub fn lay_out(prefix: &[i32], clauses: &[Vec<i32>]) -> Vec<i32> {
     let literals = clauses.concat();
@@ -168,8 +180,7 @@ pub fn lay_out(prefix: &[i32], clauses: &[Vec<i32>]) -> Vec<i32> {
 pub struct Formula {
     /// "outermost first: +v binds variable v existentially, -v universally".
     pub prefix: Vec<i32>,
-    /// "A clause is the set of its literals, so a repeated literal changes
-    /// nothing."
+    /// None has a literal twice, so each is the set of its literals.
     pub clauses: Vec<BTreeSet<i32>>,
     /// By variable, place 0 unused.
     existential: Vec<bool>,

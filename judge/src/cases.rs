@@ -2,7 +2,7 @@
 //! for each row blocks that only this row refuses, and for each two neighbouring
 //! rows a block that breaks both; and talks, which ask for more than a check.
 
-use crate::block::lay_out;
+use crate::block::{lay_out, ROWS};
 use crate::console::line;
 
 /// A block with the number that its check must give.
@@ -56,8 +56,19 @@ pub fn l() -> Vec<i32> {
     lay_out(&[1], &[vec![1], vec![i32::MIN]])
 }
 
-/// A block with these counts that is right in all else: the variables in turn,
-/// all positive, spread evenly over the clauses.
+/// Prefix 1 2, the clauses 1 1 and 2 -1: only row 23 refuses.
+pub fn n() -> Vec<i32> {
+    lay_out(&[1, 2], &[vec![1, 1], vec![2, -1]])
+}
+
+/// Prefix 1 2, the clauses 1 1 and 2 -2: 23 in the first, 10 in the second.
+pub fn o() -> Vec<i32> {
+    lay_out(&[1, 2], &[vec![1, 1], vec![2, -2]])
+}
+
+/// A block with these counts that is right in all else, as far as no clause has
+/// more literals than there are variables: the variables in turn, all positive,
+/// spread evenly over the clauses.
 pub fn of_counts(v: usize, c: usize, t: usize) -> Vec<i32> {
     let prefix: Vec<i32> = (1..=v as i32).collect();
     let mut clauses = vec![Vec::new(); c];
@@ -78,11 +89,17 @@ pub fn check_cases() -> Vec<Case> {
         number: row,
     }));
     cases.extend(neighbours().into_iter().map(|(row, block)| Case {
-        name: format!("rows {row} and {} both refuse", row + 1),
+        name: format!("rows {row} and {} both refuse", after(row)),
         block,
         number: row,
     }));
     cases
+}
+
+/// The row that is looked at next.
+pub fn after(row: u8) -> u8 {
+    let mut later = ROWS.into_iter().skip_while(|&other| other != row).skip(1);
+    later.next().expect("a row that is not the last")
 }
 
 fn case(name: &str, number: u8, block: &[i32]) -> Case {
@@ -105,6 +122,8 @@ fn by_hand() -> Vec<Case> {
         case("I", 0, &i()),
         case("J", 0, &j()),
         case("L", 9, &l()),
+        case("N", 23, &n()),
+        case("O", 10, &o()),
     ]
 }
 
@@ -121,21 +140,21 @@ fn at_the_limits() -> Vec<Case> {
         case("M: T 4097", 2, &of_counts(256, 1024, 4097)),
         case("M: V 256 alone", 0, &of_counts(256, 1, 1)),
         case("M: C 1024 alone", 0, &of_counts(1, 1024, 1)),
-        case("M: T 4096 alone", 0, &of_counts(1, 1, 4096)),
+        case("M: T 4096 in full clauses", 0, &of_counts(256, 16, 4096)),
         case("M: V 257 alone", 2, &of_counts(257, 1, 1)),
         case("M: C 1025 alone", 2, &of_counts(1, 1025, 1)),
-        case("M: T 4097 alone", 2, &of_counts(1, 1, 4097)),
+        case("M: T 4097 in full clauses", 2, &of_counts(256, 17, 4097)),
     ]
 }
 
 /// What comes near to a refusal and gets none.
 fn accepted() -> Vec<Case> {
     let both = lay_out(&[1], &[vec![1], vec![-1]]);
-    let again = lay_out(&[2, -1, 3], &[vec![-1, 3, -1, 3, 3]]);
+    let again = lay_out(&[2, -1, 3], &[vec![-1, 3], vec![3, -1], vec![3]]);
     let empty = lay_out(&[1], &[vec![], vec![1], vec![], vec![]]);
     vec![
         case("both signs, in two clauses", 0, &both),
-        case("a literal repeated in its clause", 0, &again),
+        case("a literal again, in other clauses", 0, &again),
         case("clauses without literals", 0, &empty),
         case("no clauses", 0, &lay_out(&[-2, 1], &[])),
     ]
@@ -198,7 +217,11 @@ fn alone_in_clauses() -> Vec<(u8, Vec<i32>)> {
         (9, lay_out(&[], &[vec![1]])),
         (10, lay_out(&[1], &[vec![1, -1]])),
         (10, lay_out(&[2, -3, 1], &[vec![1], vec![-3, 2, 3]])),
-        (10, lay_out(&[1, 2], &[vec![-2, -1, -2, 2]])),
+        (10, lay_out(&[1, 2], &[vec![-2, -1, 2]])),
+        (23, lay_out(&[1], &[vec![1, 1]])),
+        (23, lay_out(&[1], &[vec![1], vec![-1, -1]])),
+        (23, lay_out(&[2, -1, 3], &[vec![3, -1, 2, 3], vec![2]])),
+        (23, lay_out(&[2, -1, 3], &[vec![-1, 3, -1, 3, 3]])),
     ]
 }
 
@@ -214,6 +237,9 @@ pub fn neighbours() -> Vec<(u8, Vec<i32>)> {
         (7, vec![1, 0, 1, 6, 7, 7, -1, 1]),
         (8, vec![1, 0, 1, 6, 7, 7, 1, 0]),
         (9, lay_out(&[1], &[vec![0, 1, -1]])),
+        (10, lay_out(&[1, 2], &[vec![-2, -1, -2, 2]])),
+        (10, lay_out(&[1, 2], &[vec![1, -1], vec![2, 2]])),
+        (10, o()),
     ]
 }
 
@@ -246,7 +272,12 @@ impl Talk {
 }
 
 pub fn talks() -> Vec<Talk> {
-    vec![least_word(), largest_first_group(), paused_after_entries()]
+    vec![
+        least_word(),
+        largest_first_group(),
+        paused_after_entries(),
+        repeated_on_short_buffers(),
+    ]
 }
 
 /// "word -2147483648 as a clause literal gives 9, as a proposal at Decide 17, as
@@ -295,5 +326,23 @@ fn paused_after_entries() -> Talk {
     );
     talk.say("page 2 12", "page 0 2 0 1");
     talk.say("page 2 13", "page 0 4 2 0 2 1 3 2");
+    talk
+}
+
+/// 23 "before 11": a record of no places, and a block with a repeated literal.
+fn repeated_on_short_buffers() -> Talk {
+    let name = "N: a repeated literal, and record buffers that are too short";
+    let lines = Vec::new();
+    let mut talk = Talk { name, lines };
+    talk.say(&line("block", &n()), "block 23");
+    talk.say("session 0 0 0", "session");
+    talk.say("lits", "lits 0");
+    talk.say("kinds", "kinds 0");
+    talk.say("open 0", "open 23");
+    talk.say("step 0 0", "step 23");
+    talk.say("run 0 1", "run 23");
+    talk.say("page 0 1", "page 23");
+    talk.say(&line("block", &b()), "block 0");
+    talk.say("open 0", "open 11");
     talk
 }

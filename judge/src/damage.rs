@@ -2,6 +2,7 @@
 //! an accepted record. Not every try lands (a block may lack the part that it
 //! would break); the check says what came of it.
 
+use crate::block::ROWS;
 use crate::dice::Dice;
 use crate::record::Entry;
 
@@ -10,11 +11,15 @@ pub const EDGES: [i32; 8] = [0, 1, -1, i32::MIN, i32::MIN + 1, i32::MAX, i32::MA
 
 /// One damage for a random row, now and then a second one on top.
 pub fn damaged(dice: &mut Dice, block: &[i32]) -> Vec<i32> {
-    let row = dice.weighted(&[6, 7, 6, 6, 6, 9, 7, 12, 8, 15]) as u8 + 1;
+    let row = ROWS[dice.weighted(&[6, 7, 6, 6, 6, 9, 7, 12, 8, 15, 20])];
     let once = broken(dice, block, row);
+    if row >= 10 && dice.chance(1, 4) {
+        // A literal repeated and one beside its opposite, in any order.
+        return broken(dice, &once, if row == 10 { 23 } else { 10 });
+    }
     if once.len() >= 6 && dice.chance(1, 6) {
         // Laid over a sound header, so that the second damage finds its part.
-        let again = dice.between(3, 10) as u8;
+        let again = dice.pick(&ROWS[2..]);
         return broken(dice, &once, again);
     }
     once
@@ -32,7 +37,8 @@ fn broken(dice: &mut Dice, block: &[i32], row: u8) -> Vec<i32> {
         7 => negate_last(&mut words),
         8 => break_end(dice, &mut words),
         9 => break_literal(dice, &mut words, 2),
-        _ => both_signs(dice, &mut words),
+        10 => beside(dice, &mut words, -1),
+        _ => beside(dice, &mut words, 1),
     }
     words
 }
@@ -133,12 +139,12 @@ fn break_end(dice: &mut Dice, words: &mut Vec<i32>) {
     }
 }
 
-/// The opposite of one literal of the matrix in the place beside it.
-fn both_signs(dice: &mut Dice, words: &mut [i32]) {
+/// One literal of the matrix in the place beside it, as it is or its opposite.
+fn beside(dice: &mut Dice, words: &mut [i32], sign: i32) {
     let places = part(words, 2);
     if places.len() > 1 {
         let place = places.start + dice.below(places.len() - 1);
-        words[place + 1] = words[place].wrapping_neg();
+        words[place + 1] = words[place].wrapping_mul(sign);
     }
 }
 

@@ -1,4 +1,4 @@
-//! The listing of openings by pages, with refusals 1 to 11 and 18 to 21.
+//! The listing of openings by pages, with refusals 1 to 10, 23, 11 and 18 to 21.
 
 use crate::block::Formula;
 use crate::hits::Hits;

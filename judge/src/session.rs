@@ -48,7 +48,7 @@ pub struct Ran {
     pub hits: Hits,
 }
 
-/// Opening, refusals 1 to 11. "Opening sets the first V places to 0."
+/// Opening, refusals 1 to 10, 23 and 11. "Opening sets the first V places to 0."
 pub fn open(block: &[i32], lent: Lent, first_revision: u64) -> Result<Session, u8> {
     let formula = Formula::read(block)?;
     if record::buffers_short(&formula, lent.literals, lent.kinds) {
@@ -64,7 +64,7 @@ pub fn open(block: &[i32], lent: Lent, first_revision: u64) -> Result<Session, u
 }
 
 impl Session {
-    /// One step, refusals 1 to 17.
+    /// One step, refusals 1 to 10, 23 and 11 to 17.
     pub fn step(self, block: &[i32], lent: Lent, seen: u64, proposal: i32) -> Result<Stepped, u8> {
         let (formula, record) = self.guard(block, &lent, seen)?;
         if self.revision == u64::MAX {
@@ -86,8 +86,8 @@ impl Session {
         })
     }
 
-    /// A run, refusals 1 to 15. "it pauses exactly if it isn't ended when the
-    /// budget is used": the session that comes back is then still open.
+    /// A run, refusals 1 to 10, 23 and 11 to 15. "it pauses exactly if it isn't
+    /// ended when the budget is used": the session that comes back is then still open.
     pub fn run(
         self,
         block: &[i32],

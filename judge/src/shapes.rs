@@ -9,8 +9,7 @@ use crate::record::Entry;
 pub struct Shape {
     pub variables: usize,
     pub clauses: usize,
-    /// The fewest and the most literals of a clause, repeated ones not counted,
-    /// as far as there are variables.
+    /// The fewest and the most literals of a clause, as far as there are variables.
     pub widths: (usize, usize),
     /// How many of them are existential at least, in most clauses.
     pub existential: usize,
@@ -37,7 +36,7 @@ pub fn prefix(dice: &mut Dice, shape: Shape, k: Option<usize>) -> Vec<i32> {
     words
 }
 
-/// Random clauses over the prefix, no variable with both signs in one.
+/// Random clauses over the prefix, no variable twice in one.
 pub fn clauses(dice: &mut Dice, shape: Shape, prefix: &[i32]) -> Vec<Vec<i32>> {
     (0..shape.clauses)
         .map(|_| clause(dice, shape, prefix))
@@ -60,9 +59,6 @@ fn clause(dice: &mut Dice, shape: Shape, prefix: &[i32]) -> Vec<i32> {
     }
     variables.truncate(wanted);
     let mut literals: Vec<i32> = variables.iter().map(|&v| v * dice.pick(&[1, -1])).collect();
-    if dice.chance(1, 12) {
-        literals.push(dice.pick(&literals));
-    }
     dice.shuffle(&mut literals);
     literals
 }
@@ -136,7 +132,7 @@ pub fn full(dice: &mut Dice) -> Vec<i32> {
     let (variables, count, words) = dice.pick(&[
         (256, 3, 9),
         (3, 1024, 2048),
-        (7, 5, 4096),
+        (256, 17, 4096),
         (256, 1024, 4096),
     ]);
     let shape = Shape {
@@ -147,13 +143,15 @@ pub fn full(dice: &mut Dice) -> Vec<i32> {
         changes: 10,
     };
     let prefix = prefix(dice, shape, None);
-    let mut clauses = vec![Vec::new(); count];
-    for word in 0..words {
-        let clause: &mut Vec<i32> = &mut clauses[word * count / words];
-        let literal = dice.pick(&prefix).abs() * dice.pick(&[1, -1]);
-        let opposite = clause.contains(&-literal);
-        clause.push(if opposite { -literal } else { literal });
-    }
+    let mut variables: Vec<i32> = prefix.iter().map(|word| word.abs()).collect();
+    let clauses: Vec<Vec<i32>> = (0..count)
+        .map(|clause| {
+            dice.shuffle(&mut variables);
+            let width = (clause + 1) * words / count - clause * words / count;
+            let literal = |&variable: &i32| variable * dice.pick(&[1, -1]);
+            variables[..width].iter().map(literal).collect()
+        })
+        .collect();
     lay_out(&prefix, &clauses)
 }
 

@@ -85,7 +85,7 @@ impl fmt::Display for Tally {
             writeln!(f, "command {command} {}", self.answered(command))?;
         }
         self.number_row(f, "accepted", 0)?;
-        for number in 1..=21 {
+        for number in (1..=21).chain([23]) {
             self.number_row(f, &format!("refusal {number}"), number)?;
         }
         (0..NAMES.len()).try_for_each(|rule| self.rule_row(f, rule))

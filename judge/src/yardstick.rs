@@ -85,7 +85,7 @@ struct Parts<'a> {
 }
 
 impl<'a> Parts<'a> {
-    /// The check, refusals 1 to 10.
+    /// The check, refusals 1 to 10 and 23.
     fn of(block: &'a [i32]) -> Result<Parts<'a>, u8> {
         let ([v, c, t], offsets, rest) = match *block {
             [v, c, t, prefix, ends, words, ref rest @ ..] => {
@@ -113,6 +113,7 @@ impl<'a> Parts<'a> {
         };
         parts.check_prefix()?;
         parts.check_clauses()?;
+        parts.check_pairs()?;
         Ok(parts)
     }
 
@@ -134,7 +135,7 @@ impl<'a> Parts<'a> {
         }
     }
 
-    /// Refusals 8 to 10.
+    /// Refusals 8 and 9.
     fn check_clauses(&self) -> Result<(), u8> {
         let mut start = 0;
         for &end in self.ends {
@@ -149,16 +150,26 @@ impl<'a> Parts<'a> {
         if self.words.iter().any(|&word| !self.names(word)) {
             return Err(9);
         }
+        Ok(())
+    }
+
+    /// Refusals 10 and 23.
+    fn check_pairs(&self) -> Result<(), u8> {
         // The clause that a literal was last met in, by sign and variable.
         let mut met = [[usize::MAX; PLACES]; 2];
+        let mut repeated = false;
         for clause in 0..self.ends.len() {
             for &word in self.clause(clause) {
                 let sign = usize::from(word > 0);
-                met[sign][size(word)] = clause;
                 if met[1 - sign][size(word)] == clause {
                     return Err(10);
                 }
+                repeated |= met[sign][size(word)] == clause;
+                met[sign][size(word)] = clause;
             }
+        }
+        if repeated {
+            return Err(23);
         }
         Ok(())
     }
@@ -321,7 +332,7 @@ impl Search<'_> {
                     lowest_universal = lowest_universal.min(self.tables.level[size(literal)]);
                 } else if found == 0 {
                     found = literal;
-                } else if found != literal {
+                } else {
                     continue 'clauses;
                 }
             }

@@ -111,12 +111,13 @@ macro_rules! call {
     (@ $name:ident [$($c:tt)*]) => { accepted(unsafe { c::$name($($c)*) }) };
 }
 
-/// Whether the block is accepted; refusals 1 to 10.
+/// Whether the block is accepted; refusals 1 to 10 and 23.
 pub fn check(block: &[i32]) -> Result<(), Refusal> {
     call!(moki_check(in block))
 }
 
-/// A fresh session; refusals 1 to 11. The first V places of the record become 0.
+/// A fresh session; refusals 1 to 11 and 23. The first V places of the record
+/// become 0.
 pub fn open(
     block: &[i32],
     lits: &mut [i32],
@@ -129,7 +130,7 @@ pub fn open(
 }
 
 impl Session {
-    /// One step; refusals 1 to 17.
+    /// One step; refusals 1 to 17 and 23.
     pub fn step(
         self,
         block: &[i32],
@@ -144,7 +145,7 @@ impl Session {
         Ok(session(&answer))
     }
 
-    /// At most `budget` steps; refusals 1 to 15.
+    /// At most `budget` steps; refusals 1 to 15 and 23.
     pub fn run(
         self,
         block: &[i32],
@@ -165,7 +166,7 @@ impl Session {
 }
 
 /// The openings from `start` on that win, two words of output each: the opening, and
-/// how many ones its number has; refusals 1 to 11 and 18 to 21. The record is for
+/// how many ones its number has; refusals 1 to 11, 18 to 21 and 23. The record is for
 /// work: its first V places become 0.
 pub fn page(
     block: &[i32],

@@ -181,6 +181,24 @@ caseM v c t n = record {
   state = Open;
 }
 
+-- [case.n] prefix 1, 2 and clauses {1,1} {2,-1}: refused with 23
+unfoldable pub caseN : Case
+caseN = record {
+  block = pos 2 ∷ pos 2 ∷ pos 4 ∷ pos 6 ∷ pos 8 ∷ pos 10 ∷ pos 1 ∷ pos 2 ∷ pos 2 ∷ pos 4 ∷ pos 1 ∷ pos 1 ∷ pos 2 ∷ neg 1 ∷ [];
+  calls = [];
+  said = refused 23 ∷ [];
+  state = Open;
+}
+
+-- [case.o] prefix 1, 2 and clauses {1,1} {2,-2}: refused with 10, though the clause before repeats a literal
+unfoldable pub caseO : Case
+caseO = record {
+  block = pos 2 ∷ pos 2 ∷ pos 4 ∷ pos 6 ∷ pos 8 ∷ pos 10 ∷ pos 1 ∷ pos 2 ∷ pos 2 ∷ pos 4 ∷ pos 1 ∷ pos 1 ∷ pos 2 ∷ neg 2 ∷ [];
+  calls = [];
+  said = refused 10 ∷ [];
+  state = Open;
+}
+
 unfoldable pub table : List Case
 table =
-    caseA ∷ caseA-monotone ∷ caseB ∷ caseC ∷ caseD ∷ caseE ∷ caseF ∷ caseG ∷ caseH ∷ caseI ∷ caseJ ∷ caseK ∷ caseL ∷ caseL-calls ∷ caseM 256 1024 4096 4 ∷ caseM 257 1024 4096 2 ∷ caseM 256 1025 4096 2 ∷ caseM 256 1024 4097 2 ∷ []
+    caseA ∷ caseA-monotone ∷ caseB ∷ caseC ∷ caseD ∷ caseE ∷ caseF ∷ caseG ∷ caseH ∷ caseI ∷ caseJ ∷ caseK ∷ caseL ∷ caseL-calls ∷ caseM 256 1024 4096 4 ∷ caseM 257 1024 4096 2 ∷ caseM 256 1025 4096 2 ∷ caseM 256 1024 4097 2 ∷ caseN ∷ caseO ∷ []

@@ -10,7 +10,7 @@ use Rattle.words.specs.Outcomes.{Outcome}
 use Rattle.words.specs.Words.{eqZ, mem}
 use Rattle.formula.specs.Limits.{limits}
 use Rattle.formula.specs.Formula.{formulaOf, variablesOf, clausesFrom, existential, universal, change, levelOf, level, run, firstGroup}
-use Rattle.formula.specs.Block.{refusal, twice, badEnds, bothSigns}
+use Rattle.formula.specs.Block.{refusal, twice, badEnds, bothSigns, repeats}
 use Rattle.theory.specs.Record.{literals, assigned}
 use Rattle.theory.specs.Tests.{unassignedE, unassignedU, inConflict, unitOn, occurs, oneSign, untrueOf, monotone as isMonotone, isOpen}
 use Rattle.rules.specs.declared.rule.State.{State}
@@ -35,7 +35,7 @@ use Rattle.listing.specs.declared.Paged as paged
 use Rattle.listing.specs.Opening.{valuesOf, openingStart}
 use Rattle.listing.specs.Page.{PageMemory, pageRefusal, pageFrom, pageOf}
 use Rattle.cases.specs.Table as said
-use Rattle.cases.specs.Table.{Asked, Said, Case, table, all-0, blockA, blockG, caseA, caseA-monotone, caseB, caseC, caseD, caseE, caseF, caseG, caseH, caseI, caseJ, caseK, leastWord, caseL, caseL-calls, caseM}
+use Rattle.cases.specs.Table.{Asked, Said, Case, table, all-0, blockA, blockG, caseA, caseA-monotone, caseB, caseC, caseD, caseE, caseF, caseG, caseH, caseI, caseJ, caseK, leastWord, caseL, caseL-calls, caseM, caseN, caseO}
 
 -- a rule by its name, with the literal that it wrote
 abbrev pub named : Rule → ℤ → Said
@@ -94,5 +94,10 @@ worked c =
     opened (c .block) (c .calls) o (o .answer)
 
 pub worked-by-hand : map worked table ≡ map (λ (c : Case). seen (c .said) (c .state)) table
-unfolding table caseA caseA-monotone caseB caseC caseD caseE caseF caseG caseH caseI caseJ caseK leastWord caseL caseL-calls caseM blockA blockG all-0 worked calling stepOutcome openOutcome runOf stepRefusal openRefusal runRefusal pageOf pageRefusal pageFrom valuesOf openingStart advance runFrom refusal limits twice badEnds bothSigns all any eqZ mem formulaOf clausesFrom existential universal change levelOf level run firstGroup literals assigned unassignedE unassignedU inConflict unitOn occurs oneSign untrueOf isMonotone isOpen due lowest last candidate lowestUnit firstOf firstMonotone firstUnassigned firstOpen entries zipWith recordOf wiped apply badEntries badRecord ones
+unfolding table caseA caseA-monotone caseB caseC caseD caseE caseF caseG caseH caseI caseJ caseK leastWord caseL caseL-calls caseM caseN caseO blockA blockG all-0 worked calling stepOutcome openOutcome runOf stepRefusal openRefusal runRefusal pageOf pageRefusal pageFrom valuesOf openingStart advance runFrom refusal limits twice badEnds bothSigns repeats all any eqZ mem formulaOf clausesFrom existential universal change levelOf level run firstGroup literals assigned unassignedE unassignedU inConflict unitOn occurs oneSign untrueOf isMonotone isOpen due lowest last candidate lowestUnit firstOf firstMonotone firstUnassigned firstOpen entries zipWith recordOf wiped apply badEntries badRecord ones
 worked-by-hand = refl
+
+-- [case.n] the same on record buffers of no places: 23 is looked at before 11
+pub without-places : openOutcome (caseN .block) (memory [] []) (record { 0 = 0 }) .answer ≡ Refused 23
+unfolding caseN openOutcome openRefusal refusal limits twice badEnds bothSigns repeats all any eqZ mem clausesFrom
+without-places = refl

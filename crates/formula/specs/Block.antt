@@ -1,4 +1,4 @@
--- When a block is turned away: the table's rows 1 to 10, in its order [table.order].
+-- When a block is turned away: the table's rows 1 to 10 and 23, in its order [table.order].
 use Prim.Native.Nat.{ℕ, _+_}
 use mathlib.Core.Bool.{Bool, false, not, _&&_, _||_}
 use mathlib.Core.List.{List, [], _∷_}
@@ -57,7 +57,12 @@ unfoldable pub bothSigns : List ℤ → Bool
 bothSigns [] = false
 bothSigns (l ∷ ls) = mem (negℤ l) ls || bothSigns ls
 
--- [calls.check] the ten rows; the first is a block too short for its header [row.1]
+-- [row.23] a literal more than once
+unfoldable pub repeats : List ℤ → Bool
+repeats [] = false
+repeats (l ∷ ls) = mem l ls || repeats ls
+
+-- [calls.check] its rows; the first is a block too short for its header [row.1]
 abbrev pub rows : Limits → List ℤ → List Row
 rows L b =
     row 1 (ltb (length b) 6)
@@ -70,6 +75,7 @@ rows L b =
     ∷ row 8 (badEnds (literalCountOf b) 0 (endsOf b))
     ∷ row 9 (any (noVariable (variablesOf b)) (literalsOf b))
     ∷ row 10 (any bothSigns (clausesFrom (literalsOf b) 0 (endsOf b)))
+    ∷ row 23 (any repeats (clausesFrom (literalsOf b) 0 (endsOf b)))
     ∷ []
 
 -- the number of the first row that applies, and 0 for an accepted block

@@ -7,7 +7,7 @@ use lib.IntN.{ℤ, pos, negℤ, natAbs}
 use lib.ListN.{getD, take, drop}
 use Rattle.words.specs.Words.{negative, mem}
 
--- the prefix, from the outermost variable to the innermost, and the clauses, of which only the literals matter [clause.set]
+-- the prefix, from the outermost variable to the innermost, and the clauses, each a list of literals
 pub record Formula : Type 0 where
   pub prefix : List ℤ
   pub clauses : List (List ℤ)

@@ -1,4 +1,4 @@
--- [demand.1.number] Which number a refused block is given: 1 to 10, each exactly when the table says.
+-- [demand.1.number] Which number a refused block is given: 1 to 10 and 23, each exactly when the table says.
 use mathlib.Core.Path.{refl}
 use mathlib.Core.List.{List, [], _∷_}
 use Prim.Native.Nat.{ℕ}
@@ -11,7 +11,7 @@ use Rattle.formula.specs.Block.{rows, refusal}
 
 -- the numbers in the table's order
 abbrev pub blockNumbers : List ℕ
-blockNumbers = 1 ∷ 2 ∷ 3 ∷ 4 ∷ 5 ∷ 6 ∷ 7 ∷ 8 ∷ 9 ∷ 10 ∷ []
+blockNumbers = 1 ∷ 2 ∷ 3 ∷ 4 ∷ 5 ∷ 6 ∷ 7 ∷ 8 ∷ 9 ∷ 10 ∷ 23 ∷ []
 
 module _ (L : Limits) (b : List ℤ) where
   pub check-numbered : Numbered (rows L b) (refusal L b)

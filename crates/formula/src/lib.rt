@@ -1,4 +1,4 @@
-// The formula block: a checker with refusals 1 to 10.
+// The formula block: a checker with refusals 1 to 10 and 23.
 ghost use Rattle.formula.specs.Promises.{CheckPromise};
 
 mod cut; // the block's three parts

@@ -1,4 +1,4 @@
-// Rows 5 to 10: the prefix, the clause ends and the literals, each a slice of its own.
+// Rows 5 to 10 and 23: the prefix, the clause ends and the literals, each a slice of its own.
 ghost use mathlib.Core.Path.{_≡_};
 ghost use mathlib.Core.Bool.{false};
 ghost use Prim.Native.Nat.{_≤_};
@@ -69,8 +69,9 @@ pub(crate) fn check_parts(prefix: &[i32], ends: &[i32], literals: &[i32]) -> cra
     if some_stranger(literals, prefix.len()) {
         return crate::Checked::Refused(9);
     }
-    if crate::marks::clause_with_both_signs(literals, ends) {
-        return crate::Checked::Refused(10);
+    let row = crate::marks::pair_row(literals, ends);
+    if row != 0 {
+        return crate::Checked::Refused(row);
     }
     crate::Checked::Accepted
 }

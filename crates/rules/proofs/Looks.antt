@@ -11,7 +11,6 @@ use lib.ListN.{length, getD, take, drop}
 use borrow.Author.Tests.{lt-ltb, le-ltb, le-leb, leb-true}
 use Rattle.words.specs.declared.Literal.{Literal}
 use Rattle.words.specs.Laws.Bools.{clash, and-l, and-r}
-use Rattle.words.specs.Words.{eqZ}
 use Rattle.rules.specs.Due.{literal}
 use Rattle.rules.specs.Inner.Clauses.{levelBy, staysUnit, unitFrom, unitAfter, unitWith, Shown, decidedBy, lowestUnitBy}
 use Rattle.rules.specs.declared.clauses.Look.{Look}
@@ -43,23 +42,17 @@ module _ (st lev : ℤ → ℕ) (ls : List ℤ) (end place above : ℕ) (x : ℤ
       either true = refl
       either false = refl
 
-  -- an existential literal: the first one, the same again, another
+  -- an existential literal: the first one, the second
   module _ (h : st x ≡ 2) where
     pub with-first : (over : Bool) (j : ℕ) → x ≡ getD ls j (pos 0) → j < end → end ≤ place → unitAfter st lev ls end j above over C ≡ unitAfter st lev ls end place above over (x ∷ C)
     unfolding unitAfter staysUnit unitFrom
     with-first true j e l m = refl
     with-first false j e l m = rw (lt-ltb j end l, le-ltb place end m, h, e)
 
-    module _ (l : place < end) where
-      pub with-same : (over : Bool) → eqZ x (getD ls place (pos 0)) ≡ true → unitAfter st lev ls end place above over C ≡ unitAfter st lev ls end place above over (x ∷ C)
-      unfolding unitAfter staysUnit
-      with-same true e = refl
-      with-same false e = rw (lt-ltb place end l, h, e)
-
-      pub with-other : (over : Bool) → eqZ x (getD ls place (pos 0)) ≡ false → unitAfter st lev ls end place above true C ≡ unitAfter st lev ls end place above over (x ∷ C)
-      unfolding unitAfter staysUnit
-      with-other true e = refl
-      with-other false e = rw (lt-ltb place end l, h, e)
+    pub with-second : (over : Bool) → place < end → unitAfter st lev ls end place above true C ≡ unitAfter st lev ls end place above over (x ∷ C)
+    unfolding unitAfter staysUnit
+    with-second true l = refl
+    with-second false l = rw (lt-ltb place end l, h)
 
   -- a universal literal: only the lowest level counts
   module _ (a : st x ≡ 0 → ⊥) (b : st x ≡ 1 → ⊥) (c : st x ≡ 2 → ⊥) where

@@ -10,7 +10,6 @@ ghost use mathlib.Core.Path.{_≡_};
 ghost use Prim.Native.Nat.{_≤_, _<_};
 ghost use lib.IntN.{pos, natAbs};
 ghost use lib.ListN.{getD};
-ghost use Rattle.words.specs.Words.{eqZ};
 ghost use Rattle.formula.specs.Limits.{limits};
 ghost use Rattle.formula.specs.Formula.{clausesFrom};
 ghost use Rattle.rules.specs.Due.{lowest};
@@ -67,25 +66,15 @@ pub(crate) fn lowest_conflict(
     Found::Nothing
 }
 
-// Whether the words at two indices are the same.
-fn same_at(ws: &[i32], i: usize, j: usize) -> bool
-    ensures { λ r. ⌜ r ≡ eqZ (getD (now (ws .entry)) i (pos 0)) (getD (now (ws .entry)) j (pos 0)) ⌝ }
-{
-    if words::size_at(ws, i) != words::size_at(ws, j) {
-        return false;
-    }
-    words::negative_at(ws, i) == words::negative_at(ws, j)
-}
-
 // What the literals of a clause have shown so far.
 struct Look {
     place: usize, // of its unassigned existential literal, or the clause's end while it has none
     above: u16, // the lowest level of its unassigned universal literals, or NO_LEVEL while it has none
-    over: bool, // it has a true literal, or two different unassigned existential ones: it is no unit clause
+    over: bool, // it has a true literal, or two unassigned existential ones: it is no unit clause
 }
 
 impl Look {
-    // One literal more. A repeated one changes nothing.
+    // One literal more.
     fn with(
         mut self,
         literals: &[i32],
@@ -109,7 +98,7 @@ impl Look {
         if status == 2 {
             if end <= self.place {
                 self.place = j;
-            } else if !same_at(literals, j, self.place) {
+            } else {
                 self.over = true;
             }
             return self;

@@ -15,7 +15,7 @@ use Rattle.words.specs.Words.{negative, mem}
 use Rattle.words.specs.Laws.Words.{mem-e}
 use Rattle.formula.specs.Limits.{Limits}
 use Rattle.formula.specs.Formula.{word, variablesOf, clauseCountOf, literalCountOf, prefixOf, endsOf, literalsOf, clausesFrom, formulaOf}
-use Rattle.formula.specs.Block.{noVariable, twice, badEnds, bothSigns, rows, refusal}
+use Rattle.formula.specs.Block.{noVariable, twice, badEnds, bothSigns, repeats, rows, refusal}
 use Rattle.formula.specs.Inner.Named.{AllNamed}
 use Rattle.formula.specs.Laws.Named.{named, in-named, all-named}
 use Rattle.formula.specs.Laws.Layout as layout
@@ -31,10 +31,11 @@ pub record Accepted (L : Limits) (b : List ℤ) : Type 0 where
   pub known : any (noVariable (variablesOf b)) (prefixOf b) ≡ false
   pub once : twice (prefixOf b) ≡ false
   pub last : 0 < variablesOf b → negative (word b (5 + variablesOf b)) ≡ false
-  -- 8 to 10: the clauses
+  -- 8 to 10 and 23: the clauses
   pub ends : badEnds (literalCountOf b) 0 (endsOf b) ≡ false
   pub literals : any (noVariable (variablesOf b)) (literalsOf b) ≡ false
   pub plain : any bothSigns (clausesFrom (literalsOf b) 0 (endsOf b)) ≡ false
+  pub single : any repeats (clausesFrom (literalsOf b) 0 (endsOf b)) ≡ false
 
 pub accepted : (L : Limits) (b : List ℤ) → refusal L b ≡ 0 → Accepted L b
 unfolding refusal
@@ -51,6 +52,7 @@ accepted L b e =
       ends = p 8;
       literals = p 9;
       plain = p 10;
+      single = p 23;
     }
 
 module _ {L : Limits} {b : List ℤ} (a : Accepted L b) where

@@ -14,3 +14,8 @@ pub checked-refused : (n k : ℕ) → checkedOf n ≡ Refused k → n ≡ k
 unfolding checkedOf
 checked-refused zero k e = let z : _≡_ {A = ℕ} 0 1 = cc in absurd (omega arith)
 checked-refused (suc n) k e = cc
+
+pub checked-number : (n : ℕ) → (n ≡ 0 → ⊥) → Refused n ≡ checkedOf n
+unfolding checkedOf
+checked-number zero h = absurd (h refl)
+checked-number (suc n) h = refl

@@ -1,4 +1,4 @@
--- Rows 6 and 10 along a list, from its end to its start: what holds of a tail holds of the list.
+-- Rows 6, 10 and 23 along a list, from its end to its start: what holds of a tail holds of the list.
 use mathlib.Core.Path.{_≡_}
 use mathlib.Core.Bool.{true, _||_}
 use mathlib.Core.List.{List, [], _∷_}
@@ -9,7 +9,7 @@ use Rattle.words.specs.Laws.Bools.{or-r}
 use Rattle.words.specs.Lists.{any}
 use Rattle.words.specs.Laws.Lists.{next}
 use Rattle.words.specs.Words.{mem}
-use Rattle.formula.specs.Block.{names, twice, bothSigns}
+use Rattle.formula.specs.Block.{names, twice, bothSigns, repeats}
 
 pub twice-drop : (i : ℕ) (ws : List ℤ) → twice (drop i ws) ≡ true → twice ws ≡ true
 unfolding twice
@@ -32,3 +32,7 @@ module _ (ws : List ℤ) (i : ℕ) (h : i < length ws) where
   pub signs-at : bothSigns (drop i ws) ≡ mem (negℤ (getD ws i (pos 0))) (drop (i + 1) ws) || bothSigns (drop (i + 1) ws)
   unfolding bothSigns
   signs-at = rw (next ws i (pos 0) h)
+
+  pub repeats-at : repeats (drop i ws) ≡ mem (getD ws i (pos 0)) (drop (i + 1) ws) || repeats (drop (i + 1) ws)
+  unfolding repeats
+  repeats-at = rw (next ws i (pos 0) h)

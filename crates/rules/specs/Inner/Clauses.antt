@@ -7,7 +7,6 @@ use lib.Dec.{eqb, ltb, leb}
 use lib.IntN.{ℤ, pos, natAbs}
 use lib.ListN.{length, getD}
 use Rattle.words.specs.Lists.{any}
-use Rattle.words.specs.Words.{eqZ}
 use Rattle.formula.specs.Limits.{limits}
 use Rattle.formula.specs.Block.{badEnds}
 use Rattle.rules.specs.Due.{onPicked, literal}
@@ -47,15 +46,15 @@ conflictBy st C = not (any (keepsBy st) C)
 -- by the literals' status and level. `above` is the lowest level of the unassigned universal literals so far, more than any level if there is
 -- none
 module _ (st lev : ℤ → ℕ) where
-  -- a clause whose one unassigned existential literal so far is l stays a unit clause to its end: no literal of the rest is true, no other
-  -- one is existential, and all universal ones are at a higher level than l
+  -- a clause whose one unassigned existential literal so far is l stays a unit clause to its end: no literal of the rest is true, none is
+  -- existential, since a clause repeats no literal, and all universal ones are at a higher level than l
   unfoldable pub staysUnit : ℤ → ℕ → List ℤ → Bool
   staysUnit l above [] = ltb (lev l) above
   staysUnit l above (x ∷ C) =
       byStatus (st x)
       (staysUnit l above C)
       false
-      (eqZ x l && staysUnit l above C)
+      false
       (staysUnit l (min above (lev x)) C)
 
   -- the literal of a unit clause that has no unassigned existential literal so far

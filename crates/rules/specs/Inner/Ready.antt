@@ -10,7 +10,7 @@ use lib.ListN.{length}
 use Rattle.words.specs.Lists.{any}
 use Rattle.formula.specs.Limits.{limits}
 use Rattle.formula.specs.Formula.{Formula, variablesOf, prefixOf, clausesFrom}
-use Rattle.formula.specs.Block.{noVariable, twice, badEnds, refusal}
+use Rattle.formula.specs.Block.{noVariable, twice, badEnds, repeats, refusal}
 use Rattle.theory.specs.Record.{Assignment}
 use Rattle.theory.specs.Tests.{isOpen}
 use Rattle.rules.specs.Trail.{Trail}
@@ -36,6 +36,7 @@ pub record Ready (p es ls : List ℤ) : Type 0 where
   pub prefix : Bound p
   pub ends : badEnds (length ls) 0 es ≡ false
   pub named : any (noVariable (length p)) ls ≡ false
+  pub single : any repeats (clausesFrom ls 0 es) ≡ false
 
 -- ---- the buffers and the record
 -- both buffers have n places

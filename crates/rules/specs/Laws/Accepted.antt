@@ -61,7 +61,7 @@ module _ (b : List ℤ) (h : refusal limits b ≡ 0) where
   pub accepted-ready : Ready (prefixOf b) (endsOf b) (literalsOf b)
   accepted-ready =
       let a = block.accepted limits b h in
-      record { prefix = accepted-bound; ends = rw (block.literals-length a) (a .ends); named = rw prefix-length (a .literals) }
+      record { prefix = accepted-bound; ends = rw (block.literals-length a) (a .ends); named = rw prefix-length (a .literals); single = a .single }
 
   pub accepted-proper : Proper (formulaOf b)
   accepted-proper = block.proper limits b h

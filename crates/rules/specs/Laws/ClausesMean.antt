@@ -10,12 +10,13 @@ use lib.Dec.{ltb}
 use lib.IntN.{ℤ}
 use lib.ListN.{getD}
 use borrow.Author.Tests.{lt-ltb, le-ltb, ltb-true, ltb-false}
-use Rattle.words.specs.Laws.Bools.{clash, look, and-l, and-r, to-false}
+use Rattle.words.specs.Laws.Bools.{clash, look, and-l, and-r, or-fl, or-fr, to-false}
 use Rattle.words.specs.Lists.{In, here, there, all, any}
 use Rattle.words.specs.Laws.Lists.{any-i}
 use Rattle.words.specs.Words.{eqZ, mem}
-use Rattle.words.specs.Laws.Words.{eqZ-refl, mem-i, mem-e}
+use Rattle.words.specs.Laws.Words.{eqZ-refl, eqZ-ne, mem-i, mem-e}
 use Rattle.formula.specs.Formula.{level}
+use Rattle.formula.specs.Block.{repeats}
 use Rattle.theory.specs.Record.{Assignment}
 use Rattle.theory.specs.Tests.{unassignedE, unassignedU, inConflict, unitOn, untrueOf}
 use Rattle.rules.specs.Due.{onFound, onPicked, literal, lowest, candidate, isUnit, lowestUnit}
@@ -93,20 +94,25 @@ module _ (p : List ℤ) (ρ : Assignment) (st lev : ℤ → ℕ) where
   abbrev higherU : ℤ → List ℤ → Bool
   higherU l C = all (λ x. not (unassignedU p ρ x) || ltb (level p l) (level p x)) C
 
-  stays-means : (l : ℤ) → lev l ≡ level p l → (above : ℕ) (C : List ℤ) → AllMeant C → staysUnit st lev l above C ≡ (not (any ρ C) && onlyE l C && (ltb (level p l) above && higherU l C))
+  stays-means : (l : ℤ) → lev l ≡ level p l → (above : ℕ) (C : List ℤ) → mem l C ≡ false → AllMeant C → staysUnit st lev l above C ≡ (not (any ρ C) && onlyE l C && (ltb (level p l) above && higherU l C))
   unfolding staysUnit any all
-  stays-means l q above [] h = rw q (sym (and-true (ltb (level p l) above)))
-  stays-means l q above (x ∷ C) h = go (h x (here refl) .sorted) (h x (here refl) .at) (λ n. stays-means l q n C (λ y i. h y (there i)))
+  stays-means l q above [] o h = rw q (sym (and-true (ltb (level p l) above)))
+  stays-means l q above (x ∷ C) o h = go (h x (here refl) .sorted) (h x (here refl) .at) (λ n. stays-means l q n C later (λ y i. h y (there i)))
     where
-      same : (k a b : Bool) → (k && (not a && b && (ltb (level p l) above && higherU l C))) ≡ (not a && (k && b) && (ltb (level p l) above && higherU l C))
-      same true a b = refl
-      same false true b = refl
-      same false false b = refl
+      later : mem l C ≡ false
+      later = to-false (mem l C) (λ t. clash (mem-i (there (mem-e l C t))) o)
+
+      other : eqZ x l ≡ false
+      other = eqZ-ne (λ e. clash (mem-i (here {xs = C} (sym e))) o)
+
+      none : (a b : Bool) → false ≡ (not a && (false && b) && (ltb (level p l) above && higherU l C))
+      none true b = refl
+      none false b = refl
 
       go : Sorted p ρ st x → lev x ≡ level p x → ((n : ℕ) → staysUnit st lev l n C ≡ (not (any ρ C) && onlyE l C && (ltb (level p l) n && higherU l C))) → staysUnit st lev l above (x ∷ C) ≡ (not (any ρ (x ∷ C)) && onlyE l (x ∷ C) && (ltb (level p l) above && higherU l (x ∷ C)))
       go (as-false s t e u) v ih = rw (s, t, e, u) (ih above)
       go (as-true s t) v ih = rw (s, t)
-      go (as-existential s t e u) v ih = rw (s, t, e, u, ih above) (same (eqZ x l) (any ρ C) (onlyE l C))
+      go (as-existential s t e u) v ih = rw (s, t, e, u, other) (none (any ρ C) (onlyE l C))
       go (as-universal s t e u) v ih = rw (s, t, e, u, v, ih (min above (level p x)), ltb-min (level p l) above (level p x)) (ap (λ b. not (any ρ C) && onlyE l C && b) (and-assoc (ltb (level p l) above) (ltb (level p l) (level p x)) (higherU l C)))
 
   -- the unit test with the universal literals before the clause, down to the level `above`
@@ -117,10 +123,10 @@ module _ (p : List ℤ) (ρ : Assignment) (st lev : ℤ → ℕ) where
   abbrev taken : Bool → ℤ → Picked
   taken b l = cond b (Is (literal l)) NoLiteral
 
-  from-means : (above : ℕ) (C : List ℤ) → AllMeant C → unitFrom st lev above C ≡ taken (unitIn above C (candidate p ρ C)) (candidate p ρ C)
-  unfolding unitFrom candidate any all
-  from-means above [] h = refl
-  from-means above (x ∷ C) h = go (h x (here refl) .sorted) (h x (here refl) .at) (λ n. from-means n C (λ y i. h y (there i)))
+  from-means : (above : ℕ) (C : List ℤ) → repeats C ≡ false → AllMeant C → unitFrom st lev above C ≡ taken (unitIn above C (candidate p ρ C)) (candidate p ρ C)
+  unfolding unitFrom candidate any all repeats
+  from-means above [] o h = refl
+  from-means above (x ∷ C) o h = go (h x (here refl) .sorted) (h x (here refl) .at) (λ n. from-means n C (or-fr (mem x C) (repeats C) o) (λ y i. h y (there i)))
     where
       l : ℤ
       l = candidate p ρ C
@@ -128,7 +134,7 @@ module _ (p : List ℤ) (ρ : Assignment) (st lev : ℤ → ℕ) where
       go : Sorted p ρ st x → lev x ≡ level p x → ((n : ℕ) → unitFrom st lev n C ≡ taken (unitIn n C l) l) → unitFrom st lev above (x ∷ C) ≡ taken (unitIn above (x ∷ C) (candidate p ρ (x ∷ C))) (candidate p ρ (x ∷ C))
       go (as-false s t e u) v ih = rw (s, t, e, u) (ih above)
       go (as-true s t) v ih = rw (s, t)
-      go (as-existential s t e u) v ih = rw (s, t, e, u, eqZ-refl x, stays-means x v above C (λ y i. h y (there i))) (ap (λ b. taken (b && onlyE x C && (ltb (level p x) above && higherU x C)) x) (sym (and-true (not (any ρ C)))))
+      go (as-existential s t e u) v ih = rw (s, t, e, u, eqZ-refl x, stays-means x v above C (or-fl (mem x C) (repeats C) o) (λ y i. h y (there i))) (ap (λ b. taken (b && onlyE x C && (ltb (level p x) above && higherU x C)) x) (sym (and-true (not (any ρ C)))))
       go (as-universal s t e u) v ih = rw (s, t, e, u, v, ih (min above (level p x)), ltb-min (level p l) above (level p x)) (ap (λ b. taken (not (any ρ C) && any (unassignedE p ρ) C && onlyE l C && b) l) (and-assoc (ltb (level p l) above) (ltb (level p l) (level p x)) (higherU l C)))
 
   -- the candidate is the clause's, if it has an unassigned existential literal
@@ -154,14 +160,14 @@ module _ (p : List ℤ) (ρ : Assignment) (st lev : ℤ → ℕ) where
           let none = to-false (mem l C && unassignedE p ρ l) (λ b. clash (any-i (unassignedE p ρ) (mem-e l C (and-l (mem l C) (unassignedE p ρ l) b)) (and-r (mem l C) (unassignedE p ρ l) b)) e) in
           rw (e, none, and-false (not (any ρ C)))
 
-  unit-means : (C : List ℤ) → AllMeant C → unitFrom st lev places C ≡ taken (isUnit p ρ C) (candidate p ρ C)
-  unit-means C h = from-means places C h ∙ ap (λ b. taken b (candidate p ρ C)) (unit-in C h)
+  unit-means : (C : List ℤ) → repeats C ≡ false → AllMeant C → unitFrom st lev places C ≡ taken (isUnit p ρ C) (candidate p ρ C)
+  unit-means C o h = from-means places C o h ∙ ap (λ b. taken b (candidate p ρ C)) (unit-in C h)
 
   -- the lowest unit clause. G is the candidate by the clause's number
-  lowest-from : (n : ℕ) (m : List (List ℤ)) → ((C : List ℤ) → In C m → AllMeant C) → (G : ℕ → ℤ) → ((i : ℕ) → G (n + i) ≡ candidate p ρ (getD m i [])) → lowestUnitBy st lev n m ≡ onFound (lowest (isUnit p ρ) n m) (λ c. On (literal (G c)) c) NoUnit
-  unfolding lowestUnitBy lowest
-  lowest-from n [] h G e = refl
-  lowest-from n (C ∷ m) h G e = rw (unit-means C (h C (here refl))) (go (isUnit p ρ C) (lowest-from (suc n) m (λ D i. h D (there i)) G (λ i. let z : suc n + i ≡ n + suc i = omega arith in rw z (e (suc i)))))
+  lowest-from : (n : ℕ) (m : List (List ℤ)) → any repeats m ≡ false → ((C : List ℤ) → In C m → AllMeant C) → (G : ℕ → ℤ) → ((i : ℕ) → G (n + i) ≡ candidate p ρ (getD m i [])) → lowestUnitBy st lev n m ≡ onFound (lowest (isUnit p ρ) n m) (λ c. On (literal (G c)) c) NoUnit
+  unfolding lowestUnitBy lowest any
+  lowest-from n [] o h G e = refl
+  lowest-from n (C ∷ m) o h G e = rw (unit-means C (or-fl (repeats C) (any repeats m) o) (h C (here refl))) (go (isUnit p ρ C) (lowest-from (suc n) m (or-fr (repeats C) (any repeats m) o) (λ D i. h D (there i)) G (λ i. let z : suc n + i ≡ n + suc i = omega arith in rw z (e (suc i)))))
     where
       first : G n ≡ candidate p ρ C
       first = let z : n + 0 ≡ n = omega arith in rw z at (e 0)
@@ -170,6 +176,6 @@ module _ (p : List ℤ) (ρ : Assignment) (st lev : ℤ → ℕ) where
       go true ih = ap (λ x. On (literal x) n) (sym first)
       go false ih = ih
 
-  pub lowest-unit-means : (m : List (List ℤ)) → ((C : List ℤ) → In C m → AllMeant C) → lowestUnitBy st lev 0 m ≡ lowestUnit p ρ m
+  pub lowest-unit-means : (m : List (List ℤ)) → any repeats m ≡ false → ((C : List ℤ) → In C m → AllMeant C) → lowestUnitBy st lev 0 m ≡ lowestUnit p ρ m
   unfolding lowestUnit
-  lowest-unit-means m h = lowest-from 0 m h (λ c. candidate p ρ (getD m c [])) (λ i. let z : 0 + i ≡ i = omega arith in rw z)
+  lowest-unit-means m o h = lowest-from 0 m o h (λ c. candidate p ρ (getD m c [])) (λ i. let z : 0 + i ≡ i = omega arith in rw z)

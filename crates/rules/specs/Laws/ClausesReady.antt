@@ -111,7 +111,7 @@ module _ (p es ls : List ℤ) (ready : Ready p es ls) where
     -- 2: the lowest unit clause
     pub unit-ready : (levels : List ℕ) → Levels p levels → lowestUnitBy (statusIn statuses) (levelBy levels) 0 (clausesFrom ls 0 es) ≡ lowestUnit p ρ (clausesFrom ls 0 es)
     unfolding level
-    unit-ready levels lvls = lowest-unit-means p ρ _ _ _ (λ C i x j. meant x (clauses-in ls 0 es i j))
+    unit-ready levels lvls = lowest-unit-means p ρ _ _ _ (ready .single) (λ C i x j. meant x (clauses-in ls 0 es i j))
       where
         meant : (x : ℤ) → In x ls → Meant p ρ (statusIn statuses) (levelBy levels) x
         meant x i = let n = literal-named i in record {

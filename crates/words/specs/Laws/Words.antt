@@ -1,7 +1,7 @@
 -- Laws of words: when two are the same, opposites, and which words a list has. By the cases of a word, and by induction on the list.
 use mathlib.Core.Path.{_≡_, refl, sym, _∙_, ap}
 use mathlib.Core.Logic.{_⊎_, inl, inr}
-use mathlib.Core.Bool.{true, false, _||_, or-assoc, or-false, or-true, Bool·beq}
+use mathlib.Core.Bool.{true, false, _||_, or-assoc, or-false, or-true}
 use mathlib.Core.List.{List, [], _∷_, _++_}
 use Prim.Native.Nat.{ℕ, zero, suc, _≤_, _<_}
 use native.Mathlib.Omega.{arith}
@@ -27,16 +27,9 @@ eqZ-eq (negsuc m) (negsuc n) h = ap negsuc (eqb→eq m n (eq→T h))
 pub eqZ-ne : {x y : ℤ} → (x ≡ y → ⊥) → eqZ x y ≡ false
 eqZ-ne {x} {y} f = to-false _ (λ e. f (eqZ-eq x y e))
 
--- words of different variables differ; two words of one size are the same if their signs are
+-- words of different variables differ
 pub other-word : (x w : ℤ) → (natAbs x ≡ natAbs w → ⊥) → eqZ x w ≡ false
 other-word x w k = eqZ-ne (λ e. k (ap natAbs e))
-
-pub same-sign : (x y : ℤ) → natAbs x ≡ natAbs y → Bool·beq (negative x) (negative y) ≡ eqZ x y
-unfolding eqZ
-same-sign (pos m) (pos n) e = sym (eqb-i e)
-same-sign (pos m) (negsuc n) e = refl
-same-sign (negsuc m) (pos n) e = refl
-same-sign (negsuc m) (negsuc n) e = let z : m ≡ n = omega arith in sym (eqb-i z)
 
 -- the opposite of every word but the least is its negation
 pub opposite-is : (x : ℤ) → natAbs x ≤ 2147483647 → opposite x ≡ negℤ x

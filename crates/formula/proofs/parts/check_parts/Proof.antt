@@ -1,5 +1,5 @@
 -- Each row that does not hold leaves the rows after it; the first that holds is answered.
-use mathlib.Core.Path.{_≡_, sym, _∙_}
+use mathlib.Core.Path.{_≡_, sym, _∙_, ap}
 use mathlib.Core.List.{List}
 use lib.ListN.{drop}
 use Rattle.words.specs.Rows.{Row, refusalOf}
@@ -7,6 +7,7 @@ use Rattle.formula.specs.Limits.{limits}
 use Rattle.formula.specs.Block.{twice}
 use Rattle.formula.specs.Laws.Named.{all-named, named-up, known-up, repeated-is}
 use Rattle.formula.specs.Check.{checkedOf}
+use Rattle.formula.specs.Laws.Check.{checked-number}
 use Rattle.formula.specs.Inner.Tables.{partRows}
 use Rattle.formula.proofs.parts.check_parts.Statement.{statement}
 use Rattle.formula.proofs.parts.check_parts.Tie as tie
@@ -56,19 +57,18 @@ returns-5 : tie.Need-returns-5
 unfolding checkedOf
 returns-5 c = rw (past8 (c .before .before), sym (c .before .some-stranger2 .ensures) ∙ c .if5 .taken)
 
-clause-with-both-signs-requires : tie.Need-clause-with-both-signs-requires
-clause-with-both-signs-requires c κs =
+pair-row-requires : tie.Need-pair-row-requires
+pair-row-requires c κs =
     let ends = c .before .before in
     let start = ends .before .before .before .before .before .before .before .before in
     (named-up _ _ (limits .variables) (start .pre) (all-named _ _ (sym (c .before .some-stranger2 .ensures) ∙ c .if5 .left)), sym (ends .before .bad-ends .ensures) ∙ ends .if4 .left)
 
 returns-6 : tie.Need-returns-6
-unfolding checkedOf
-returns-6 c = rw (past9 (c .before .before), sym (c .before .clause-with-both-signs .ensures) ∙ c .if6 .taken)
+returns-6 c = checked-number _ (c .if6 .taken) ∙ ap checkedOf (c .before .pair-row .ensures ∙ sym (past9 (c .before .before)))
 
 returns-7 : tie.Need-returns-7
 unfolding checkedOf
-returns-7 c = rw (past9 (c .before .before), sym (c .before .clause-with-both-signs .ensures) ∙ c .if6 .left)
+returns-7 c = rw (past9 (c .before .before), sym (c .before .pair-row .ensures) ∙ c .if6 .left)
 
 pub check-parts-spec : {M : Type 1} → statement M
 check-parts-spec =
@@ -84,6 +84,6 @@ check-parts-spec =
     returns-4
     (λ c κs. tt)
     returns-5
-    clause-with-both-signs-requires
+    pair-row-requires
     returns-6
     returns-7)

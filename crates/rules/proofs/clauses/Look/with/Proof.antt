@@ -5,11 +5,10 @@ use native.Mathlib.Omega.{arith}
 use lib.IntN.{pos}
 use lib.ListN.{getD}
 use borrow.Author.Needs.{needs}
-use borrow.Author.Tests.{not-true, not-false}
 use Rattle.formula.specs.Laws.Limits.{variables-are}
 use Rattle.rules.specs.Inner.ByLiteral.{statusIn}
 use Rattle.rules.specs.Inner.Clauses.{levelBy, Shown}
-use Rattle.rules.proofs.Looks.{with-false, with-true, with-first, with-same, with-other, with-universal}
+use Rattle.rules.proofs.Looks.{with-false, with-true, with-first, with-second, with-universal}
 use Rattle.rules.proofs.clauses.Look.with.Statement.{statement}
 use Rattle.rules.proofs.clauses.Look.with.Tie as tie
 
@@ -30,13 +29,8 @@ returns-3 c =
 
 returns-4 : tie.Need-returns-4
 returns-4 c =
-    let a = c .before .before .before .before .before .before .before .before .args in
-    λ C. with-other _ _ _ _ (a .self .place) (a .self .above) _ C (sym (c .before .before .before .before .before .before .before .status-at .ensures) ∙ c .before .before .before .before .if3 .taken) (c .before .before .if4 .left) (a .self .over) (sym (c .before .same-at .ensures) ∙ not-true _ (c .if5 .taken))
-
-returns-5 : tie.Need-returns-5
-returns-5 c =
-    let a = c .before .before .before .before .before .before .before .before .args in
-    λ C. with-same _ _ _ _ (a .self .place) (a .self .above) _ C (sym (c .before .before .before .before .before .before .before .status-at .ensures) ∙ c .before .before .before .before .if3 .taken) (c .before .before .if4 .left) (a .self .over) (sym (c .before .same-at .ensures) ∙ not-false _ (c .if5 .left))
+    let a = c .before .before .before .before .before .before .args in
+    λ C. with-second _ _ _ _ (a .self .place) (a .self .above) _ C (sym (c .before .before .before .before .before .status-at .ensures) ∙ c .before .before .if3 .taken) (a .self .over) (c .if4 .left)
 
 mul-level : tie.Need-mul-level
 mul-level c = omega (arith, variables-are, c .size-at .ensures, c .before .before .before .before .before .pre .0 (c .before .before .before .before .before .args .j))
@@ -55,14 +49,14 @@ module _ (c : tie.After-struct-known2) where
       let k = c .before .before .before .before .before .before .status-at .ensures in
       λ C. with-universal _ _ _ _ (a .self .place) (a .self .above) _ C (λ z. c .before .before .before .before .before .if1 .left (k ∙ z)) (λ z. c .before .before .before .before .if2 .left (k ∙ z)) (λ z. c .before .before .before .if3 .left (k ∙ z)) (a .self .over) n (m ∙ ap (λ v. min (a .self .above) (getD (a .levels .now) v 0)) (c .before .before .size-at .ensures))
 
-returns-6 : tie.Need-returns-6
-returns-6 c = lowered (c .before) _ (omega (arith, c .if6 .taken))
+returns-5 : tie.Need-returns-5
+returns-5 c = lowered (c .before) _ (omega (arith, c .if5 .taken))
 
-returns-7 : tie.Need-returns-7
-returns-7 c = lowered (c .before) _ (omega (arith, c .if6 .left))
+returns-6 : tie.Need-returns-6
+returns-6 c = lowered (c .before) _ (omega (arith, c .if5 .left))
 
 pub with-spec : {M : Type 1} → statement M
 with-spec =
     tie.close
-    (tie.spec (λ c κs. c .pre .0 (c .args .j)) returns returns-2 (λ c κs. search needs) returns-3 returns-4 returns-5 (λ c κs. search needs)
-    mul-level element-copy-out-level returns-6 returns-7)
+    (tie.spec (λ c κs. c .pre .0 (c .args .j)) returns returns-2 returns-3 returns-4 (λ c κs. search needs) mul-level element-copy-out-level
+    returns-5 returns-6)

@@ -1,5 +1,6 @@
 -- The literals passed, from the last one on, have the clause's stamp; a literal's place and its opposite's are within the table.
 use mathlib.Core.Path.{_≡_}
+use mathlib.Core.Logic.{inl, inr, ⊎-elim}
 use Prim.Native.Nat.{_+_, _-_, _*_, _≤_, _<_}
 use native.Mathlib.Omega.{arith}
 use lib.IntN.{pos, natAbs}
@@ -8,17 +9,17 @@ use Rattle.formula.specs.Limits.{limits, maxVariables}
 use Rattle.formula.specs.Laws.Limits.{variables-are}
 use Rattle.formula.specs.Inner.Places.{literalPlaces}
 use Rattle.formula.proofs.Stamped.{Stamped, own-within, begin, hit, more, end}
-use Rattle.formula.proofs.marks.both_signs.Statement.{statement}
-use Rattle.formula.proofs.marks.both_signs.Tie as tie
+use Rattle.formula.proofs.marks.pair_in.Statement.{statement}
+use Rattle.formula.proofs.marks.pair_in.Tie as tie
 
 abbrev Inv-loop : tie.InvT-loop
-Inv-loop clause marks₀ stamp i₀ marks i = Stamped clause marks stamp i
+Inv-loop clause marks₀ stamp earlier found₀ i₀ marks found i = Stamped clause stamp earlier marks found i
 
 abbrev μ-loop : tie.MeasureT-loop
-μ-loop clause marks₀ stamp i₀ marks i = i
+μ-loop clause marks₀ stamp earlier found₀ i₀ marks found i = i
 
 loop-holds : tie.Need-loop-holds Inv-loop μ-loop
-loop-holds c = begin _ _ _ (c .pre .1)
+loop-holds c = begin _ _ _ _ (c .pre .1)
 
 -- the literal before the i-th is within the clause, and names a variable
 literal-small : (c : tie.In-loop Inv-loop μ-loop) → natAbs (getD (c .before .before .args .clause .now) (c .before .loop .i - 1) (pos 0)) ≤ limits .variables
@@ -51,24 +52,32 @@ returns : tie.Need-returns Inv-loop μ-loop
 returns c =
     let at = c .before .before in
     let inv = at .before .before .loop .inv in
-    (hit _ _ _ _ inv _ (step at) (literal-small (at .before)) _ (at .place-at .ensures) _ (other-is at) (c .if1 .taken), inv .fresh)
+    (hit _ _ _ _ _ _ inv _ (step at) (literal-small (at .before)) _ (at .place-at .ensures) _ (other-is at) (c .if1 .taken), inv .fresh)
+
+mul-if2 : tie.Need-mul-if2 Inv-loop μ-loop
+mul-if2 c = omega (arith, placed (c .before .before))
+
+element-copy-out-if2 : tie.Need-element-copy-out-if2 Inv-loop μ-loop
+element-copy-out-if2 c = omega (arith, placed (c .before .before))
 
 mul-marks : tie.Need-mul-marks Inv-loop μ-loop
-mul-marks c = omega (arith, placed (c .before .before))
+mul-marks c = omega (arith, placed (c .before .before .before .before))
 
 element-write-marks : tie.Need-element-write-marks Inv-loop μ-loop
-element-write-marks c = placed (c .before .before)
+element-write-marks c = placed (c .before .before .before .before)
 
 loop-again : tie.Need-loop-again Inv-loop μ-loop
 loop-again c =
-    let at = c .before .before in
-    more _ _ _ _ (at .before .before .loop .inv) _ (step at) (literal-small (at .before)) _ (at .place-at .ensures) _ (other-is at) (c .if1 .left)
+    let passed = c .before .before in
+    let at = passed .before .before in
+    more _ _ _ _ _ _ (at .before .before .loop .inv) _ (step at) (literal-small (at .before)) _ (at .place-at .ensures) _ (other-is at) (passed .if1 .left) _
+    (⊎-elim (λ w. inl (w .0 .taken, w .1)) (λ w. inr (w .0 .left, w .1)) (c .if2 .came))
 
 returns-2 : tie.Need-returns-2 Inv-loop μ-loop
-returns-2 c = (end _ _ _ _ (c .before .loop .inv) (c .loop-test .left), c .before .loop .inv .fresh)
+returns-2 c = (end _ _ _ _ _ _ (c .before .loop .inv) (c .loop-test .left), c .before .loop .inv .fresh)
 
-pub both-signs-spec : {M : Type 1} → statement M
-both-signs-spec =
+pub pair-in-spec : {M : Type 1} → statement M
+pair-in-spec =
     tie.close
     (tie.spec
     Inv-loop
@@ -81,6 +90,8 @@ both-signs-spec =
     mul-if1
     element-copy-out-if1
     returns
+    mul-if2
+    element-copy-out-if2
     mul-marks
     element-write-marks
     (λ c. omega arith)
