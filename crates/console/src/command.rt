@@ -1,5 +1,4 @@
 // What a line asks for, read from its bytes alone.
-use crate::desk::state_of;
 use crate::fill::all_fit;
 use crate::line::next_word;
 use crate::names;
@@ -20,6 +19,7 @@ use crate::room::WORD_BELOW;
 use crate::room::WORD_MOST;
 use session::Revision;
 use session::Session;
+use session::state_of;
 use words::Literal;
 
 // Words for a buffer are left in the line: the command says where they begin.
@@ -63,7 +63,7 @@ fn session(line: &[u8], from: usize) -> Command {
     let next = Session {
         length: length.size as usize,
         revision: Revision(revision.size),
-        state: state_of(state.size),
+        state: state_of(state.size as u32),
     };
     only(ends(line, state.next), Command::Session(next))
 }

@@ -40,20 +40,3 @@ pub(crate) fn empty() -> Desk
         on: true,
     }
 }
-
-// "0 open, 1 Valid, 2 Unsat": a state's number, and a number's state.
-pub(crate) fn number_of(state: State) -> u64 {
-    match state {
-        State::Open => 0,
-        State::Valid => 1,
-        State::Unsat => 2,
-    }
-}
-
-pub(crate) fn state_of(number: u64) -> State {
-    match number {
-        0 => State::Open,
-        1 => State::Valid,
-        _ => State::Unsat,
-    }
-}

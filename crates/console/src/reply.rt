@@ -1,7 +1,6 @@
 // What a line leaves: the session, and the answer, before it is text.
 use crate::command::Command;
 use crate::desk::Counts;
-use crate::desk::number_of;
 use crate::names;
 use crate::names::Name;
 use crate::room::ANSWER_NUMBERS;
@@ -10,6 +9,7 @@ use listing::Paged;
 use session::Answer;
 use session::Ran;
 use session::Session;
+use session::number_of;
 
 // The words that follow an answer's numbers.
 pub(crate) enum After {
@@ -48,7 +48,13 @@ fn shown(session: Session) -> Reply {
         session,
         name: names::SHOW,
         count: 3,
-        numbers: [session.length as u64, revision.0, number_of(state), 0, 0],
+        numbers: [
+            session.length as u64,
+            revision.0,
+            number_of(state) as u64,
+            0,
+            0,
+        ],
         after: After::Desk,
     }
 }
@@ -65,7 +71,7 @@ fn reached(session: Session, name: Name, count: usize, steps: u32) -> Reply {
             0,
             session.length as u64,
             revision.0,
-            number_of(state),
+            number_of(state) as u64,
             steps as u64,
         ],
         after: After::Nothing,
