@@ -1,7 +1,6 @@
 -- What is proved about the definitions, for use in proofs. To be read in this order.
 
--- lists alone; a search depends on its record alone
-pub mod Lists
+-- a search depends on its record alone
 pub mod Alike
 -- an opening's values, where its search starts, where it ends
 pub mod Values

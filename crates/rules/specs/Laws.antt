@@ -1,7 +1,6 @@
 -- What is proved about the definitions, for use in proofs. To be read in this order.
 
--- lists; the record in the buffers, and what row 12 leaves of it
-pub mod Lists
+-- the record in the buffers, and what row 12 leaves of it
 pub mod Wiped
 pub mod Records
 pub mod Last

@@ -18,7 +18,7 @@ use Rattle.rules.specs.Preferred.{proposalOf}
 use Rattle.rules.specs.Search.{Search, recordIn}
 use Rattle.rules.specs.Trail.{wiped, Trail, wipedTrail}
 use Rattle.rules.specs.Inner.Ready.{Bound, KeptIn, Room}
-use Rattle.rules.specs.Laws.Lists.{sets-outside}
+use Rattle.words.specs.Laws.Stores.{sets-outside}
 use Rattle.rules.specs.Laws.Wiped.{wiped-length, wiped-inside, wiped-outside}
 use Rattle.rules.specs.Laws.Records.{kept-good}
 use Rattle.rules.specs.Laws.Untouched.{apply-lengths, wiped-other, apply-untouched}

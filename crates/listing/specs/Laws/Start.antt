@@ -23,7 +23,7 @@ use Rattle.rules.specs.Laws.Wiped.{wiped-length, wiped-inside}
 use Rattle.rules.specs.Laws.Records.{room-less, record-length, record-get}
 use Rattle.rules.specs.Laws.Good.{good-kept}
 use Rattle.listing.specs.Opening.{groupOf, valuesOf, openingStart}
-use Rattle.listing.specs.Laws.Lists.{sets-first}
+use Rattle.words.specs.Laws.Stores.{sets-first}
 use Rattle.listing.specs.Laws.Values.{values-length, values-stand, values-twice, group-few, group-length, twice-take}
 
 -- ---- a record of forced literals

@@ -9,7 +9,7 @@ use native.Mathlib.Omega.{arith}
 use lib.ListN.{length, getD, take, set, replicate, length-replicate}
 use lib.Seq.{length-sets}
 use Rattle.rules.specs.Trail.{wiped}
-use Rattle.rules.specs.Laws.Lists.{take-sets, sets-out, sets-outside, sets-inside}
+use Rattle.words.specs.Laws.Stores.{take-sets, sets-out, sets-outside, sets-inside}
 
 module _ {A : Type 0} (z : A) (l : List A) (from to : ℕ) where
   pub wiped-length : length (wiped z l from to) ≡ length l

@@ -124,3 +124,18 @@ module _ {A : Type 0} where
   pub in-take : (n : ℕ) (xs : List A) {x : A} → In x (take n xs) → In x xs
   in-take (suc n) (y ∷ xs) (here e) = here e
   in-take (suc n) (y ∷ xs) (there i) = there (in-take n xs i)
+
+-- ---- what stands in xs ++ ys
+module _ {A : Type 0} where
+  pub in-left : {x : A} {xs : List A} (ys : List A) → In x xs → In x (xs ++ ys)
+  in-left ys (here e) = here e
+  in-left ys (there i) = there (in-left ys i)
+
+  pub in-right : {x : A} (xs : List A) {ys : List A} → In x ys → In x (xs ++ ys)
+  in-right [] i = i
+  in-right (y ∷ xs) i = there (in-right xs i)
+
+  pub in-either : {x : A} (xs ys : List A) → In x (xs ++ ys) → In x xs ⊎ In x ys
+  in-either [] ys i = inr i
+  in-either (y ∷ xs) ys (here e) = inl (here e)
+  in-either (y ∷ xs) ys (there i) = elim (in-either xs ys i) [ inl j ↦ inl (there j) | inr j ↦ inr j ]

@@ -1,12 +1,12 @@
--- Laws on lists alone: a run of stores changes its own places only.
+-- A run of stores changes its own places only, and puts what it stores there. Each by induction on the stores.
 use Prim.Native.Nat.{ℕ, zero, suc, _+_, _≤_, _<_}
 use mathlib.Core.Path.{_≡_, refl, _∙_}
 use mathlib.Core.Logic.{_⊎_, inl, inr}
 use mathlib.Core.List.{List, [], _∷_}
 use native.Mathlib.Decide.{ℕ-discrete, decLe}
 use native.Mathlib.Omega.{arith}
-use lib.ListN.{length, getD, take, set, replicate, List·getD-eq-default}
-use lib.Seq.{sets, getD-set-same, getD-set-other, set-out, take-set-le}
+use lib.ListN.{length, getD, take, set, replicate, List·getD-eq-default, List·getD-append}
+use lib.Seq.{sets, sets-eq, getD-set-same, getD-set-other, set-out, take-set-le}
 
 module _ {A : Type 0} where
   pub take-sets : (vs l : List A) (i n : ℕ) → n ≤ i → take n (sets l i vs) ≡ take n l
@@ -38,3 +38,7 @@ module _ {A : Type 0} where
     | yes e ↦ rw e (sets-outside (replicate n z) (set l i z) (suc i) i z (inl (omega arith)) ∙ set-default l i z)
     | no f ↦ sets-inside n (set l i z) (suc i) j z (omega arith) (omega arith)
   ]
+
+  -- a word stored at the start, with those after it
+  pub sets-first : (vs l : List A) (i : ℕ) (d : A) → i < length vs → length vs ≤ length l → getD (sets l 0 vs) i d ≡ getD vs i d
+  sets-first vs l i d h k = let f : 0 + length vs ≡ length vs = omega arith in rw (sets-eq vs l 0 (rw f k)) (List·getD-append vs _ d i h)
