@@ -78,11 +78,11 @@ pub placed : (ws : List ℤ) (i s : ℕ) → Known ws → i < length ws → s �
 placed ws i s h l is = let k = all-named (limits .variables) ws h .at i l in omega (arith, enough, k .most)
 
 pub bound-named : {p : List ℤ} → Bound p → Known p
-bound-named {p} b = known-up (length p) p (limits .variables) (b .room) (b .named)
+bound-named {p} b = known-up (length p) p (limits .variables) (b .room) (b .binds .named)
 
 -- a bound prefix as words that give values: the table is that of its quantifiers
 pub bound-written : {p : List ℤ} → Bound p → Written p (length p)
-bound-written {p} b = record { room = omega arith; named = rw (take-length p) (bound-named b); once = rw (take-length p) (b .once) }
+bound-written {p} b = record { room = omega arith; named = rw (take-length p) (bound-named b); once = rw (take-length p) (b .binds .once) }
 
 pub quantifiers-of : (p : List ℤ) (t : List ℕ) → Values (among (take (length p) p)) t → Quantifiers p t
 quantifiers-of p t said = rw (take-length p) at said

@@ -15,6 +15,7 @@ ghost use mathlib.Core.Path.{_≡_};
 ghost use mathlib.Core.List.{List};
 ghost use Prim.Native.Nat.{ℕ, _≤_};
 ghost use lib.ListN.{length};
+ghost use Rattle.formula.specs.Limits.{limits};
 ghost use Rattle.theory.specs.Record.{Record, trueIn};
 ghost use Rattle.rules.specs.Due.{dueConflict, dueUnit, dueMonotone, dueDecide};
 ghost use Rattle.rules.specs.Trail.{trail};
@@ -24,7 +25,7 @@ ghost use Rattle.rules.specs.Inner.Tabled.{Sorts, Tabled};
 
 // The due rule of a record.
 pub fn due(block: &[i32], lits: &[i32], kinds: &[u8], count: usize) -> Rule
-    requires { ⌜ OnBlock (now block) (trail (now lits) (now kinds)) count ⌝ }
+    requires { ⌜ OnBlock limits (now block) (trail (now lits) (now kinds)) count ⌝ }
     ensures { λ r. ⌜ DuePromise (now (block .entry)) (trail (now (lits .entry)) (now (kinds .entry))) count r ⌝ }
 {
     let prefix = formula::prefix(block);

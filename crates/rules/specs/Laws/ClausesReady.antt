@@ -64,7 +64,7 @@ module _ (p : List ℤ) (b : Bound p) (ρ : Assignment) (values quantifiers : Li
       is = said x (n .some) (n .most) ∙ status-is x (n .some)
 
       other : universal p x ≡ not (existential p x)
-      other = quantifier (length p) p (b .named) (b .once) refl x n
+      other = quantifier (length p) p (b .binds .named) (b .binds .once) refl x n
 
       go : (ρ x ≡ true) ⊎ (ρ x ≡ false) → (ρ (negℤ x) ≡ true) ⊎ (ρ (negℤ x) ≡ false) → (existential p x ≡ true) ⊎ (existential p x ≡ false) → Sorted p ρ (statusIn statuses) x
       go (inl h) k e = as-true (is ∙ rw h) h
@@ -116,6 +116,6 @@ module _ (p es ls : List ℤ) (ready : Ready p es ls) where
         meant : (x : ℤ) → In x ls → Meant p ρ (statusIn statuses) (levelBy levels) x
         meant x i = let n = literal-named i in record {
           sorted = sorting x n;
-          at = lvls (natAbs x) (all-bound (length p) p (ready .prefix .named) (ready .prefix .once) refl (natAbs x) (n .some) (n .most));
+          at = lvls (natAbs x) (all-bound (length p) p (ready .prefix .binds .named) (ready .prefix .binds .once) refl (natAbs x) (n .some) (n .most));
           low = omega (arith, level-few p (natAbs x), ready .prefix .room, variables-are);
         }

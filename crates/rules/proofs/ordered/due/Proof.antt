@@ -10,7 +10,7 @@ use Rattle.rules.specs.Inner.Ready.{formula, Ready}
 use Rattle.rules.specs.Inner.Tabled.{Tabled, Sorts}
 use Rattle.rules.specs.Laws.Records.{kept-room}
 use Rattle.rules.specs.Laws.ClausesReady.{ready-clauses, conflict-ready, sorts}
-use Rattle.rules.specs.Laws.Accepted.{kept-written, kept-tabled, accepted-ready, formula-is}
+use Rattle.rules.specs.Laws.Accepted.{held-on, kept-tabled, accepted-ready, formula-is}
 use borrow.Author.Needs.{needs}
 use Rattle.rules.proofs.Filled.{bound-written, quantifiers-of}
 use Rattle.rules.proofs.ordered.due.Statement.{statement}
@@ -75,6 +75,6 @@ returns-2 c =
 pub due-spec : {M : Type 1} → statement M
 due-spec =
     tie.close
-    (tie.spec (λ c κs. search needs) (λ c κs. search needs) (λ c κs. search needs) (λ c κs. kept-written _ _ _ (start c .pre .kept))
+    (tie.spec (λ c κs. search needs) (λ c κs. search needs) (λ c κs. search needs) (λ c κs. held-on _ _ _ (start c .pre) .written)
     (λ c κs. bound-written (parts (c .before) .prefix)) statuses-of-requires lowest-conflict-requires (λ c. search needs) due-conflict-requires
     (λ c. search needs) due-unit-requires returns returns-2)
