@@ -18,7 +18,7 @@ use Rattle.session.specs.Laws.Accepted.{opened, open-passes}
 use Rattle.listing.specs.Opening.{openings}
 use Rattle.listing.specs.Page.{workOf, firstUniversal, ofPage, pageRows, pageRefusal, PageMemory}
 use Rattle.rules.specs.Inner.Ready.{Bound, Room}
-use Rattle.rules.specs.Laws.Accepted.{prefix-length, accepted-bound}
+use Rattle.rules.specs.Laws.Accepted.{prefix-length, accepted-binds}
 
 module _ (b : List ℤ) (m : PageMemory) (start : ℕ) where
   pub page-numbered : Numbered (pageRows b m start) (pageRefusal b m start)
@@ -68,4 +68,4 @@ module _ (b : List ℤ) (m : PageMemory) (start : ℕ) where
   -- its prefix, as the searches need it
   pub page-bound : PageGuarded → Bound (formulaOf b .prefix)
   unfolding formulaOf
-  page-bound g = accepted-bound b (g .block)
+  page-bound g = accepted-binds b (g .block)

@@ -21,16 +21,17 @@ use Rattle.session.specs.States.{numberOf, stateNumbered}
 use Rattle.session.specs.Refusals.{openRefusal}
 use Rattle.session.specs.Outcome.{openOutcome, stepOutcome}
 use Rattle.session.specs.Run.{Trip, trip, runFrom, runOf}
+use Rattle.formula.specs.Limits.{limits}
 
 -- ---- the entrances
 abbrev pub OpenPromise : List ℤ → Memory → Revision → Answer → Memory → Type 0
-OpenPromise b m rev r m′ = outcome r m′ ≡ openOutcome b m rev
+OpenPromise b m rev r m′ = outcome r m′ ≡ openOutcome limits b m rev
 
 abbrev pub StepPromise : Session → List ℤ → Memory → Revision → Literal → Answer → Memory → Type 0
-StepPromise s b m seen l r m′ = outcome r m′ ≡ stepOutcome s b m seen l
+StepPromise s b m seen l r m′ = outcome r m′ ≡ stepOutcome limits s b m seen l
 
 abbrev pub RunPromise : Session → List ℤ → Memory → Revision → ℕ → List ℤ → Ran → Memory → Type 0
-RunPromise s b m seen budget preferred r m′ = outcome r m′ ≡ runOf s b m seen budget preferred
+RunPromise s b m seen budget preferred r m′ = outcome r m′ ≡ runOf limits s b m seen budget preferred
 
 abbrev pub NumberOfPromise : State → ℕ → Type 0
 NumberOfPromise st r = r ≡ numberOf st
@@ -56,7 +57,7 @@ only-state-of n = only-one
 
 -- ---- the inner doors
 abbrev pub OpenRefusalPromise : List ℤ → Memory → ℕ → Type 0
-OpenRefusalPromise b m r = r ≡ openRefusal b m
+OpenRefusalPromise b m r = r ≡ openRefusal limits b m
 
 abbrev pub SearchPromise : List ℤ → Trail → ℕ → ℕ → List ℤ → Searched → Trail → Type 0
 SearchPromise b t n budget preferred r t′ = trip (reached (r .reached) t′) (r .steps) ≡ runFrom (formulaOf b) preferred budget (search t n Open) 0

@@ -1,6 +1,7 @@
 // The rows of the table that speak of buffers, of a session and of a proposal, in its order. Row 15 needs no look at them: it stands with the calls.
 ghost use mathlib.Core.Path.{_≡_};
 ghost use lib.ListN.{take};
+ghost use Rattle.formula.specs.Limits.{limits};
 ghost use Rattle.formula.specs.Formula.{prefixOf};
 ghost use Rattle.theory.specs.Record.{among};
 ghost use Rattle.session.specs.Memory.{memory};
@@ -74,7 +75,7 @@ pub(crate) fn session_refusal(
     kinds: &[u8],
     seen: Revision,
 ) -> u32
-    ensures { λ r. ⌜ r ≡ sessionRefusal session (now (block .entry)) (memory (now (lits .entry)) (now (kinds .entry))) seen ⌝ }
+    ensures { λ r. ⌜ r ≡ sessionRefusal limits session (now (block .entry)) (memory (now (lits .entry)) (now (kinds .entry))) seen ⌝ }
 {
     let refused = open_refusal(block, lits, kinds);
     if refused != 0 {

@@ -1,6 +1,7 @@
 // A search: rule after rule on checked input.
 ghost use mathlib.Core.Path.{_≡_};
 ghost use lib.ListN.{take};
+ghost use Rattle.formula.specs.Limits.{limits};
 ghost use Rattle.formula.specs.Formula.{prefixOf, formulaOf};
 ghost use Rattle.theory.specs.Record.{among};
 ghost use Rattle.rules.specs.Due.{literal};
@@ -43,7 +44,7 @@ fn advance(
     count: usize,
     preferred: &[i32],
 ) -> Reached
-    requires { ⌜ OnBlock (now block) (trail (now lits) (now kinds)) count ⌝ }
+    requires { ⌜ OnBlock limits (now block) (trail (now lits) (now kinds)) count ⌝ }
     ensures { λ r. ⌜ rules.reached r (trail (now (lits .exit)) (now (kinds .exit))) ≡ advance (formulaOf (now (block .entry))) (now (preferred .entry)) (rules.search (trail (now (lits .entry)) (now (kinds .entry))) count Open) ⌝ }
 {
     let rule = rules::due(block, lits, kinds, count);
@@ -60,7 +61,7 @@ pub fn search(
     budget: u32,
     preferred: &[i32],
 ) -> Searched
-    requires { ⌜ OnBlock (now block) (trail (now lits) (now kinds)) count ⌝ }
+    requires { ⌜ OnBlock limits (now block) (trail (now lits) (now kinds)) count ⌝ }
     ensures { λ r. ⌜ SearchPromise (now (block .entry)) (trail (now (lits .entry)) (now (kinds .entry))) count budget (now (preferred .entry)) r (trail (now (lits .exit)) (now (kinds .exit))) ⌝ }
 {
     let mut at = Reached {

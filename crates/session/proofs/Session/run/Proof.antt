@@ -6,6 +6,7 @@ use Rattle.session.specs.Laws.Accepted.{guarded}
 use Rattle.session.proofs.Exits.{run-stops, run-over, run-moves, steps-within}
 use Rattle.session.proofs.Session.run.Statement.{statement}
 use Rattle.session.proofs.Session.run.Tie as tie
+use Rattle.formula.specs.Limits.{limits}
 
 returns : tie.Need-returns
 returns c = run-stops _ _ _ _ _ _ (c .before .session-refusal .ensures) (c .if1 .taken)
@@ -18,7 +19,7 @@ returns-2 c =
 search-requires : tie.Need-search-requires
 search-requires c κs =
     let g = c .before .before .before in
-    guarded _ _ _ _ (sym (g .before .session-refusal .ensures) ∙ g .if1 .left) .on
+    guarded limits _ _ _ _ (sym (g .before .session-refusal .ensures) ∙ g .if1 .left) .on
 
 add-moved : tie.Need-add-moved
 add-moved c =
@@ -26,7 +27,7 @@ add-moved c =
     let v = f .before .before .before in
     let g = v .before in
     let start = g .before .before .before .before .before in
-    let on = guarded (start .args .self) _ _ _ (sym (g .before .session-refusal .ensures) ∙ g .if1 .left) .on in
+    let on = guarded limits (start .args .self) _ _ _ (sym (g .before .session-refusal .ensures) ∙ g .if1 .left) .on in
     let w = steps-within on (start .args .budget) (start .args .preferred .now) (f .search .ensures) in
     omega (arith, w, v .if2 .left, start .good)
 

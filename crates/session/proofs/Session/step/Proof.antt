@@ -7,6 +7,7 @@ use Rattle.session.specs.Laws.Accepted.{fitting, guarded}
 use Rattle.session.proofs.Exits.{step-stops, step-last, step-improper, step-moves}
 use Rattle.session.proofs.Session.step.Statement.{statement}
 use Rattle.session.proofs.Session.step.Tie as tie
+use Rattle.formula.specs.Limits.{limits}
 
 returns : tie.Need-returns
 returns c = step-stops _ _ _ _ _ (c .before .session-refusal .ensures) (c .if1 .taken)
@@ -15,12 +16,12 @@ returns-2 : tie.Need-returns-2
 returns-2 c = let g = c .before in step-last _ _ _ _ _ (g .before .session-refusal .ensures) (g .if1 .left) (omega (arith, c .if2 .taken))
 
 due-requires : tie.Need-due-requires
-due-requires c κs = let g = c .before .before .before in guarded _ _ _ _ (sym (g .before .session-refusal .ensures) ∙ g .if1 .left) .on
+due-requires c κs = let g = c .before .before .before in guarded limits _ _ _ _ (sym (g .before .session-refusal .ensures) ∙ g .if1 .left) .on
 
 proposal-refusal-requires : tie.Need-proposal-refusal-requires
 proposal-refusal-requires c κs =
     let g = c .before .before .before .before .before in
-    held-on _ _ _ (guarded _ _ _ _ (sym (g .before .session-refusal .ensures) ∙ g .if1 .left) .on)
+    held-on _ _ _ (guarded limits _ _ _ _ (sym (g .before .session-refusal .ensures) ∙ g .if1 .left) .on)
 
 returns-3 : tie.Need-returns-3
 returns-3 c =
@@ -33,7 +34,7 @@ apply-requires : tie.Need-apply-requires
 apply-requires c κs =
     let d = c .before .before .before .before .before in
     let g = d .before .before .before .before in
-    let on = guarded _ _ _ _ (sym (g .before .session-refusal .ensures) ∙ g .if1 .left) .on in
+    let on = guarded limits _ _ _ _ (sym (g .before .session-refusal .ensures) ∙ g .if1 .left) .on in
     (on, rw (d .due .ensures) (fitting on))
 
 add-moved : tie.Need-add-moved
