@@ -23,7 +23,7 @@ use Rattle.rules.specs.declared.rule.State.the-variants.{Open}
 use Rattle.rules.specs.Search.{Search, search}
 use Rattle.rules.specs.Inner.Ready.{KeptIn, OnBlock}
 use Rattle.rules.specs.Trail.{Trail, wipedTrail, trail}
-use Rattle.rules.specs.Laws.Accepted.{accepted-bound}
+use Rattle.rules.specs.Laws.Accepted.{accepted-binds}
 use Rattle.session.specs.Run.{trip, runFrom}
 use Rattle.listing.specs.Opening.{valuesOf, valueAt, openingStart, openingSearch}
 use Rattle.listing.specs.Laws.Start.{starts}
@@ -120,11 +120,11 @@ module _ {b : List ℤ} {work : Trail} {k : ℕ} (o : OnGroup b work k) where
 
   -- the record that it starts from passes row 12
   module _ (n : ℕ) {work′ : Trail} (e : search work′ k Open ≡ openingStart (formulaOf b) work n) where
-    pub searchable : OnBlock b work′ k
+    pub searchable : OnBlock limits b work′ k
     unfolding formulaOf
     searchable = record {
       block = o .on .block;
-      kept = subst (λ t. KeptIn (prefixOf b) t) (sym e) (starts (formulaOf b) (accepted-bound b (o .on .block)) work n (rw (prefix-length (accepted limits b (o .on .block))) (o .on .room)) .kept);
+      kept = subst (λ t. KeptIn (prefixOf b) t) (sym e) (starts (formulaOf b) (accepted-binds limits b (o .on .block)) work n (rw (prefix-length (accepted limits b (o .on .block))) (o .on .room)) .kept);
     }
 
     pub searched : (preferred : List ℤ) (budget : ℕ) {u : Search} {m : ℕ} → trip u m ≡ runFrom (formulaOf b) preferred budget (search work′ k Open) 0 → u ≡ openingSearch (formulaOf b) preferred budget work n
