@@ -4,6 +4,7 @@ use Prim.Native.Nat.{ℕ, suc, _+_, _-_, _*_, _^_, _/_, _%_, _≤_, _<_}
 use mathlib.Core.Path.{_≡_, refl, sym, _∙_, ap, subst}
 use mathlib.Core.Bool.{Bool, true, false, not, Bool·beq, cond}
 use mathlib.Core.List.{List, [], _∷_}
+use native.Mathlib.Nat.{le-trans}
 use native.Mathlib.Omega.{arith}
 use native.Mathlib.Numerals.{add-one}
 use lib.Dec.{eqb}
@@ -17,7 +18,7 @@ use Rattle.words.specs.Words.{negative, opposite}
 use Rattle.words.specs.Laws.Words.{opposite-is}
 use Rattle.formula.specs.Formula.{run, firstGroup, variablesOf, prefixOf, formulaOf}
 use Rattle.formula.specs.Limits.{limits}
-use Rattle.formula.specs.Laws.Limits.{group-is, variables-are}
+use Rattle.formula.specs.Laws.Limits.{group-small, variables-are}
 use Rattle.formula.specs.Laws.Accepted.{accepted, variables-most, prefix-named, prefix-length, Accepted}
 use Rattle.rules.specs.declared.rule.State.the-variants.{Open}
 use Rattle.rules.specs.Search.{Search, search}
@@ -53,7 +54,7 @@ module _ (p : List ℤ) (i : ℕ) (u : Bool) (e : i + run u (drop i p) ≡ first
 
 -- ---- how many openings there are
 pub shifted : (k : ℕ) → k ≤ limits .group → 1 * 2 ^ k % 4294967296 ≡ 2 ^ k
-shifted k h = let m : 2 ^ k ≤ 2 ^ 16 = pow-mono (rw group-is at h) in omega arith
+shifted k h = let m : 2 ^ k ≤ 2 ^ 31 = pow-mono (le-trans h group-small) in omega arith
 
 -- ---- one value: a word that has the other sign is flipped
 word-value : (q : ℤ) (v : Bool) → cond (Bool·beq (negative q) v) (negℤ q) q ≡ cond v (pos (natAbs q)) (negℤ (pos (natAbs q)))
