@@ -11,16 +11,16 @@ pub record Limits : Type 0 where
 
 -- the constants of the code are these
 abbrev pub maxVariables : ℕ
-maxVariables = 256
+maxVariables = 1024
 
 abbrev pub maxClauses : ℕ
-maxClauses = 1024
+maxClauses = 4096
 
 abbrev pub maxLiterals : ℕ
-maxLiterals = 4096
+maxLiterals = 8192
 
 abbrev pub maxGroup : ℕ
-maxGroup = 16
+maxGroup = 20
 
 unfoldable pub limits : Limits
 limits = record { variables = maxVariables; clauses = maxClauses; literals = maxLiterals; group = maxGroup }
