@@ -1,27 +1,37 @@
 // A search: rule after rule on checked input.
 ghost use mathlib.Core.Path.{_≡_};
 ghost use lib.ListN.{take};
-ghost use Rattle.formula.specs.Limits.{limits};
 ghost use Rattle.formula.specs.Formula.{prefixOf, formulaOf};
 ghost use Rattle.theory.specs.Record.{among};
-ghost use Rattle.rules.specs.Due.{literal};
-ghost use Rattle.rules.specs.Trail.{trail};
+ghost use Rattle.rules.specs.Due.{literal, due};
+ghost use Rattle.rules.specs.Trail.{trail, recordOf};
 ghost use Rattle.rules.specs.Search as rules;
 ghost use Rattle.rules.specs.Preferred.{proposalOf};
-ghost use Rattle.rules.specs.Inner.Ready.{OnBlock, HeldOn};
+ghost use Rattle.rules.specs.Inner.Ready.{HeldOn};
 ghost use Rattle.rules.specs.declared.rule.State.the-variants.{Open};
+ghost use Rattle.session.specs.Memory.{memory};
+ghost use Rattle.session.specs.Reasons.{why, told};
 ghost use Rattle.session.specs.Run.{advance};
+ghost use Rattle.session.specs.Inner.Reasons.{OnMemory};
 ghost use Rattle.session.specs.Promises.{SearchPromise};
 use crate::guard;
+use crate::reasons;
 use rules::Reached;
 use rules::Rule;
 use rules::State;
 use words::Literal;
 
-// Where a number of steps lead, and how many they are.
+// Where a number of steps lead, how many they are, and the reason of the last one, 0 if there is none.
 pub struct Searched {
     pub reached: Reached,
     pub steps: u32,
+    pub reason: u32,
+}
+
+// Where one step leads, and its reason.
+pub(crate) struct Advanced {
+    reached: Reached,
+    reason: u32,
 }
 
 // What is proposed to a rule: at Decide the first open preferred literal, else 0.
@@ -41,15 +51,21 @@ fn advance(
     block: &[i32],
     lits: &mut [i32],
     kinds: &mut [u8],
+    reasons: &mut [u32],
     count: usize,
     preferred: &[i32],
-) -> Reached
-    requires { ⌜ OnBlock limits (now block) (trail (now lits) (now kinds)) count ⌝ }
-    ensures { λ r. ⌜ rules.reached r (trail (now (lits .exit)) (now (kinds .exit))) ≡ advance (formulaOf (now (block .entry))) (now (preferred .entry)) (rules.search (trail (now (lits .entry)) (now (kinds .entry))) count Open) ⌝ }
+) -> Advanced
+    requires { ⌜ OnMemory (now block) (memory (now lits) (now kinds) (now reasons)) count ⌝ }
+    ensures { λ r. ⌜ (rules.reached (r .reached) (trail (now (lits .exit)) (now (kinds .exit))) ≡ advance (formulaOf (now (block .entry))) (now (preferred .entry)) (rules.search (trail (now (lits .entry)) (now (kinds .entry))) count Open)) × (why (now (reasons .exit)) (r .reason) ≡ told (due (formulaOf (now (block .entry))) (recordOf (trail (now (lits .entry)) (now (kinds .entry))) count)) count (now (reasons .entry))) ⌝ }
 {
     let rule = rules::due(block, lits, kinds, count);
     let literal = proposal(block, lits, count, rule, preferred);
-    rules::apply(block, lits, kinds, count, rule, literal)
+    let reason = reasons::tell(reasons, rule, count);
+    let reached = rules::apply(block, lits, kinds, count, rule, literal);
+    Advanced {
+        reached: reached,
+        reason: reason,
+    }
 }
 
 // At most `budget` steps from an open search. A page asks it for each opening.
@@ -57,32 +73,38 @@ pub fn search(
     block: &[i32],
     lits: &mut [i32],
     kinds: &mut [u8],
+    reasons: &mut [u32],
     count: usize,
     budget: u32,
     preferred: &[i32],
 ) -> Searched
-    requires { ⌜ OnBlock limits (now block) (trail (now lits) (now kinds)) count ⌝ }
-    ensures { λ r. ⌜ SearchPromise (now (block .entry)) (trail (now (lits .entry)) (now (kinds .entry))) count budget (now (preferred .entry)) r (trail (now (lits .exit)) (now (kinds .exit))) ⌝ }
+    requires { ⌜ OnMemory (now block) (memory (now lits) (now kinds) (now reasons)) count ⌝ }
+    ensures { λ r. ⌜ SearchPromise (now (block .entry)) (memory (now (lits .entry)) (now (kinds .entry)) (now (reasons .entry))) count budget (now (preferred .entry)) r (memory (now (lits .exit)) (now (kinds .exit)) (now (reasons .exit))) ⌝ }
 {
     let mut at = Reached {
         count: count,
         state: State::Open,
     };
     let mut steps: u32 = 0;
+    let mut reason: u32 = 0;
     while steps < budget {
         let state = at.state;
         if guard::is_over(state) {
             return Searched {
                 reached: at,
                 steps: steps,
+                reason: reason,
             };
         }
         let here = at.count;
-        at = advance(block, lits, kinds, here, preferred);
+        let next = advance(block, lits, kinds, reasons, here, preferred);
+        at = next.reached;
+        reason = next.reason;
         steps += 1;
     }
     Searched {
         reached: at,
         steps: steps,
+        reason: reason,
     }
 }

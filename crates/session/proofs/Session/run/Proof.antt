@@ -1,12 +1,9 @@
 -- A way out for each part of the table; after its last row the search goes on for as many steps as it answers.
 use native.Mathlib.Omega.{arith}
 use borrow.Author.Needs.{needs}
-use mathlib.Core.Path.{sym, _∙_}
-use Rattle.session.specs.Laws.Accepted.{guarded}
-use Rattle.session.proofs.Exits.{run-stops, run-over, run-moves, steps-within}
+use Rattle.session.proofs.Exits.{on-memory, run-stops, run-over, run-moves, steps-within}
 use Rattle.session.proofs.Session.run.Statement.{statement}
 use Rattle.session.proofs.Session.run.Tie as tie
-use Rattle.formula.specs.Limits.{limits}
 
 returns : tie.Need-returns
 returns c = run-stops _ _ _ _ _ _ (c .before .session-refusal .ensures) (c .if1 .taken)
@@ -18,26 +15,27 @@ returns-2 c =
 
 search-requires : tie.Need-search-requires
 search-requires c κs =
-    let g = c .before .before .before in
-    guarded limits _ _ _ _ (sym (g .before .session-refusal .ensures) ∙ g .if1 .left) .on
+    let g = c .before .before .before .before in
+    on-memory _ _ _ _ (g .before .session-refusal .ensures) (g .if1 .left)
 
 add-moved : tie.Need-add-moved
 add-moved c =
-    let f = c .before .before .before .before in
-    let v = f .before .before .before in
+    let f = c .before .before .before .before .before .before in
+    let v = f .before .before .before .before in
     let g = v .before in
-    let start = g .before .before .before .before .before in
-    let on = guarded limits (start .args .self) _ _ _ (sym (g .before .session-refusal .ensures) ∙ g .if1 .left) .on in
-    let w = steps-within on (start .args .budget) (start .args .preferred .now) (f .search .ensures) in
+    let start = g .before .before .before .before .before .before .before in
+    let on = on-memory (start .args .self) _ _ _ (g .before .session-refusal .ensures) (g .if1 .left) .on in
+    let w = steps-within on (start .args .budget) (start .args .preferred .now) (f .search .ensures .0) in
     omega (arith, w, v .if2 .left, start .good)
 
 returns-3 : tie.Need-returns-3
 returns-3 c =
-    let f = c .before .before .before .before .before in
-    let v = f .before .before .before in
+    let f = c .before .before .before .before .before .before .before in
+    let v = f .before .before .before .before in
     let g = v .before in
-    let start = g .before .before .before .before .before in
-    run-moves _ _ _ _ _ _ (g .before .session-refusal .ensures) (g .if1 .left) (omega (arith, start .good)) (omega (arith, v .if2 .left)) _ _ _ (f .search .ensures) (c .moved .ensures)
+    let start = g .before .before .before .before .before .before .before in
+    let (led, why) = f .search .ensures in
+    run-moves _ _ _ _ _ _ (g .before .session-refusal .ensures) (g .if1 .left) (omega (arith, start .good)) (omega (arith, v .if2 .left)) _ _ _ led _ _ why (c .moved .ensures)
 
 pub run-spec : {M : Type 1} → statement M
 run-spec =
@@ -46,7 +44,9 @@ run-spec =
     (λ c κs. search needs)
     (λ c. search needs)
     (λ c. search needs)
+    (λ c. search needs)
     returns
+    (λ c. search needs)
     (λ c. search needs)
     (λ c. search needs)
     (λ c. search needs)
@@ -55,6 +55,7 @@ run-spec =
     (λ c. search needs)
     add-moved
     (λ c κs. search needs)
+    (λ c. search needs)
     (λ c. search needs)
     (λ c. search needs)
     returns-3)

@@ -1,0 +1,28 @@
+-- Setting the places from i on gives what setting those from the first on would have given; past the buffer's end nothing is set.
+use Prim.Native.Nat.{_-_}
+use native.Mathlib.Omega.{arith}
+use borrow.Author.Needs.{needs}
+use Rattle.session.proofs.Noted.{Wiping, wiping-begin, wiping-more, wiping-end, wiping-past}
+use Rattle.session.proofs.reasons.wipe.Statement.{statement}
+use Rattle.session.proofs.reasons.wipe.Tie as tie
+
+abbrev Inv-loop : tie.InvT-loop
+Inv-loop reasons₀ from to i₀ reasons i = Wiping from to reasons₀ i reasons
+
+abbrev μ-loop : tie.MeasureT-loop
+μ-loop reasons₀ from to i₀ reasons i = to - i
+
+returns : tie.Need-returns Inv-loop μ-loop
+returns c = wiping-past (c .before .before .loop .inv) (c .if1 .taken)
+
+loop-again : tie.Need-loop-again Inv-loop μ-loop
+loop-again c = wiping-more (c .before .before .loop .inv) (c .before .loop-test .taken)
+
+returns-2 : tie.Need-returns-2 Inv-loop μ-loop
+returns-2 c = wiping-end (c .before .loop .inv) (c .loop-test .left)
+
+pub wipe-spec : {M : Type 1} → statement M
+wipe-spec =
+    tie.close
+    (tie.spec Inv-loop μ-loop (λ c. wiping-begin) (λ c. search needs) returns (λ c. omega arith) (λ c. omega arith) (λ c. omega arith) (λ c. omega arith)
+    loop-again (λ c. search needs) returns-2)
