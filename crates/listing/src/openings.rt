@@ -95,6 +95,8 @@ pub(crate) fn try_opening(
     ensures { λ r. ⌜ reached r (trail (now (lits .exit)) (now (kinds .exit))) ≡ openingSearch (formulaOf (now (block .entry))) (now (preferred .entry)) budget (trail (now (lits .entry)) (now (kinds .entry))) n ⌝ }
 {
     begin(block, lits, kinds, k, n);
-    let found = session::search(block, lits, kinds, k, budget, preferred);
+    // A page lends no reasons: the search writes them here, and they are not looked at.
+    let mut reasons = [0u32; formula::MAX_VARIABLES];
+    let found = session::search(block, lits, kinds, &mut reasons, k, budget, preferred);
     found.reached
 }

@@ -9,10 +9,11 @@ use native.Mathlib.Decide.{ℕ-discrete}
 use native.Mathlib.Omega.{arith}
 use lib.Dec.{eqb}
 use lib.IntN.{ℤ, pos}
-use lib.ListN.{length, getD, drop, length-set, length-drop}
+use lib.ListN.{length, getD, drop, length-set, length-drop, replicate, length-replicate}
 use lib.Seq.{getD-set-same, getD-set-other, length-take-le}
 use borrow.Author.Tests.{le-ltb}
 use Rattle.words.specs.Laws.Bools.{or-fl, or-fr}
+use Rattle.words.specs.Laws.Lists.{blank as zeros}
 use Rattle.words.specs.declared.Literal.{Literal}
 use Rattle.formula.specs.Limits.{Limits, limits}
 use Rattle.formula.specs.Laws.Limits.{clauses-are}
@@ -286,6 +287,16 @@ module _ (c : ℕ) (t : Trail) (ws : List ℕ) where
 
 pub zero-right : (c k : ℕ) → badReason c k 0 ≡ false
 zero-right c k = rw (le-ltb c 0 (omega arith)) (and-false (not (eqb k 0)))
+
+-- reasons that are all 0 pass rows 11 and 12, beside any record
+pub none-sound : (b : List ℤ) (t : Search) (n : ℕ) → Sound b (memoryOf t (replicate (variablesOf b) 0)) n
+none-sound b t n =
+    let v = variablesOf b in
+    let C = clauseCountOf b in
+    record {
+      places = rw (length-replicate {A = ℕ} v 0) (omega arith);
+      good = each-bad C (t .trail) (replicate v 0) n (λ j h. rw (zeros {A = ℕ} 0 v j) (zero-right C (getD (t .trail .kinds) j 0)));
+    }
 
 -- the due rule leaves reasons that rows 11 and 12 let pass
 pub sound-after : (L : Limits) (b : List ℤ) (t : Search) (ws : List ℕ) → OnBlock L b (t .trail) (t .count) → Sound b (memoryOf t ws) (t .count) → (l : ℤ)
