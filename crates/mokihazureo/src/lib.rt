@@ -83,15 +83,8 @@ pub extern "C" fn moki_run(
     ensures { λ r. ⌜ RunPromise (sessionOf length revision state) (now (block .entry)) (memory (now (lits .entry)) (now (kinds .entry)) (now (reasons .entry))) seen budget (now (preferred .entry)) (now (answer .entry)) r (lent (memory (now (lits .exit)) (now (kinds .exit)) (now (reasons .exit))) (now (answer .exit))) ⌝ }
 {
     let before = numbers::session_of(length, revision, state);
-    let outcome = before.run(
-        block,
-        lits,
-        kinds,
-        reasons,
-        Revision(seen),
-        budget,
-        preferred,
-    );
+    let at = Revision(seen);
+    let outcome = before.run(block, lits, kinds, reasons, at, budget, preferred);
     numbers::ran(outcome, answer)
 }
 

@@ -1,19 +1,18 @@
--- The reasons, in the words of the code: the test of one, the loop over a record's, newest first, and the loop that wipes.
+-- The reasons, in the words of the code: what a rule leaves, the test of one, and the loop over a record's, newest first.
 use Prim.Native.Nat.{ℕ, zero, suc, _+_, _-_, _≤_, _<_}
-use mathlib.Core.Path.{_≡_, refl, sym, _∙_}
+use mathlib.Core.Path.{_≡_, sym, _∙_}
 use mathlib.Core.Bool.{Bool, true, false, or-false, or-true}
 use mathlib.Core.List.{List}
 use native.Mathlib.Nat.{not-suc-le-zero}
 use native.Mathlib.Numerals.{sub-one}
 use native.Mathlib.Omega.{arith}
 use lib.Dec.{ltb}
-use lib.ListN.{length, getD, set, length-set}
+use lib.ListN.{getD, set}
 use borrow.Author.Tests.{eq-eqb, ne-eqb}
 use Rattle.words.specs.declared.Literal.{Literal}
 use Rattle.rules.specs.declared.rule.Rule.{Rule}
 use Rattle.rules.specs.declared.rule.Rule.the-variants.{BacktrackExists, Fail, Unit, BacktrackForall}
 use Rattle.rules.specs.Trail.{wiped}
-use Rattle.rules.specs.Laws.Wiped.{wiped-next, wiped-none, wiped-past}
 use Rattle.session.specs.Reasons.{why, told, badReason, badReasons}
 use Rattle.session.specs.Inner.Reasons.{Tellable}
 use Rattle.session.specs.Laws.Reasons.{zero-right}
@@ -72,22 +71,3 @@ module _ (c : ℕ) (ks ws : List ℕ) where
     pub look-end : i ≤ 0 → false ≡ badReasons c ks ws n
     unfolding badReasons
     look-end h = let z : i ≡ 0 = omega arith in rw z at (l .same)
-
--- ---- the places from .. to of l₀ are being set to 0, and i is next
-pub record Wiping (from to : ℕ) (l₀ : List ℕ) (i : ℕ) (l : List ℕ) : Type 0 where
-  pub long : length l ≡ length l₀
-  pub same : wiped 0 l i to ≡ wiped 0 l₀ from to
-
-module _ {from to : ℕ} {l₀ : List ℕ} where
-  pub wiping-begin : Wiping from to l₀ from l₀
-  wiping-begin = record { long = refl; same = refl }
-
-  module _ {i : ℕ} {l : List ℕ} (w : Wiping from to l₀ i l) where
-    pub wiping-more : i < to → Wiping from to l₀ (i + 1) (set l i 0)
-    wiping-more h = record { long = length-set l i 0 ∙ w .long; same = sym (wiped-next 0 l i to h) ∙ w .same }
-
-    pub wiping-end : to ≤ i → l ≡ wiped 0 l₀ from to
-    wiping-end h = sym (wiped-none 0 l i to h) ∙ w .same
-
-    pub wiping-past : length l ≤ i → l ≡ wiped 0 l₀ from to
-    wiping-past h = sym (wiped-past 0 l i to h) ∙ w .same

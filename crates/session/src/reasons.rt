@@ -83,8 +83,8 @@ pub(crate) fn tell(reasons: &mut [u32], rule: Rule, count: usize) -> u32
             reasons[count] = 0;
             0
         }
-        Rule::BacktrackForall { at } => {
-            wipe(reasons, at, count);
+        Rule::BacktrackForall { at: place } => {
+            wipe(reasons, place, count);
             0
         }
         Rule::Succeed => 0,
