@@ -35,12 +35,12 @@ afterStep d (Next s w) m = desk s m (d .steps + 1) w
 afterStep d (Not n) m = desk (d .latest) m (d .steps) (d .reason)
 
 -- the reason of the last of n steps is w; with none, it is the one before
-abbrev pub latest : ℕ → ℕ → ℕ → ℕ
-latest zero before w = before
-latest (suc n) before w = w
+abbrev pub lastReason : ℕ → ℕ → ℕ → ℕ
+lastReason zero before w = before
+lastReason (suc n) before w = w
 
 abbrev pub afterRun : Desk → Ran → Memory → Desk
-afterRun d (Until s n w) m = desk s m (d .steps + n) (latest n (d .reason) w)
+afterRun d (Until s n w) m = desk s m (d .steps + n) (lastReason n (d .reason) w)
 afterRun d (Stopped n) m = desk (d .latest) m (d .steps) (d .reason)
 
 -- the calls on a desk

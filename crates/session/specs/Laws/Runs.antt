@@ -23,7 +23,7 @@ use Rattle.rules.specs.Laws.Steps.{due-step, due-keeps}
 use Rattle.session.specs.Refusals.{over}
 use Rattle.session.specs.Reasons.{Why, why, told}
 use Rattle.session.specs.Run.{Trip, trip, whileOpen, advance, runFrom, whyFrom}
-use Rattle.session.specs.Calls.{latest}
+use Rattle.session.specs.Calls.{lastReason}
 use Rattle.session.specs.Laws.Accepted.{over-open}
 
 -- ---- what a run proposes passes rows 16 and 17: it is 0, or Decide is due and it is open
@@ -135,7 +135,7 @@ module _ (F : Formula) (preferred : List ℤ) where
   -- [run.reason] what was answered last before a run is of no matter to it, unless it makes no step
   pub why-latest : (n : ℕ) (t : Search) (ws : List ℕ) (r : ℕ) → let u = runFrom F preferred n t 0 in
       let w = whyFrom F preferred n t (why ws 0) in
-      whyFrom F preferred n t (why ws r) ≡ why (w .reasons) (latest (u .steps) r (w .last))
+      whyFrom F preferred n t (why ws r) ≡ why (w .reasons) (lastReason (u .steps) r (w .last))
   why-latest zero t ws r = rw (loop-last 0 t 0 (omega arith), why-none 0 t (why ws r) 0 (omega arith), why-none 0 t (why ws 0) 0 (omega arith))
   why-latest (suc n) t ws r = elim (look (over (t .state))) [
     | inl h ↦ rw (run-ended (suc n) t 0 h, why-ended (suc n) t (why ws r) h, why-ended (suc n) t (why ws 0) h)
