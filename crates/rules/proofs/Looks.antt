@@ -1,26 +1,19 @@
--- What one literal more does to the look at a clause, what the look says at the clause's end, and what a clause so seen makes due before those
--- after it: each by the literal's status.
+-- What one literal more does to the look at a clause, and what the look says at the clause's end: each by the literal's status.
 use Prim.Native.Nat.{ℕ, zero, suc, _+_, _≤_, _<_, min}
 use mathlib.Core.Path.{_≡_, refl, sym, _∙_}
-use mathlib.Core.Bool.{Bool, true, false, not, _&&_, _||_, cond}
+use mathlib.Core.Bool.{Bool, true, false, _||_, cond}
 use mathlib.Core.Logic.{_⊎_, inl, inr}
 use mathlib.Core.List.{List, [], _∷_}
-use native.Mathlib.Numerals.{add-one}
 use native.Mathlib.Omega.{arith}
-use lib.Dec.{eqb, ltb, leb}
+use lib.Dec.{ltb, leb}
 use lib.IntN.{ℤ, pos}
 use lib.ListN.{length, getD, drop}
-use borrow.Author.Tests.{lt-ltb, le-ltb, ltb-true, le-leb, lt-leb, leb-true, leb-false, ne-eqb}
-use Rattle.words.specs.Lists.{any}
+use borrow.Author.Tests.{lt-ltb, le-ltb, ltb-true, le-leb, lt-leb, leb-true, leb-false}
 use Rattle.words.specs.Laws.Bools.{look, and-l, and-r, or-fl, or-fr}
 use Rattle.words.specs.Laws.Lists.{next, ended}
-use Rattle.rules.specs.Due.{onFound, onPicked, lowest}
 use Rattle.rules.specs.Inner.Tables.{places}
-use Rattle.rules.specs.Inner.Clauses.{levelBy, byStatus, keepsBy, conflictBy, Sight, falls, forces, neither, forced, staysUnit, forcing, sightFrom, lowestUnitBy, decidingBy, decidedBy, sightAfter, sightWith, Shown, decidesBy, sightOf}
+use Rattle.rules.specs.Inner.Clauses.{levelBy, Sight, unit, neither, staysUnit, sightFrom, sightAfter, sightWith, Shown, decidesBy, sightOf}
 use Rattle.rules.specs.declared.clauses.Look.{Look}
-use Rattle.rules.specs.declared.found.Deciding.the-variants.{Conflict, Quiet}
-use Rattle.rules.specs.declared.found.Found.the-variants.{At}
-use Rattle.rules.specs.declared.found.UnitFound.the-variants.{On, NoUnit}
 
 -- none of the three lower ones
 above-two : (s : ℕ) → (s ≡ 0 → ⊥) → (s ≡ 1 → ⊥) → (s ≡ 2 → ⊥) → (n : ℕ) × (s ≡ suc (suc (suc n)))
@@ -40,7 +33,7 @@ module _ (st lev : ℤ → ℕ) (D : List ℤ) (place above : ℕ) (x : ℤ) (C 
   with-true true h = refl
   with-true false h = rw h (either (ltb place (length D)))
     where
-      either : (b : Bool) → neither ≡ cond b (cond false (forces (getD D place (pos 0))) neither) neither
+      either : (b : Bool) → neither ≡ cond b (cond false (unit (getD D place (pos 0))) neither) neither
       either true = refl
       either false = refl
 
@@ -113,44 +106,3 @@ module _ (st lev : ℤ → ℕ) (D : List ℤ) (j : ℕ) (k k′ : Look) {s : Si
 pub look-start : (st lev : ℤ → ℕ) (D : List ℤ) → sightAfter st lev D (length D) places false D ≡ sightFrom st lev places D
 unfolding sightAfter
 look-start st lev D = let l : length D ≤ length D = omega arith in rw (le-ltb (length D) (length D) l)
-
--- ---- a clause before others
-module _ (st lev : ℤ → ℕ) where
-  abbrev fell : Sight → Bool
-  fell falls = true
-  fell (forces l) = false
-  fell neither = false
-
-  -- the literals read for both say whether it is in conflict
-  conflict-seen : (above : ℕ) (C : List ℤ) → conflictBy st C ≡ fell (sightFrom st lev above C)
-  unfolding conflictBy keepsBy sightFrom any
-  conflict-seen above [] = refl
-  conflict-seen above (x ∷ C) = go (st x) _ _ (conflict-seen above C) (conflict-seen (min above (lev x)) C)
-    where
-      unfallen : (b : Bool) → false ≡ fell (cond b (forces x) neither)
-      unfallen true = refl
-      unfallen false = refl
-
-      go : (s : ℕ) (a b : Sight) → conflictBy st C ≡ fell a → conflictBy st C ≡ fell b → not ((eqb s 1 || eqb s 2) || any (keepsBy st) C) ≡ fell (byStatus s a neither (forcing st lev x above C) b)
-      go zero a b h k = h
-      go (suc zero) a b h k = refl
-      go (suc (suc zero)) a b h k = unfallen (staysUnit st lev x above C)
-      go (suc (suc (suc n))) a b h k = rw (ne-eqb (suc (suc (suc n))) 1 (λ z. omega arith), ne-eqb (suc (suc (suc n))) 2 (λ z. omega arith)) k
-
-  -- what a clause and those after it make due, from what the clause shows: the lowest conflict and the lowest unit clause of all
-  pub deciding-next : (c : ℕ) (C : List ℤ) (m : List (List ℤ)) (s : Sight) → sightFrom st lev places C ≡ s → decidedBy st c s m (decidingBy st lev (c + 1) m) ≡ decidingBy st lev c (C ∷ m)
-  unfolding decidingBy decidedBy lowest lowestUnitBy
-  deciding-next c C m s h = rw (conflict-seen places C, h) (go s)
-    where
-      go : (s : Sight) → decidedBy st c s m (decidingBy st lev (c + 1) m) ≡ onFound (cond (fell s) (At c) (lowest (conflictBy st) (suc c) m)) Conflict (Quiet (onPicked (forced s) (λ l. On l c) (lowestUnitBy st lev (suc c) m)))
-      go falls = refl
-      go (forces l) = rw add-one
-      go neither = rw add-one
-
-  pub deciding-past : (c : ℕ) (C : List ℤ) (m : List (List ℤ)) → sightFrom st lev places C ≡ neither → decidingBy st lev (c + 1) m ≡ decidingBy st lev c (C ∷ m)
-  unfolding decidedBy
-  deciding-past c C m h = deciding-next c C m neither h
-
-  pub deciding-none : (c : ℕ) → Quiet NoUnit ≡ decidingBy st lev c []
-  unfolding decidingBy lowest lowestUnitBy
-  deciding-none c = refl

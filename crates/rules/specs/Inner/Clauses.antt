@@ -47,14 +47,14 @@ conflictBy st C = not (any (keepsBy st) C)
 
 -- what a clause shows when all its literals are read: it is in conflict, a unit clause on l, or neither
 pub data Sight : Type 0 where
-  falls : Sight
-  forces : ℤ → Sight
+  conflict : Sight
+  unit : ℤ → Sight
   neither : Sight
 
-abbrev pub forced : Sight → Picked
-forced falls = NoLiteral
-forced (forces l) = Is (literal l)
-forced neither = NoLiteral
+abbrev pub unitLiteral : Sight → Picked
+unitLiteral conflict = NoLiteral
+unitLiteral (unit l) = Is (literal l)
+unitLiteral neither = NoLiteral
 
 -- what follows the search for both
 abbrev pub onDeciding : {A : Type 0} → Deciding → (ℕ → A) → (UnitFound → A) → A
@@ -64,8 +64,8 @@ onDeciding (Quiet u) f g = g u
 -- what clause number n, seen so, makes due before the clauses m after it: after a unit clause a conflict alone counts. `rest` is what they make due
 -- themselves
 unfoldable pub decidedBy : (ℤ → ℕ) → ℕ → Sight → List (List ℤ) → Deciding → Deciding
-decidedBy st n falls m rest = Conflict n
-decidedBy st n (forces l) m rest = onFound (lowest (conflictBy st) (n + 1) m) Conflict (Quiet (On (literal l) n))
+decidedBy st n conflict m rest = Conflict n
+decidedBy st n (unit l) m rest = onFound (lowest (conflictBy st) (n + 1) m) Conflict (Quiet (On (literal l) n))
 decidedBy st n neither m rest = rest
 
 -- by the literals' status and level. `above` is the lowest level of the unassigned universal literals so far, more than any level if there is
@@ -75,30 +75,20 @@ module _ (st lev : ℤ → ℕ) where
   -- existential, since a clause repeats no literal, and all universal ones are at a higher level than l
   unfoldable pub staysUnit : ℤ → ℕ → List ℤ → Bool
   staysUnit l above [] = ltb (lev l) above
-  staysUnit l above (x ∷ C) =
-      byStatus (st x)
-      (staysUnit l above C)
-      false
-      false
-      (staysUnit l (min above (lev x)) C)
+  staysUnit l above (x ∷ C) = byStatus (st x) (staysUnit l above C) false false (staysUnit l (min above (lev x)) C)
 
-  abbrev pub forcing : ℤ → ℕ → List ℤ → Sight
-  forcing l above C = cond (staysUnit l above C) (forces l) neither
+  abbrev pub unitIf : ℤ → ℕ → List ℤ → Sight
+  unitIf l above C = cond (staysUnit l above C) (unit l) neither
 
   -- what a clause shows that has no true and no unassigned existential literal so far
   unfoldable pub sightFrom : ℕ → List ℤ → Sight
-  sightFrom above [] = falls
-  sightFrom above (x ∷ C) =
-      byStatus (st x)
-      (sightFrom above C)
-      neither
-      (forcing x above C)
-      (sightFrom (min above (lev x)) C)
+  sightFrom above [] = conflict
+  sightFrom above (x ∷ C) = byStatus (st x) (sightFrom above C) neither (unitIf x above C) (sightFrom (min above (lev x)) C)
 
   -- the lowest unit clause and its literal, the first clause being number n
   unfoldable pub lowestUnitBy : ℕ → List (List ℤ) → UnitFound
   lowestUnitBy n [] = NoUnit
-  lowestUnitBy n (C ∷ m) = onPicked (forced (sightFrom places C)) (λ l. On l n) (lowestUnitBy (suc n) m)
+  lowestUnitBy n (C ∷ m) = onPicked (unitLiteral (sightFrom places C)) (λ l. On l n) (lowestUnitBy (suc n) m)
 
   -- the lowest clause in conflict, or with none the lowest unit clause
   unfoldable pub decidingBy : ℕ → List (List ℤ) → Deciding
@@ -107,7 +97,7 @@ module _ (st lev : ℤ → ℕ) where
   -- what the code's look at the clause D makes of the clause's rest
   unfoldable pub sightAfter : List ℤ → ℕ → ℕ → Bool → List ℤ → Sight
   sightAfter D place above true C = neither
-  sightAfter D place above false C = cond (ltb place (length D)) (forcing (getD D place (pos 0)) above C) (sightFrom above C)
+  sightAfter D place above false C = cond (ltb place (length D)) (unitIf (getD D place (pos 0)) above C) (sightFrom above C)
 
   abbrev pub sightWith : List ℤ → Look → List ℤ → Sight
   sightWith D k C = sightAfter D (k .place) (k .above) (k .over) C
@@ -122,4 +112,4 @@ decidesBy levels D j k = leb (length D) j && (leb (length D) (k .place) || ltb (
 
 -- and then it is in conflict, or a unit clause on that literal
 abbrev pub sightOf : List ℤ → Look → Sight
-sightOf D k = cond (ltb (k .place) (length D)) (forces (getD D (k .place) (pos 0))) falls
+sightOf D k = cond (ltb (k .place) (length D)) (unit (getD D (k .place) (pos 0))) conflict
