@@ -7,6 +7,7 @@ pub mod Levels
 pub mod First
 pub mod Walk
 pub mod Looks
+pub mod Deciding
 -- the buffers, and row 12
 pub mod Places
 pub mod Row12
