@@ -1,5 +1,5 @@
 -- Tables by literal: what each place of a table says. A literal's place is formula's.
-use Prim.Native.Nat.{ℕ, _≤_, _<_}
+use Prim.Native.Nat.{ℕ, _+_, _≤_, _<_}
 use mathlib.Core.Bool.{Bool, cond}
 use mathlib.Core.Path.{_≡_}
 use mathlib.Core.List.{List, _∷_}
@@ -7,6 +7,7 @@ use lib.Dec.{eqb}
 use lib.IntN.{ℤ, natAbs}
 use lib.ListN.{length, getD}
 use Rattle.words.specs.Words.{mem}
+use Rattle.formula.specs.Limits.{maxVariables}
 use Rattle.formula.specs.Inner.Places.{literalPlaces, placeOf, wordAt}
 use Rattle.theory.specs.Record.{Assignment}
 use Rattle.theory.specs.Tests.{occurs, untrueOf}
@@ -46,6 +47,18 @@ statusIn statuses x = getD statuses (placeOf x) 0
 abbrev pub trueBy : (ℤ → ℕ) → ℤ → Bool
 trueBy st x = eqb (st x) 1
 
--- the two say the same of the literals of the variables 1 to n
-abbrev pub Statuses : ℕ → List ℕ → List ℕ → List ℕ → Type 0
-Statuses n values quantifiers statuses = (x : ℤ) → 0 < natAbs x → natAbs x ≤ n → statusIn statuses x ≡ statusBy values quantifiers x
+-- a table that says nothing, and one that says nothing of the literals of other variables than 1 to n
+pub record Blank (t : List ℕ) : Type 0 where
+  pub long : length t ≡ literalPlaces
+  pub none : (at : ℕ) → getD t at 0 ≡ 0
+
+pub record BlankBeyond (n : ℕ) (t : List ℕ) : Type 0 where
+  pub long : length t ≡ literalPlaces
+  pub low : (at : ℕ) → at + n < maxVariables → getD t at 0 ≡ 0
+  pub high : (at : ℕ) → maxVariables + n < at → getD t at 0 ≡ 0
+  pub middle : getD t maxVariables 0 ≡ 0
+
+-- the statuses of the variables 1 to n are written on a blank table
+pub record Statuses (n : ℕ) (values quantifiers statuses : List ℕ) : Type 0 where
+  pub said : (x : ℤ) → 0 < natAbs x → natAbs x ≤ n → statusIn statuses x ≡ statusBy values quantifiers x
+  pub beyond : BlankBeyond n statuses

@@ -31,7 +31,7 @@ use Rattle.rules.specs.Due.{onFound, lowest, lowestUnit}
 use Rattle.rules.specs.Inner.Clauses.{Placed, Clauses, levelBy, conflictBy, onDeciding, lowestUnitBy, decidingBy}
 use Rattle.rules.specs.Inner.ByLiteral.{statusBy, statusIn, trueBy, Statuses}
 use Rattle.rules.specs.Inner.Tabled.{Consistent, Sorted, as-false, as-true, as-existential, as-universal, Sorts}
-use Rattle.rules.specs.Laws.VariablesMean.{quantifier-in}
+use Rattle.rules.specs.Laws.VariablesMean.{quantifier-in, level-at}
 use Rattle.rules.specs.Laws.ClausesMean.{Meant, untrue-means, lowest-conflict-means, lowest-unit-means}
 use Rattle.rules.specs.declared.found.Deciding.{Deciding}
 use Rattle.rules.specs.declared.found.Deciding.the-variants.{Conflict, Quiet}
@@ -66,7 +66,7 @@ module _ (p : List ℤ) (b : Bound p) (ρ : Assignment) (values quantifiers : Li
   sorts statuses said x n = go (look (ρ x)) (look (ρ (negℤ x))) (look (existential p x))
     where
       is : statusIn statuses x ≡ cond (ρ x) 1 (cond (ρ (negℤ x)) 0 (cond (universal p x) 3 2))
-      is = said x (n .some) (n .most) ∙ status-is x (n .some)
+      is = said .said x (n .some) (n .most) ∙ status-is x (n .some)
 
       other : universal p x ≡ not (existential p x)
       other = quantifier (length p) p (b .binds .named) (b .binds .once) refl x n
@@ -121,7 +121,7 @@ module _ (p es ls : List ℤ) (ready : Ready p es ls) where
         meant : (x : ℤ) → In x ls → Meant p ρ (statusIn statuses) (levelBy levels) x
         meant x i = let n = literal-named i in record {
           sorted = sorting x n;
-          at = lvls (natAbs x) (all-bound (length p) p (ready .prefix .binds .named) (ready .prefix .binds .once) refl (natAbs x) (n .some) (n .most));
+          at = level-at p levels lvls (natAbs x) (all-bound (length p) p (ready .prefix .binds .named) (ready .prefix .binds .once) refl (natAbs x) (n .some) (n .most));
           low = omega (arith, level-few p (natAbs x), ready .prefix .room, variables-are);
         }
 
