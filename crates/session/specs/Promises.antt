@@ -4,7 +4,7 @@ use mathlib.Core.Path.{_≡_, ap}
 use mathlib.Core.List.{List}
 use Prim.Native.Nat.{ℕ}
 use lib.IntN.{ℤ}
-use Rattle.words.specs.Outcomes.{only-one, outcome, Same, same}
+use Rattle.words.specs.Outcomes.{Outcome, only-one, outcome, Same, same}
 use Rattle.words.specs.declared.Literal.{Literal}
 use Rattle.formula.specs.Formula.{formulaOf}
 use Rattle.rules.specs.declared.rule.State.{State}
@@ -59,14 +59,18 @@ only-state-of n = only-one
 abbrev pub OpenRefusalPromise : List ℤ → Memory → ℕ → Type 0
 OpenRefusalPromise b m r = r ≡ openRefusal limits b m
 
-abbrev pub SearchPromise : List ℤ → Trail → ℕ → ℕ → List ℤ → Searched → Trail → Type 0
-SearchPromise b t n budget preferred r t′ = trip (reached (r .reached) t′) (r .steps) ≡ runFrom (formulaOf b) preferred budget (search t n Open) 0
+-- s is the table that is lent blank: it is left as it was
+abbrev pub SearchPromise : List ℤ → Trail → ℕ → ℕ → List ℤ → List ℕ → Searched → Trail → List ℕ → Type 0
+SearchPromise b t n budget preferred s r t′ s′ = outcome (trip (reached (r .reached) t′) (r .steps)) s′ ≡ outcome (runFrom (formulaOf b) preferred budget (search t n Open) 0) s
 
 pub only-open-refusal : {r r′ : ℕ} (b : List ℤ) (m : Memory) → OpenRefusalPromise b m r → OpenRefusalPromise b m r′ → r ≡ r′
 only-open-refusal b m = only-one
 
-pub only-search : {r r′ : Searched} {t′ t″ : Trail} (b : List ℤ) (t : Trail) (n budget : ℕ) (preferred : List ℤ)
-    → SearchPromise b t n budget preferred r t′ → SearchPromise b t n budget preferred r′ t″ → (r ≡ r′) × (t′ ≡ t″)
-only-search b t n budget preferred p q =
+pub only-search : {r r′ : Searched} {t′ t″ : Trail} {s′ s″ : List ℕ} (b : List ℤ) (t : Trail) (n budget : ℕ) (preferred : List ℤ) (s : List ℕ)
+    → SearchPromise b t n budget preferred s r t′ s′ → SearchPromise b t n budget preferred s r′ t″ s″ → Same r r′ (outcome t′ s′) (outcome t″ s″)
+only-search b t n budget preferred s p q =
     let e = only-one p q in
-    (ap (λ (u : Trip). record { reached = record { count = u .reached .count; state = u .reached .state }; steps = u .steps }) e, ap (λ (u : Trip). u .reached .trail) e)
+    record {
+      answer = ap (λ (o : Outcome (List ℕ) Trip). let u = o .answer in record { reached = record { count = u .reached .count; state = u .reached .state }; steps = u .steps }) e;
+      memory = ap (λ (o : Outcome (List ℕ) Trip). outcome (o .answer .reached .trail) (o .memory)) e;
+    }

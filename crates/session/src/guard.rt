@@ -7,12 +7,14 @@ ghost use Rattle.theory.specs.Record.{among};
 ghost use Rattle.session.specs.Memory.{memory};
 ghost use Rattle.rules.specs.Preferred.{decides};
 ghost use Rattle.rules.specs.Inner.Ready.{HeldOn};
+ghost use Rattle.rules.specs.Inner.Tables.{Levels};
 ghost use Rattle.session.specs.Refusals.{short, over};
 ghost use Rattle.session.specs.Promises.{OpenRefusalPromise};
 ghost use Rattle.session.specs.Inner.Guards.{sessionRefusal, proposalRefusal};
 use crate::Revision;
 use crate::Session;
 use formula::Checked;
+use rules::PLACES;
 use rules::Rule;
 use rules::State;
 use words::Literal;
@@ -103,8 +105,10 @@ pub(crate) fn proposal_refusal(
     count: usize,
     rule: Rule,
     proposal: Literal,
+    levels: &[u16; PLACES],
 ) -> u32
     requires { ⌜ HeldOn (now block) (now lits) count ⌝ }
+    requires { ⌜ Levels (prefixOf (now block)) (now levels) ⌝ }
     ensures { λ r. ⌜ r ≡ proposalRefusal (prefixOf (now (block .entry))) (among (take count (now (lits .entry)))) rule proposal ⌝ }
 {
     if words::size(proposal.0) == 0 {
@@ -113,7 +117,7 @@ pub(crate) fn proposal_refusal(
     if !is_decide(rule) {
         return 16;
     }
-    if !rules::is_open(block, lits, count, proposal) {
+    if !rules::is_open(block, lits, count, proposal, levels) {
         return 17;
     }
     0

@@ -2,7 +2,8 @@
 use mathlib.Core.Path.{_≡_, sym, _∙_}
 use denote.Ref.{now}
 use borrow.Author.Needs.{needs}
-use Rattle.theory.specs.Record.{Record, trueIn}
+use Rattle.words.specs.Outcomes.{both-same}
+use Rattle.theory.specs.Record.{Record}
 use Rattle.rules.specs.Trail.{trail, recordOf}
 use Rattle.rules.specs.Inner.Ready.{Bound}
 use Rattle.rules.specs.Inner.Tabled.{Tabled}
@@ -51,7 +52,7 @@ returns c =
     let filled = by .before .before .before in
     let tabled = filled .before .before .before .before in
     let sorting = sorts _ (bound (cut tabled)) _ _ (tabled .values-of2 .result) (told tabled .values) (quantifiers-of _ (tabled .values-of2 .result) (tabled .values-of2 .ensures)) (told tabled .consistent) _ (filled .fill .ensures) in
-    rw (by .due-by .ensures _ (told tabled) (rw (← cut tabled .prefix .ensures) sorting), same-blank (c .wipe .ensures) (start (cut tabled) .pre .1 .blank))
+    both-same (by .due-by .ensures _ (told tabled) (rw (← cut tabled .prefix .ensures) sorting)) (same-blank (c .wipe .ensures) (start (cut tabled) .pre .1 .blank))
 
 pub due-spec : {M : Type 1} → statement M
 due-spec =
