@@ -1,5 +1,5 @@
 -- What the clauses make due picks the case; the parts are those of an accepted block, and the tables those of a checked record.
-use mathlib.Core.Path.{_≡_, sym, _∙_, ap}
+use mathlib.Core.Path.{_≡_, refl, sym, _∙_, ap}
 use denote.Ref.{now}
 use Rattle.formula.specs.Formula.{Formula, formulaOf}
 use Rattle.theory.specs.Record.{Record, trueIn}
@@ -12,6 +12,7 @@ use Rattle.rules.specs.Inner.Tabled.{Tabled, Sorts}
 use Rattle.rules.specs.Laws.Records.{kept-room}
 use Rattle.rules.specs.Laws.ClausesReady.{ready-clauses, deciding-ready, sorts}
 use Rattle.rules.specs.Laws.Accepted.{kept-written, kept-tabled, accepted-ready, formula-is}
+use Rattle.rules.specs.declared.rule.Rule.{Rule}
 use Rattle.rules.specs.declared.rule.Rule.the-variants.{Unit}
 use Rattle.rules.specs.declared.found.Deciding.{Deciding}
 use Rattle.rules.specs.declared.found.Deciding.the-variants.{Quiet}
@@ -59,10 +60,10 @@ module _ (c : tie.After-levels-of) where
   abbrev whole·of : Formula
   whole·of = formula (now (parted .before .before .prefix .result)) (now (parted .before .ends .result)) (now (parted .literals .result))
 
-  search-is : {d : Deciding} → d ≡ decidingBy (statusIn (c .before .statuses-of .result)) (levelBy (c .levels-of .result)) 0 (whole·of .clauses)
-      → onDeciding d (dueConflict (record·of (c .before))) (λ u. onUnit u (λ l n. Unit l n) (dueMonotone whole·of (record·of (c .before)))) ≡ due (formulaOf (start parted .args .block .now)) (record·of (c .before))
+  search-is : {d d′ : Deciding} {r : Rule} → d ≡ decidingBy (statusIn (c .before .statuses-of .result)) (levelBy (c .levels-of .result)) 0 (whole·of .clauses) → d ≡ d′
+      → r ≡ onDeciding d′ (dueConflict (record·of (c .before))) (λ u. onUnit u (λ l n. Unit l n) (dueMonotone whole·of (record·of (c .before)))) → r ≡ due (formulaOf (start parted .args .block .now)) (record·of (c .before))
   unfolding due
-  search-is e = rw (whole parted) (deciding-ready _ _ _ (parts parted) _ (c .before .statuses-of .result) (sorting (c .before)) (c .levels-of .result) (c .levels-of .ensures) e _ _)
+  search-is e q h = h ∙ rw (whole parted) (deciding-ready _ _ _ (parts parted) _ (c .before .statuses-of .result) (sorting (c .before)) (c .levels-of .result) (c .levels-of .ensures) (sym q ∙ e) _ _)
 
 due-conflict-requires : tie.Need-due-conflict-requires
 due-conflict-requires c κs = kept-room (start (parted (c .before .before .before .before .before .before)) .pre .kept) .kinds
@@ -75,19 +76,18 @@ due-monotone-requires c κs =
 returns : tie.Need-returns
 returns c =
     let found = c .before .before .before .before in
-    c .due-conflict .ensures _ _ (told (found .before .before .before .before))
-    ∙ search-is (found .before .before .before) (sym (c .before .before .clause .given .1) ∙ found .deciding .ensures)
+    search-is (found .before .before .before) (found .deciding .ensures) (c .before .before .clause .given .1) (c .due-conflict .ensures _ _ (told (found .before .before .before .before)))
 
 returns-2 : tie.Need-returns-2
 returns-2 c =
     let found = c .before .before .before .before .before .before in
-    search-is (found .before .before .before) (sym (c .before .before .before .before .unit .given .1 ∙ ap Quiet (c .before .unit2 .given .1)) ∙ found .deciding .ensures)
+    search-is (found .before .before .before) (found .deciding .ensures) (c .before .before .before .before .unit .given .1 ∙ ap Quiet (c .before .unit2 .given .1)) refl
 
 returns-3 : tie.Need-returns-3
 returns-3 c =
     let found = c .before .before .before .before .before .before .before .before in
-    c .due-monotone .ensures _ (told (found .before .before .before .before)) (sorting (found .before .before .before .before))
-    ∙ search-is (found .before .before .before) (sym (c .before .before .before .before .before .before .unit .given .1 ∙ ap Quiet (c .before .before .before .enum-told .given .1)) ∙ found .deciding .ensures)
+    search-is (found .before .before .before) (found .deciding .ensures) (c .before .before .before .before .before .before .unit .given .1 ∙ ap Quiet (c .before .before .before .enum-told .given .1))
+    (c .due-monotone .ensures _ (told (found .before .before .before .before)) (sorting (found .before .before .before .before)))
 
 pub due-spec : {M : Type 1} → statement M
 due-spec =
