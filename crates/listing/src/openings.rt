@@ -12,6 +12,10 @@ ghost use Rattle.rules.specs.Search.{search, reached};
 ghost use Rattle.rules.specs.declared.rule.State.the-variants.{Open};
 ghost use Rattle.listing.specs.Opening.{valueAt, valuesOf, openingStart, openingSearch};
 ghost use Rattle.listing.specs.Inner.Pages.{OnGroup, WritableAt, Writable};
+ghost use Rattle.words.specs.Outcomes.{outcome};
+ghost use Rattle.rules.specs.Inner.Ready.{LentTables};
+use formula::LITERAL_PLACES;
+use rules::PLACES;
 use rules::Reached;
 
 // The size of the first group.

@@ -1,7 +1,7 @@
 -- The lowest conflict and the lowest unit clause of all, from what one clause shows and the clauses after it: one that is neither is passed
 -- over, one in conflict is the lowest, and after a unit clause only a conflict still counts.
 use Prim.Native.Nat.{ℕ, zero, suc, _+_, min}
-use mathlib.Core.Path.{_≡_, refl, ap}
+use mathlib.Core.Path.{_≡_, refl, _∙_, ap}
 use mathlib.Core.Bool.{Bool, true, false, not, _||_, cond}
 use mathlib.Core.List.{List, [], _∷_}
 use native.Mathlib.Numerals.{add-one}
@@ -13,6 +13,7 @@ use Rattle.words.specs.Lists.{any}
 use Rattle.rules.specs.Due.{onFound, onPicked, literal, lowest}
 use Rattle.rules.specs.Inner.Tables.{places}
 use Rattle.rules.specs.Inner.Clauses.{byStatus, keepsBy, conflictBy, Sight, conflict, unit, neither, unitLiteral, staysUnit, unitIf, sightFrom, lowestUnitBy, decidingBy, decidedBy}
+use Rattle.rules.specs.declared.found.Deciding.{Deciding}
 use Rattle.rules.specs.declared.found.Deciding.the-variants.{Conflict, Quiet}
 use Rattle.rules.specs.declared.found.Found.the-variants.{At}
 use Rattle.rules.specs.declared.found.UnitFound.the-variants.{On, NoUnit}
@@ -40,9 +41,9 @@ module _ (st lev : ℤ → ℕ) where
       go (suc (suc (suc n))) a b h k = rw (ne-eqb (suc (suc (suc n))) 1 (λ z. omega arith), ne-eqb (suc (suc (suc n))) 2 (λ z. omega arith)) k
 
   -- what a clause and those after it make due, from what the clause shows: the lowest conflict and the lowest unit clause of all
-  pub deciding-next : (c : ℕ) (C : List ℤ) (m : List (List ℤ)) (s : Sight) → sightFrom st lev places C ≡ s → decidedBy st c s m (decidingBy st lev (c + 1) m) ≡ decidingBy st lev c (C ∷ m)
+  pub deciding-next : (c : ℕ) (C : List ℤ) (m : List (List ℤ)) {s : Sight} {r : Deciding} → sightFrom st lev places C ≡ s → r ≡ decidedBy st c s m (decidingBy st lev (c + 1) m) → r ≡ decidingBy st lev c (C ∷ m)
   unfolding decidingBy decidedBy lowest lowestUnitBy
-  deciding-next c C m s h = rw (conflict-seen places C, h) (go s)
+  deciding-next c C m {s = s} h e = e ∙ rw (conflict-seen places C, h) (go s)
     where
       go : (s : Sight) → decidedBy st c s m (decidingBy st lev (c + 1) m) ≡ onFound (cond (isConflict s) (At c) (lowest (conflictBy st) (suc c) m)) Conflict (Quiet (onPicked (unitLiteral s) (λ l. On l c) (lowestUnitBy st lev (suc c) m)))
       go conflict = refl
@@ -51,7 +52,7 @@ module _ (st lev : ℤ → ℕ) where
 
   pub deciding-past : (c : ℕ) (C : List ℤ) (m : List (List ℤ)) → sightFrom st lev places C ≡ neither → decidingBy st lev (c + 1) m ≡ decidingBy st lev c (C ∷ m)
   unfolding decidedBy
-  deciding-past c C m h = deciding-next c C m neither h
+  deciding-past c C m h = deciding-next c C m h refl
 
   pub deciding-none : (c : ℕ) → Quiet NoUnit ≡ decidingBy st lev c []
   unfolding decidingBy lowest lowestUnitBy

@@ -1,6 +1,6 @@
 -- Laws for the proofs of the functions.
 
--- the tables; a loop that looks for the first; the walk over the clauses, and the look at one
+-- the tables; a loop that looks for the first; the walk over the clauses, the look at one, and what it makes due
 pub mod Filled
 pub mod Sorted
 pub mod Occurring

@@ -1,7 +1,7 @@
 -- What one literal more does to the look at a clause, and what the look says at the clause's end: each by the literal's status.
 use Prim.Native.Nat.{ℕ, zero, suc, _+_, _≤_, _<_, min}
 use mathlib.Core.Path.{_≡_, refl, sym, _∙_}
-use mathlib.Core.Bool.{Bool, true, false, _||_, cond}
+use mathlib.Core.Bool.{Bool, true, false, _&&_, _||_, cond}
 use mathlib.Core.Logic.{_⊎_, inl, inr}
 use mathlib.Core.List.{List, [], _∷_}
 use native.Mathlib.Omega.{arith}
@@ -84,13 +84,16 @@ module _ (st : ℤ → ℕ) (levels : List ℕ) (D : List ℤ) (j : ℕ) (k : Lo
     at-end : length D ≤ j → last ≡ s
     at-end l = rw (ended D j l, o) at e
 
-    pub clause-decides : decidesBy levels D j k ≡ true → sightOf D k ≡ s
-    unfolding decidesBy
-    clause-decides h = decided (and-r (leb (length D) j) (bare || below) h) ∙ at-end (leb-true (length D) j (and-l (leb (length D) j) (bare || below) h))
+    module _ {b : Bool} (is : b ≡ decidesBy levels D j k) where
+      pub clause-decides : b ≡ true → s ≡ sightOf D k
+      unfolding decidesBy
+      clause-decides t =
+          let h : (leb (length D) j && (bare || below)) ≡ true = sym is ∙ t in
+          sym (decided (and-r (leb (length D) j) (bare || below) h) ∙ at-end (leb-true (length D) j (and-l (leb (length D) j) (bare || below) h)))
 
-    pub clause-neither : length D ≤ j → decidesBy levels D j k ≡ false → s ≡ neither
-    unfolding decidesBy
-    clause-neither l h = sym (at-end l) ∙ not-decided (rw (le-leb (length D) j l) at h)
+      pub clause-neither : length D ≤ j → b ≡ false → s ≡ neither
+      unfolding decidesBy
+      clause-neither l t = let h : (leb (length D) j && (bare || below)) ≡ false = sym is ∙ t in sym (at-end l) ∙ not-decided (rw (le-leb (length D) j l) at h)
 
 -- one literal more, and the look that it leaves
 module _ (st lev : ℤ → ℕ) (D : List ℤ) (j : ℕ) (k k′ : Look) {s : Sight} (h : j < length D)

@@ -60,15 +60,15 @@ module _ {A : Type 0} (f : ℕ → List (List ℤ) → A) (es ls : List ℤ) (wh
     pub walk-on : f (c + 1) (clausesFrom ls e (drop (c + 1) es)) ≡ f c (take (e - from) (drop from ls) ∷ clausesFrom ls e (drop (c + 1) es)) → Walk e (c + 1)
     walk-on h = record { ends = t .ends; same = h ∙ sym (ap (f c) (t .clauses)) ∙ w .same }
 
-    pub walk-stop : f c (take (e - from) (drop from ls) ∷ clausesFrom ls e (drop (c + 1) es)) ≡ whole
-    walk-stop = sym (ap (f c) (t .clauses)) ∙ w .same
+    pub walk-stop : {r : A} → r ≡ f c (take (e - from) (drop from ls) ∷ clausesFrom ls e (drop (c + 1) es)) → r ≡ whole
+    walk-stop h = h ∙ sym (ap (f c) (t .clauses)) ∙ w .same
 
   pub walk-end : (from c : ℕ) → length es ≤ c → Walk from c → f c [] ≡ whole
   walk-end from c h w = rw (clauses-ended ls from es c h) at (w .same)
 
 -- one clause more
 module _ {A : Type 0} (f : A → Bool) (c : ℕ) (x : A) (m : List A) where
-  pub lowest-hit : f x ≡ true → lowest f c (x ∷ m) ≡ At c
+  pub lowest-hit : f x ≡ true → At c ≡ lowest f c (x ∷ m)
   unfolding lowest
   lowest-hit h = rw h
 

@@ -48,12 +48,6 @@ module _ (c : tie.After-clause Inv-loop μ-loop Inv-search μ-search) where
   placed : Placed (take (c .before .size-at .result - c .before .before .before .search .from) (drop (c .before .before .before .search .from) (start .args .literals .now)))
   placed = placed-part (start .args .literals .now) (c .before .size-at .result - c .before .before .before .search .from) (c .before .before .before .search .from) (start .pre .placed)
 
-loop-holds : tie.Need-loop-holds Inv-loop μ-loop Inv-search μ-search
-loop-holds c = (refl, refl, look-start _ _ _)
-
-decides-requires : tie.Need-decides-requires Inv-loop μ-loop Inv-search μ-search
-decides-requires c κs = placed (c .before)
-
 decided-requires : tie.Need-decided-requires Inv-loop μ-loop Inv-search μ-search
 decided-requires c κs =
     let read = c .before .before .before .before in
@@ -61,12 +55,6 @@ decided-requires c κs =
 
 with-requires : tie.Need-with-requires Inv-loop μ-loop Inv-search μ-search
 with-requires c κs = (placed (c .before .before .before .before), c .if2 .left)
-
-add-j : tie.Need-add-j Inv-loop μ-loop Inv-search μ-search
-add-j c = search needs
-
-loop-less : tie.Need-loop-less Inv-loop μ-loop Inv-search μ-search
-loop-less c = omega (arith, c .before .before .if2 .left)
 
 loop-again : tie.Need-loop-again Inv-loop μ-loop Inv-search μ-search
 loop-again c =
@@ -87,7 +75,7 @@ search-again c =
       l .inv .0 ∙ s .inv .0,
       walk-on _ _ _ _ _ _ _ (s .inv .1) (this read) (deciding-past _ _ _ _ _
           (⊎-elim
-          (λ w. clause-neither _ _ _ (l .j) (l .look) (l .inv .1) (l .inv .2) (w .taken) (sym (c .before .before .decides .ensures) ∙ c .before .if1 .left))
+          (λ w. clause-neither _ _ _ (l .j) (l .look) (l .inv .1) (l .inv .2) (c .before .before .decides .ensures) (w .taken) (c .before .if1 .left))
           (λ w. clause-over _ _ _ (l .j) (l .look) _ (w .0 .left) (w .1 .ensures) (l .inv .2) (w .2 .taken))
           (c .if2 .came))),
     )
@@ -100,11 +88,13 @@ returns-2 c =
     let l = c .before .before .before .loop in
     let read = c .before .before .before .before .before in
     let s = read .before .before .search in
-    let k = clause-decides _ _ _ (l .j) (l .look) (l .inv .1) (l .inv .2) (sym (c .before .before .decides .ensures) ∙ c .before .if1 .taken) in
-    c .decided .ensures _ ∙ deciding-next _ _ _ _ _ _ (sym k) ∙ walk-stop _ _ _ _ _ _ _ (s .inv .1) (this read)
+    walk-stop _ _ _ _ _ _ _ (s .inv .1) (this read)
+    (deciding-next _ _ _ _ _ (clause-decides _ _ _ (l .j) (l .look) (l .inv .1) (l .inv .2) (c .before .before .decides .ensures) (c .before .if1 .taken)) (c .decided .ensures _))
 
 pub deciding-spec : {M : Type 1} → statement M
 deciding-spec =
     tie.close
     (tie.spec Inv-loop μ-loop Inv-search μ-search (λ c. (refl, record { ends = c .pre .ends; same = refl })) (λ c κs. search needs)
-    (λ c. let t = this c in omega arith) (λ c. this c .starts) (λ c. this c .starts) (λ c. this c .stops) loop-holds decides-requires decided-requires with-requires add-j loop-less loop-again add-c search-less search-again returns returns-2)
+    (λ c. let t = this c in omega arith) (λ c. this c .starts) (λ c. this c .starts) (λ c. this c .stops) (λ c. (refl, refl, look-start _ _ _))
+    (λ c κs. placed (c .before)) decided-requires with-requires (λ c. search needs) (λ c. omega (arith, c .before .before .if2 .left)) loop-again add-c
+    search-less search-again returns returns-2)

@@ -34,7 +34,7 @@ returns : tie.Need-returns Inv-loop μ-loop
 returns c =
     let t = this (c .before .before .before) in
     let l = c .before .before .before .before .before .loop in
-    sym (lowest-hit _ _ _ _ (sym (c .before .in-conflict .ensures) ∙ c .if1 .taken)) ∙ walk-stop _ _ _ _ _ _ _ (l .inv) t
+    walk-stop _ _ _ _ _ _ _ (l .inv) t (lowest-hit _ _ _ _ (sym (c .before .in-conflict .ensures) ∙ c .if1 .taken))
 
 loop-again : tie.Need-loop-again Inv-loop μ-loop
 loop-again c =

@@ -9,9 +9,6 @@ returns : tie.Need-returns
 unfolding decidedBy
 returns c rest = rw (le-ltb _ _ (c .if1 .taken))
 
-add-lowest-conflict : tie.Need-add-lowest-conflict
-add-lowest-conflict c = search needs
-
 lowest-conflict-requires : tie.Need-lowest-conflict-requires
 lowest-conflict-requires c κs = search needs
 
@@ -30,4 +27,4 @@ returns-3 c rest =
 pub decided-spec : {M : Type 1} → statement M
 decided-spec =
     tie.close
-    (tie.spec returns add-lowest-conflict lowest-conflict-requires (λ c. search needs) (λ c. search needs) (λ c κs. search needs) returns-2 returns-3)
+    (tie.spec returns (λ c. search needs) lowest-conflict-requires (λ c. search needs) (λ c. search needs) (λ c κs. search needs) returns-2 returns-3)
