@@ -45,17 +45,19 @@ loop-again c =
     let told = c .before .before .before .before in
     let tried = told .before .before .before .before .before in
     let room = tried .before .before .before .before .before in
-    let at = room .before .before in
-    (wins (at .loop .inv .0) (room .before .loop-test .taken) (room .if1 .left) (same-answer (tried .try-opening .ensures)) (told .enum-told2 .given .1) (c .before .before .write-entry .ensures),
-     rw (same-memory (tried .try-opening .ensures)) (at .loop .inv .1))
+    let at = room .before .before in (
+      wins (at .loop .inv .0) (room .before .loop-test .taken) (room .if1 .left) (same-answer (tried .try-opening .ensures)) (told .enum-told2 .given .1) (c .before .before .write-entry .ensures),
+      rw (same-memory (tried .try-opening .ensures)) (at .loop .inv .1),
+    )
 
 loop-again-2 : tie.Need-loop-again-2 Inv-loop μ-loop
 loop-again-2 c =
     let tried = c .before .before .before .before .before in
     let room = tried .before .before .before .before .before in
-    let at = room .before .before in
-    (loses (at .loop .inv .0) (room .before .loop-test .taken) (room .if1 .left) (same-answer (tried .try-opening .ensures)) (c .enum-told3 .given .1),
-     rw (same-memory (tried .try-opening .ensures)) (at .loop .inv .1))
+    let at = room .before .before in (
+      loses (at .loop .inv .0) (room .before .loop-test .taken) (room .if1 .left) (same-answer (tried .try-opening .ensures)) (c .enum-told3 .given .1),
+      rw (same-memory (tried .try-opening .ensures)) (at .loop .inv .1),
+    )
 
 returns-3 : tie.Need-returns-3 Inv-loop μ-loop
 returns-3 c =
