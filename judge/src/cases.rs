@@ -276,6 +276,8 @@ pub fn talks() -> Vec<Talk> {
         least_word(),
         largest_first_group(),
         first_group_too_large(),
+        largest_block(),
+        most_levels(),
         paused_after_entries(),
         repeated_on_short_buffers(),
     ]
@@ -335,6 +337,72 @@ fn with_first_group(k: i32) -> Vec<i32> {
     prefix.extend([-universal, copy]);
     let copied = [vec![-universal, copy], vec![universal, -copy]];
     lay_out(&prefix, &[vec![vec![k - 1, k]], copied.to_vec()].concat())
+}
+
+/// All counts at their limits: the clauses {1, 2}, {3, 4} and so on to {1023, 1024},
+/// eight times over. Monotone appends the odd variables, after which no clause
+/// counts; the even ones are decided, the last of them first and as false. Then
+/// Succeed.
+fn largest_block() -> Talk {
+    let mut talk = Talk::at("the largest block", &of_counts(1024, 4096, 8192), 2);
+    talk.say("open 0", "open 0 0 0 0");
+    talk.say("run 0 511", "run 0 511 511 0 511");
+    talk.say("step 511 1024", "step 16");
+    talk.say("step 511 0", "step 0 512 512 0");
+    talk.say("step 512 1025", "step 17");
+    talk.say("step 512 -1024", "step 0 513 513 0");
+    talk.say("step 513 1024", "step 17");
+    talk.say("run 513 4294967295", "run 0 1024 1025 1 512");
+    let odd = (1..1024).step_by(2);
+    let even = (2..1024).step_by(2);
+    let literals: Vec<i32> = odd.chain([-1024]).chain(even).collect();
+    let kinds = [[0; 512], [1; 512]].concat();
+    talk.say(
+        "show",
+        &shown("show 1024 1025 1", &literals, &kinds, " 7 7"),
+    );
+    talk.say("page 0 1", "page 19");
+    talk
+}
+
+/// As many levels as there can be, 0 to 1023: the odd variables are universal, and
+/// v has level v - 1. So {1023, 1024} is no unit, {-1023, 1022} is one, and so is
+/// {1024} after it. All others are decided then, in order, and 1023 is the first
+/// to be turned and 1021 the second.
+fn most_levels() -> Talk {
+    let prefix: Vec<i32> = (1..=1024)
+        .map(|v| if v % 2 == 1 { -v } else { v })
+        .collect();
+    let clauses = [vec![1023, 1024], vec![-1023, 1022], vec![1024]];
+    let mut talk = Talk::at(
+        "as many levels as there can be",
+        &lay_out(&prefix, &clauses),
+        0,
+    );
+    talk.say("open 0", "open 0 0 0 0");
+    talk.say("step 0 0", "step 0 1 1 0");
+    talk.say("step 1 0", "step 0 2 2 0");
+    talk.say("step 2 2", "step 17");
+    talk.say("run 2 1022", "run 0 1024 1024 0 1022");
+    let mut literals: Vec<i32> = [1022, 1024].into_iter().chain(1..=1021).collect();
+    literals.push(1023);
+    let decided = |literal: &i32| if literal % 2 == 1 { 2 } else { 1 };
+    let mut kinds: Vec<i32> = literals.iter().map(decided).collect();
+    kinds[..2].fill(0);
+    talk.say("show", &shown("show 1024 1024 0", &literals, &kinds, ""));
+    talk.say("step 1024 0", "step 0 1024 1025 0");
+    talk.say("step 1025 0", "step 0 1023 1026 0");
+    literals[1022..].copy_from_slice(&[-1021, 0]);
+    kinds[1022..].fill(0);
+    talk.say("show", &shown("show 1023 1026 0", &literals, &kinds, ""));
+    talk
+}
+
+/// What `show` answers.
+fn shown(session: &str, literals: &[i32], kinds: &[i32], output: &str) -> String {
+    let literals = line(" lits", literals);
+    let kinds = line(" kinds", kinds);
+    format!("{session}{literals}{kinds} out{output}")
 }
 
 /// G with two more variables: where 1 is true, the first choice for 5 leads to
