@@ -1,6 +1,6 @@
 -- A table filled by one pass says at every place what the words passed say: a store changes what is said at its own place only. The table of
 -- values.
-use mathlib.Core.Path.{_≡_, sym, _∙_, refl}
+use mathlib.Core.Path.{_≡_, sym, _∙_, refl, ap}
 use mathlib.Core.List.{List, [], _∷_, _++_}
 use Prim.Native.Nat.{ℕ, _+_, _≤_, _<_, zero, suc, _-_}
 use native.Mathlib.Decide.{ℕ-discrete}
@@ -8,7 +8,7 @@ use native.Mathlib.Omega.{arith}
 use lib.IntN.{ℤ, pos, natAbs, negsuc, negℤ}
 use lib.ListN.{length, getD, take, set, replicate, length-set, length-replicate}
 use lib.Seq.{getD-set-same, getD-set-other, take-length, getD-take, take-take, length-take-le}
-use Rattle.words.specs.Laws.Lists.{take-more, blank}
+use Rattle.words.specs.Laws.Lists.{take-more, any-append, blank}
 use Rattle.words.specs.Lists.{any}
 use Rattle.formula.specs.Limits.{limits}
 use Rattle.formula.specs.Laws.Limits.{variables-are}
@@ -17,7 +17,8 @@ use Rattle.formula.specs.Inner.Named.{Named}
 use Rattle.theory.specs.Record.{among}
 use Rattle.rules.specs.Inner.Ready.{Bound}
 use Rattle.rules.specs.Inner.Tables.{places, Known, Written, Values, Quantifiers, signOf, valueIn}
-use mathlib.Core.Bool.{true, false}
+use mathlib.Core.Bool.{true, false, _||_, or-false}
+use lib.Dec.{eqb}
 use Rattle.words.specs.Laws.Bools.{clash}
 use Rattle.words.specs.Words.{negative, eqZ, mem}
 use Rattle.words.specs.Laws.Words.{mem-here, mem-other, plus-other, minus-other}
@@ -29,6 +30,13 @@ use Rattle.rules.specs.Inner.ByLiteral.{statusOf, statusBy, statusIn, St
 -- a variable's number is a place of a table
 pub enough : limits .variables < places
 enough = omega (arith, variables-are)
+
+-- which variables one word more names
+pub named-more : (p : List ℤ) (i : ℕ) → i < length p → (v : ℕ) → any (names v) (take (i + 1) p) ≡ (any (names v) (take i p) || eqb v (natAbs (getD p i (pos 0))))
+unfolding any
+named-more p i h v =
+    rw (take-more p i (pos 0) h, any-append (names v) (take i p) (getD p i (pos 0) ∷ []))
+    (ap (λ b. any (names v) (take i p) || b) (or-false (eqb v (natAbs (getD p i (pos 0))))))
 
 -- one store, between what the table said before and what it says after
 pub stored : (t : List ℕ) (s a : ℕ) (f g : ℕ → ℕ) → s < length t → ((v : ℕ) → getD t v 0 ≡ f v) → a ≡ g s → ((v : ℕ) → (v ≡ s → ⊥) → g v ≡ f v) → (v : ℕ) → getD (set t s a) v 0 ≡ g v

@@ -13,12 +13,13 @@ use lib.Seq.{getD-set-same, getD-set-other, take-length}
 use borrow.Author.Tests.{eq-eqb, ne-eqb, eqb-false}
 use Rattle.words.specs.Laws.Bools.{clash, look, or-fl, or-fr}
 use Rattle.words.specs.Lists.{any}
-use Rattle.words.specs.Laws.Lists.{next, ended, take-more, any-append, blank}
+use Rattle.words.specs.Laws.Lists.{next, ended, blank}
 use Rattle.words.specs.Words.{negative}
 use Rattle.formula.specs.Formula.{change, levelOf}
 use Rattle.formula.specs.Block.{names}
 use Rattle.formula.specs.Laws.Prefix.{change-few}
 use Rattle.rules.specs.Inner.Tables.{places, levelAt, Levels}
+use Rattle.rules.proofs.Filled.{named-more}
 
 -- ---- the change after a word
 pub change-last : (q : ℤ) (p : List ℤ) (i : ℕ) → length p ≤ i + 1 → change q (drop (i + 1) p) ≡ 0
@@ -59,12 +60,6 @@ module _ (p : List ℤ) (t : List ℕ) (level i : ℕ) (l : Levelled p t level i
     word : ℤ
     word = getD p i (pos 0)
 
-    named-more : (v : ℕ) → any (names v) (take (i + 1) p) ≡ (any (names v) (take i p) || eqb v (natAbs word))
-    unfolding any word
-    named-more v =
-        rw (take-more p i (pos 0) h, any-append (names v) (take i p) (getD p i (pos 0) ∷ []))
-        (ap (λ b. any (names v) (take i p) || b) (or-false (eqb v (natAbs (getD p i (pos 0))))))
-
     level-here : (v : ℕ) → v ≡ natAbs word → levelOf (drop i p) v ≡ 0
     unfolding levelOf word
     level-here v e = rw (next p i (pos 0) h, eq-eqb (natAbs (getD p i (pos 0))) v (sym e))
@@ -85,19 +80,19 @@ module _ (p : List ℤ) (t : List ℕ) (level i : ℕ) (l : Levelled p t level i
               rw (e, getD-set-same t s level 0 (omega arith)) (omega arith)
           by (no k) =
               let z : eqb v (natAbs (getD p i (pos 0))) ≡ false = ne-eqb v _ (λ e. k (e ∙ sym is)) in
-              getD-set-other t s v level 0 k ∙ l .done v (rw (named-more v, z, or-false (any (names v) (take i p))) at m)
+              getD-set-other t s v level 0 k ∙ l .done v (rw (named-more p i h v, z, or-false (any (names v) (take i p))) at m)
 
       rest-more : (v : ℕ) → any (names v) (take (i + 1) p) ≡ false → getD (set t s level) v 0 ≡ 0
       unfolding word
       rest-more v m =
-          let both = rw (named-more v) at m in
+          let both = rw (named-more p i h v) at m in
           let other = eqb-false v (natAbs (getD p i (pos 0))) (or-fr (any (names v) (take i p)) (eqb v (natAbs (getD p i (pos 0)))) both) in
           getD-set-other t s v level 0 (λ e. other (e ∙ is)) ∙ l .rest v (or-fl (any (names v) (take i p)) (eqb v (natAbs (getD p i (pos 0)))) both)
 
       left-more : (v d : ℕ) → d ≡ change (getD p i (pos 0)) (drop (i + 1) p) → any (names v) (take (i + 1) p) ≡ false → level + d + levelOf (drop (i + 1) p) v ≡ levelOf p v
       unfolding word
       left-more v d e m =
-          let both = rw (named-more v) at m in
+          let both = rw (named-more p i h v) at m in
           let old = or-fl (any (names v) (take i p)) (eqb v (natAbs (getD p i (pos 0)))) both in
           let other = eqb-false v (natAbs (getD p i (pos 0))) (or-fr (any (names v) (take i p)) (eqb v (natAbs (getD p i (pos 0)))) both) in
           omega (arith, l .left v old, level-past v other)

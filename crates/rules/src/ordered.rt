@@ -46,8 +46,7 @@ pub fn due(
 {
     let prefix = formula::prefix(block);
     let values = tables::values_of(lits, count);
-    let quantifiers = tables::values_of(prefix, prefix.len());
-    by_literal::fill(prefix.len(), &values, &quantifiers, statuses);
+    by_literal::fill(prefix, &values, statuses);
     let rule = due_by(block, kinds, count, &values, statuses, levels);
     by_literal::wipe(prefix.len(), statuses);
     rule

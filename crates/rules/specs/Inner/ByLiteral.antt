@@ -1,12 +1,15 @@
 -- Tables by literal: what each place of a table says. A literal's place is formula's.
 use Prim.Native.Nat.{ℕ, _+_, _≤_, _<_}
-use mathlib.Core.Bool.{Bool, cond}
+use mathlib.Core.Bool.{Bool, true, cond}
 use mathlib.Core.Path.{_≡_}
 use mathlib.Core.List.{List, _∷_}
 use lib.Dec.{eqb}
 use lib.IntN.{ℤ, natAbs}
 use lib.ListN.{length, getD}
+use Rattle.words.specs.Lists.{any}
 use Rattle.words.specs.Words.{mem}
+use Rattle.formula.specs.Formula.{universal}
+use Rattle.formula.specs.Block.{names}
 use Rattle.formula.specs.Limits.{maxVariables}
 use Rattle.formula.specs.Inner.Places.{literalPlaces, placeOf, wordAt}
 use Rattle.theory.specs.Record.{Assignment}
@@ -35,9 +38,9 @@ pub record Counted (ρ : Assignment) (C : List ℤ) (t t′ : List ℕ) : Type 0
 abbrev pub statusOf : ℕ → ℕ → ℕ → ℕ
 statusOf value quantifier sign = cond (eqb value 0) (cond (eqb quantifier 2) 3 2) (cond (eqb value sign) 1 0)
 
--- by the tables of values and of quantifiers
-unfoldable pub statusBy : List ℕ → List ℕ → ℤ → ℕ
-statusBy values quantifiers x = statusOf (getD values (natAbs x) 0) (getD quantifiers (natAbs x) 0) (signOf x)
+-- by the table of values, and by the prefix
+unfoldable pub statusBy : List ℤ → List ℕ → ℤ → ℕ
+statusBy p values x = statusOf (getD values (natAbs x) 0) (cond (universal p x) 2 1) (signOf x)
 
 -- by a table of its own
 abbrev pub statusIn : List ℕ → ℤ → ℕ
@@ -58,7 +61,7 @@ pub record BlankBeyond (n : ℕ) (t : List ℕ) : Type 0 where
   pub high : (at : ℕ) → maxVariables + n < at → getD t at 0 ≡ 0
   pub middle : getD t maxVariables 0 ≡ 0
 
--- the statuses of the variables 1 to n are written on a blank table
-pub record Statuses (n : ℕ) (values quantifiers statuses : List ℕ) : Type 0 where
-  pub said : (x : ℤ) → 0 < natAbs x → natAbs x ≤ n → statusIn statuses x ≡ statusBy values quantifiers x
-  pub beyond : BlankBeyond n statuses
+-- the statuses of the prefix's variables are written on a blank table
+pub record Statuses (p : List ℤ) (values statuses : List ℕ) : Type 0 where
+  pub said : (x : ℤ) → natAbs x ≤ length p → any (names (natAbs x)) p ≡ true → statusIn statuses x ≡ statusBy p values x
+  pub beyond : BlankBeyond (length p) statuses

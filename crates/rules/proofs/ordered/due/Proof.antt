@@ -11,7 +11,6 @@ use Rattle.rules.specs.Laws.Records.{kept-room}
 use Rattle.rules.specs.Laws.Blanks.{same-blank}
 use Rattle.rules.specs.Laws.ClausesReady.{sorts}
 use Rattle.rules.specs.Laws.Accepted.{held-on, kept-tabled, accepted-bound}
-use Rattle.rules.proofs.Filled.{bound-written, quantifiers-of}
 use Rattle.rules.proofs.ordered.due.Statement.{statement}
 use Rattle.rules.proofs.ordered.due.Tie as tie
 
@@ -23,39 +22,39 @@ module _ (c : tie.After-prefix) where
   bound = rw (c .prefix .ensures) (accepted-bound _ (start .pre .0 .block))
 
 -- what the tables are told of the record
-module _ (c : tie.After-values-of2) where
+module _ (c : tie.After-values-of) where
   abbrev cut : tie.After-prefix
-  cut = c .before .before
+  cut = c .before
 
   abbrev record·of : Record
   record·of = recordOf (trail (start cut .args .lits .now) (start cut .args .kinds .now)) (start cut .args .count)
 
-  told : Tabled record·of (c .before .values-of .result) (start cut .args .kinds .now) (start cut .args .count)
-  told = kept-tabled _ _ _ (start cut .pre .0 .kept) _ (c .before .values-of .ensures)
+  told : Tabled record·of (c .values-of .result) (start cut .args .kinds .now) (start cut .args .count)
+  told = kept-tabled _ _ _ (start cut .pre .0 .kept) _ (c .values-of .ensures)
 
 fill-requires : tie.Need-fill-requires
-fill-requires c κs = let cut = c .before .before .before .before .before in (bound cut .room, start cut .pre .1 .blank)
+fill-requires c κs = let cut = c .before .before .before in (bound cut, start cut .pre .1 .blank)
 
 due-by-requires : tie.Need-due-by-requires
 due-by-requires c κs =
-    let s = start (cut (c .before .before .before .before .before .before)) in
+    let s = start (cut (c .before .before .before .before .before)) in
     (s .pre .0 .block, (s .pre .1 .told, kept-room (s .pre .0 .kept) .kinds))
 
 wipe-requires : tie.Need-wipe-requires
 wipe-requires c κs =
     let filled = c .before .before .before .before in
-    (bound (cut (filled .before .before .before .before)) .room, filled .fill .ensures .beyond)
+    (bound (cut (filled .before .before .before)) .room, filled .fill .ensures .beyond)
 
 returns : tie.Need-returns
 returns c =
     let by = c .before .before in
     let filled = by .before .before .before in
-    let tabled = filled .before .before .before .before in
-    let sorting = sorts _ (bound (cut tabled)) _ _ (tabled .values-of2 .result) (told tabled .values) (quantifiers-of _ (tabled .values-of2 .result) (tabled .values-of2 .ensures)) (told tabled .consistent) _ (filled .fill .ensures) in
+    let tabled = filled .before .before .before in
+    let sorting = sorts _ (bound (cut tabled)) _ _ (told tabled .values) (told tabled .consistent) _ (filled .fill .ensures) in
     both-same (by .due-by .ensures _ (told tabled) (rw (← cut tabled .prefix .ensures) sorting)) (same-blank (c .wipe .ensures) (start (cut tabled) .pre .1 .blank))
 
 pub due-spec : {M : Type 1} → statement M
 due-spec =
     tie.close
-    (tie.spec (λ c κs. search needs) (λ c κs. held-on _ _ _ (start c .pre .0) .written) (λ c κs. bound-written (bound (c .before)))
+    (tie.spec (λ c κs. search needs) (λ c κs. held-on _ _ _ (start c .pre .0) .written)
     fill-requires due-by-requires wipe-requires returns)
