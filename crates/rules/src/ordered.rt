@@ -3,6 +3,7 @@ use crate::buffers;
 use crate::by_literal;
 use crate::by_literal::LITERAL_PLACES;
 use crate::clauses;
+use crate::found::Deciding;
 use crate::found::Found;
 use crate::found::Picked;
 use crate::found::UnitFound;
@@ -16,7 +17,7 @@ ghost use mathlib.Core.List.{List};
 ghost use Prim.Native.Nat.{ℕ, _≤_};
 ghost use lib.ListN.{length};
 ghost use Rattle.theory.specs.Record.{Record, trueIn};
-ghost use Rattle.rules.specs.Due.{dueConflict, dueUnit, dueMonotone, dueDecide};
+ghost use Rattle.rules.specs.Due.{dueConflict, dueMonotone, dueDecide};
 ghost use Rattle.rules.specs.Trail.{trail};
 ghost use Rattle.rules.specs.Promises.{DuePromise};
 ghost use Rattle.rules.specs.Inner.Ready.{formula, Bound, Ready, OnBlock};
@@ -33,9 +34,18 @@ pub fn due(block: &[i32], lits: &[i32], kinds: &[u8], count: usize) -> Rule
     let values = tables::values_of(lits, count);
     let quantifiers = tables::values_of(prefix, prefix.len());
     let statuses = by_literal::statuses_of(prefix.len(), &values, &quantifiers);
-    match clauses::lowest_conflict(ends, literals, &statuses) {
-        Found::At(clause) => due_conflict(kinds, count, clause),
-        Found::Nothing => due_unit(prefix, ends, literals, kinds, count, &values, &statuses),
+    let levels = tables::levels_of(prefix);
+    match clauses::deciding(ends, literals, &statuses, &levels) {
+        Deciding::Conflict(clause) => due_conflict(kinds, count, clause),
+        Deciding::Quiet(unit) => match unit {
+            UnitFound::On { literal, clause } => Rule::Unit {
+                literal: literal,
+                clause: clause,
+            },
+            UnitFound::NoUnit => {
+                due_monotone(prefix, ends, literals, kinds, count, &values, &statuses)
+            }
+        },
     }
 }
 
@@ -50,30 +60,6 @@ fn due_conflict(kinds: &[u8], count: usize, clause: usize) -> Rule
             clause: clause,
         },
         Found::Nothing => Rule::Fail { clause: clause },
-    }
-}
-
-// With no clause in conflict: Unit, or what comes after it.
-fn due_unit(
-    prefix: &[i32],
-    ends: &[i32],
-    literals: &[i32],
-    kinds: &[u8],
-    count: usize,
-    values: &[u8; PLACES],
-    statuses: &[u8; LITERAL_PLACES],
-) -> Rule
-    requires { ⌜ Ready (now prefix) (now ends) (now literals) ⌝ }
-    requires { ⌜ count ≤ length (now kinds) ⌝ }
-    ensures { λ r. ⌜ ((R : Record) → Tabled R (now (values .entry)) (now (kinds .entry)) count → Sorts (now (prefix .entry)) (trueIn R) (now (statuses .entry)) → r ≡ dueUnit (formula (now (prefix .entry)) (now (ends .entry)) (now (literals .entry))) R) ⌝ }
-{
-    let levels = tables::levels_of(prefix);
-    match clauses::lowest_unit(ends, literals, statuses, &levels) {
-        UnitFound::On { literal, clause } => Rule::Unit {
-            literal: literal,
-            clause: clause,
-        },
-        UnitFound::NoUnit => due_monotone(prefix, ends, literals, kinds, count, values, statuses),
     }
 }
 

@@ -27,12 +27,17 @@ use Rattle.formula.specs.Laws.Prefix.{once-in, level-few}
 use Rattle.formula.specs.Laws.Permuted.{all-bound, quantifier}
 use Rattle.formula.specs.Laws.Clauses.{clauses-in}
 use Rattle.theory.specs.Record.{Assignment, among, assigned}
-use Rattle.rules.specs.Due.{lowest, lowestUnit}
-use Rattle.rules.specs.Inner.Clauses.{Placed, Clauses, levelBy, conflictBy, lowestUnitBy}
+use Rattle.rules.specs.Due.{onFound, lowest, lowestUnit}
+use Rattle.rules.specs.Inner.Clauses.{Placed, Clauses, levelBy, conflictBy, onDeciding, lowestUnitBy, decidingBy}
 use Rattle.rules.specs.Inner.ByLiteral.{statusBy, statusIn, trueBy, Statuses}
 use Rattle.rules.specs.Inner.Tabled.{Consistent, Sorted, as-false, as-true, as-existential, as-universal, Sorts}
 use Rattle.rules.specs.Laws.VariablesMean.{quantifier-in}
 use Rattle.rules.specs.Laws.ClausesMean.{Meant, untrue-means, lowest-conflict-means, lowest-unit-means}
+use Rattle.rules.specs.declared.found.Deciding.{Deciding}
+use Rattle.rules.specs.declared.found.Deciding.the-variants.{Conflict, Quiet}
+use Rattle.rules.specs.declared.found.Found.{Found}
+use Rattle.rules.specs.declared.found.Found.the-variants.{At, Nothing}
+use Rattle.rules.specs.declared.found.UnitFound.{UnitFound}
 
 module _ (p : List ℤ) (b : Bound p) (ρ : Assignment) (values quantifiers : List ℕ) (vals : Values ρ values) (quants : Quantifiers p quantifiers) (con : Consistent ρ) where
   -- a literal is true, or false by its opposite, or unassigned and of its variable's quantifier
@@ -86,7 +91,7 @@ module _ (p es ls : List ℤ) (ready : Ready p es ls) where
   literal-named : {x : ℤ} → In x ls → Named (length p) x
   literal-named i = in-named (length p) ls (ready .named) i
 
-  pub ready-clauses : Clauses es ls
+  pub ready-clauses : Clauses es ls 0
   ready-clauses = record { ends = ready .ends; placed = placed }
     where
       room : length p ≤ limits .variables
@@ -101,7 +106,7 @@ module _ (p es ls : List ℤ) (ready : Ready p es ls) where
 
   module _ (ρ : Assignment) (statuses : List ℕ) (sorting : Sorts p ρ statuses) where
     -- 1: the lowest clause in conflict
-    pub conflict-ready : lowest (conflictBy (statusIn statuses)) 0 (clausesFrom ls 0 es) ≡ lowest (inConflict p ρ) 0 (clausesFrom ls 0 es)
+    conflict-ready : lowest (conflictBy (statusIn statuses)) 0 (clausesFrom ls 0 es) ≡ lowest (inConflict p ρ) 0 (clausesFrom ls 0 es)
     conflict-ready = lowest-conflict-means p ρ _ _ (λ C i x j. sorting x (literal-named (clauses-in ls 0 es i j)))
 
     -- the clauses with no true literal
@@ -109,7 +114,7 @@ module _ (p es ls : List ℤ) (ready : Ready p es ls) where
     untrue-ready = untrue-means p ρ _ _ (λ C i x j. sorting x (literal-named (clauses-in ls 0 es i j)))
 
     -- 2: the lowest unit clause
-    pub unit-ready : (levels : List ℕ) → Levels p levels → lowestUnitBy (statusIn statuses) (levelBy levels) 0 (clausesFrom ls 0 es) ≡ lowestUnit p ρ (clausesFrom ls 0 es)
+    unit-ready : (levels : List ℕ) → Levels p levels → lowestUnitBy (statusIn statuses) (levelBy levels) 0 (clausesFrom ls 0 es) ≡ lowestUnit p ρ (clausesFrom ls 0 es)
     unfolding level
     unit-ready levels lvls = lowest-unit-means p ρ _ _ _ (ready .single) (λ C i x j. meant x (clauses-in ls 0 es i j))
       where
@@ -119,3 +124,13 @@ module _ (p es ls : List ℤ) (ready : Ready p es ls) where
           at = lvls (natAbs x) (all-bound (length p) p (ready .prefix .named) (ready .prefix .once) refl (natAbs x) (n .some) (n .most));
           low = omega (arith, level-few p (natAbs x), ready .prefix .room, variables-are);
         }
+
+    -- and what the search for both finds: by the rules' order, conflict first
+    pub deciding-ready : (levels : List ℕ) → Levels p levels → {d : Deciding} → d ≡ decidingBy (statusIn statuses) (levelBy levels) 0 (clausesFrom ls 0 es) → {A : Type 0} (f : ℕ → A) (g : UnitFound → A)
+        → onDeciding d f g ≡ onFound (lowest (inConflict p ρ) 0 (clausesFrom ls 0 es)) f (g (lowestUnit p ρ (clausesFrom ls 0 es)))
+    unfolding decidingBy
+    deciding-ready levels lvls e f g = rw (e, conflict-ready, unit-ready levels lvls) (by (lowest (inConflict p ρ) 0 (clausesFrom ls 0 es)) (lowestUnit p ρ (clausesFrom ls 0 es)))
+      where
+        by : (o : Found) (u : UnitFound) → onDeciding (onFound o Conflict (Quiet u)) f g ≡ onFound o f (g u)
+        by (At c) u = refl
+        by Nothing u = refl
