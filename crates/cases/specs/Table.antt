@@ -175,7 +175,7 @@ caseL-calls = record {
 -- [case.m] the counts of a block with nothing after its header, and the refusal
 unfoldable pub caseM : ℕ → ℕ → ℕ → ℕ → Case
 caseM v c t n = record {
-  block = pos v ∷ pos c ∷ pos t ∷ pos 6 ∷ pos 262 ∷ pos 1286 ∷ [];
+  block = pos v ∷ pos c ∷ pos t ∷ pos 6 ∷ pos 1030 ∷ pos 5126 ∷ [];
   calls = [];
   said = refused n ∷ [];
   state = Open;
@@ -201,4 +201,4 @@ caseO = record {
 
 unfoldable pub table : List Case
 table =
-    caseA ∷ caseA-monotone ∷ caseB ∷ caseC ∷ caseD ∷ caseE ∷ caseF ∷ caseG ∷ caseH ∷ caseI ∷ caseJ ∷ caseK ∷ caseL ∷ caseL-calls ∷ caseM 256 1024 4096 4 ∷ caseM 257 1024 4096 2 ∷ caseM 256 1025 4096 2 ∷ caseM 256 1024 4097 2 ∷ caseN ∷ caseO ∷ []
+    caseA ∷ caseA-monotone ∷ caseB ∷ caseC ∷ caseD ∷ caseE ∷ caseF ∷ caseG ∷ caseH ∷ caseI ∷ caseJ ∷ caseK ∷ caseL ∷ caseL-calls ∷ caseM 1024 4096 8192 4 ∷ caseM 1025 4096 8192 2 ∷ caseM 1024 4097 8192 2 ∷ caseM 1024 4096 8193 2 ∷ caseN ∷ caseO ∷ []

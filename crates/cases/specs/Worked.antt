@@ -73,13 +73,13 @@ paged-as m (paged.the-variants.Refused n) = said.refused n
 pub calling : List ℤ → List Asked → Session → Trail → Seen
 calling b [] s t = seen [] (s .state)
 calling b (said.step rev l ∷ rest) s t =
-    let o = stepOutcome s b (record { trail = t }) (record { 0 = rev }) (literal l) in
+    let o = stepOutcome limits s b (record { trail = t }) (record { 0 = rev }) (literal l) in
     stepped s (due (formulaOf b) (recordOf t (s .length))) o (o .answer) (calling b rest)
 calling b (said.run rev budget preferred ∷ rest) s t =
-    let o = runOf s b (record { trail = t }) (record { 0 = rev }) budget preferred in
+    let o = runOf limits s b (record { trail = t }) (record { 0 = rev }) budget preferred in
     run-as s o (o .answer) (calling b rest)
 calling b (said.page start budget out ∷ rest) s t =
-    let o = pageOf b (record { work = t; output = out }) start [] budget in
+    let o = pageOf limits b (record { work = t; output = out }) start [] budget in
     next (paged-as (o .memory) (o .answer)) (calling b rest s (o .memory .work))
 
 -- from the opening, on buffers of V places that hold something
@@ -90,7 +90,7 @@ opened b calls o (Refused n) = seen (said.refused n ∷ []) Open
 pub worked : Case → Seen
 worked c =
     let v = variablesOf (c .block) in
-    let o = openOutcome (c .block) (memory (replicate v (pos 7)) (replicate v 7)) (record { 0 = 0 }) in
+    let o = openOutcome limits (c .block) (memory (replicate v (pos 7)) (replicate v 7)) (record { 0 = 0 }) in
     opened (c .block) (c .calls) o (o .answer)
 
 pub worked-by-hand : map worked table ≡ map (λ (c : Case). seen (c .said) (c .state)) table
@@ -98,6 +98,6 @@ unfolding table caseA caseA-monotone caseB caseC caseD caseE caseF caseG caseH c
 worked-by-hand = refl
 
 -- [case.n] the same on record buffers of no places: 23 is looked at before 11
-pub without-places : openOutcome (caseN .block) (memory [] []) (record { 0 = 0 }) .answer ≡ Refused 23
+pub without-places : openOutcome limits (caseN .block) (memory [] []) (record { 0 = 0 }) .answer ≡ Refused 23
 unfolding caseN openOutcome openRefusal refusal limits twice badEnds bothSigns repeats all any eqZ mem clausesFrom
 without-places = refl

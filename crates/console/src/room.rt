@@ -5,7 +5,7 @@ pub(crate) const BLOCK_WORDS: usize = 16384;
 
 pub(crate) const RECORD_PLACES: usize = 2048;
 
-pub(crate) const OUTPUT_WORDS: usize = 8192;
+pub(crate) const OUTPUT_WORDS: usize = BLOCK_WORDS / 2;
 
 pub(crate) const LINE_BYTES: usize = 262144;
 
@@ -13,7 +13,7 @@ pub(crate) const LINE_BYTES: usize = 262144;
 pub(crate) const PREFERRED_WORDS: usize = LINE_BYTES / 2;
 
 // The input is read in parts of so many bytes.
-pub(crate) const PART_BYTES: usize = 65536;
+pub(crate) const PART_BYTES: usize = LINE_BYTES / 4;
 
 // No answer is cut short: a number takes at most 22 bytes, with its sign and the space before it, and the buffers have 12,288 words.
 pub(crate) const TEXT_BYTES: usize = 524288;

@@ -12,7 +12,7 @@ use mir.Syntax.{w32, w64}
 use mir.Val.{SFits, Fits, toZ, ofZ}
 use mir.ValLaws.{toZ-ofZ}
 use Rattle.formula.specs.Limits.{limits}
-use Rattle.formula.specs.Laws.Limits.{variables-are}
+use Rattle.formula.specs.Laws.Limits.{variables-small}
 use Rattle.formula.specs.Inner.Places.{placeOf}
 use Rattle.formula.specs.Laws.Places.{raised, place-plus, place-within}
 
@@ -38,7 +38,7 @@ module _ (x : ℤ) (f : SFits w32 x) where
     sum-is = ap (λ z. toZ w64 (ofZ w64 z) +ℤ pos m) read ∙ ap (λ z. z +ℤ pos m) (toZ-ofZ w64 x wide) ∙ rw mid (raised x h)
 
     small : placeOf x < 2 ^ 63
-    small = let l : 2 ^ 10 < 2 ^ 63 = lit< tt in lt-trans (omega (arith, place-within x h, variables-are)) l
+    small = let l : 2 ^ 33 < 2 ^ 63 = lit< tt in lt-trans (omega (arith, place-within x h, variables-small)) l
 
     pub sum-fits : SFits w64 sum
     sum-fits = rw sum-is (record { sfits = small })

@@ -1,5 +1,5 @@
--- [limits] The definitions of the rows take them as a parameter, and the definitions above them take `limits`; the numbers stand here, and as
--- constants where the code has its tables.
+-- [limits] They are a parameter of every definition and theorem that asks for them. The code has one instance of them, `limits`, whose numbers stand
+-- here and as constants in src/lib.rt; what functions promise, tables' sizes and worked cases name it.
 use Prim.Native.Nat.{ℕ}
 
 pub record Limits : Type 0 where
@@ -11,16 +11,16 @@ pub record Limits : Type 0 where
 
 -- the constants of the code are these
 abbrev pub maxVariables : ℕ
-maxVariables = 256
+maxVariables = 1024
 
 abbrev pub maxClauses : ℕ
-maxClauses = 1024
+maxClauses = 4096
 
 abbrev pub maxLiterals : ℕ
-maxLiterals = 4096
+maxLiterals = 8192
 
 abbrev pub maxGroup : ℕ
-maxGroup = 16
+maxGroup = 20
 
 unfoldable pub limits : Limits
 limits = record { variables = maxVariables; clauses = maxClauses; literals = maxLiterals; group = maxGroup }

@@ -25,14 +25,14 @@ pub enum Checked {
 }
 
 // The limits: every table's size goes by them. specs/Limits has the same numbers, and says that they are these.
-pub const MAX_VARIABLES: usize = 256;
+pub const MAX_VARIABLES: usize = 1024;
 
-pub const MAX_CLAUSES: usize = 1024;
+pub const MAX_CLAUSES: usize = 4096;
 
-pub const MAX_LITERALS: usize = 4096;
+pub const MAX_LITERALS: usize = 8192;
 
 // Of variables in a listing's first group.
-pub const MAX_GROUP: usize = 16;
+pub const MAX_GROUP: usize = 20;
 
 // Rows 1 to 4 are about the header; with a header as it should be, the parts lie within the block.
 pub fn check(block: &[i32]) -> Checked

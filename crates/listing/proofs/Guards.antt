@@ -19,7 +19,7 @@ use Rattle.formula.specs.Limits.{limits}
 
 -- ---- rows 18 to 21
 abbrev rowsOf : List ℤ → ℕ → List ℕ → List Row
-rowsOf p start out = ofPage (formula p [] []) start out
+rowsOf p start out = ofPage limits (formula p [] []) start out
 
 -- an empty prefix has no first word, and the word past its end is not negative
 first-word : (p : List ℤ) → (ltb 0 (length p) && negative (word p 0)) ≡ negative (word p 0)
@@ -46,11 +46,11 @@ module _ (p : List ℤ) (start : ℕ) (out : List ℕ) {u : Bool} (is : u ≡ ne
         openings-pass r = rw (first-word p, ← is, x, ← e, le-ltb (limits .group) k h, ← t, le-ltb m start l, le-ltb (length out) 2 r)
 
 -- ---- the block's rows and row 11, and then these
-module _ (b : List ℤ) (m : PageMemory) (start : ℕ) {r : ℕ} (e : r ≡ openRefusal b (workOf m)) where
-  pub page-buffers : (r ≡ 0 → ⊥) → r ≡ pageRefusal b m start
+module _ (b : List ℤ) (m : PageMemory) (start : ℕ) {r : ℕ} (e : r ≡ openRefusal limits b (workOf m)) where
+  pub page-buffers : (r ≡ 0 → ⊥) → r ≡ pageRefusal limits b m start
   unfolding pageRefusal openRefusal
-  page-buffers f = stops (openRows b (workOf m)) (ofPage (formulaOf b) start (m .output)) e f
+  page-buffers f = stops (openRows limits b (workOf m)) (ofPage limits (formulaOf b) start (m .output)) e f
 
-  pub page-openings : (z : r ≡ 0) {p : List ℤ} → p ≡ prefixOf b → {q : ℕ} → q ≡ refusalOf (rowsOf p start (m .output)) → q ≡ pageRefusal b m start
+  pub page-openings : (z : r ≡ 0) {p : List ℤ} → p ≡ prefixOf b → {q : ℕ} → q ≡ refusalOf (rowsOf p start (m .output)) → q ≡ pageRefusal limits b m start
   unfolding pageRefusal openRefusal formulaOf
-  page-openings z is p = p ∙ rw is (sym (goes-on (openRows b (workOf m)) (ofPage (formulaOf b) start (m .output)) refl (sym e ∙ z)))
+  page-openings z is p = p ∙ rw is (sym (goes-on (openRows limits b (workOf m)) (ofPage limits (formulaOf b) start (m .output)) refl (sym e ∙ z)))

@@ -16,13 +16,13 @@ use Rattle.rules.specs.declared.rule.State.the-variants.{Open, Valid, Unsat}
 use Rattle.rules.specs.declared.rule.Reached.{Reached}
 use Rattle.rules.specs.Search.{Search, reached}
 use Rattle.rules.specs.Trail.{Trail, wipedTrail}
-use Rattle.rules.specs.Inner.Ready.{Bound, Room}
+use Rattle.rules.specs.Inner.Ready.{Binds, Room}
 use Rattle.rules.specs.Laws.Accepted.{prefix-length}
 use Rattle.listing.specs.declared.Paged.{Paged}
 use Rattle.listing.specs.declared.Paged.the-variants.{Page, Refused}
 use Rattle.listing.specs.Opening.{openings, openingSearch, openingEnd}
 use Rattle.listing.specs.Page.{PageMemory, sheet, written, bySearch, pageFrom, sheetOf, paged, pageRefusal, pageOf}
-use Rattle.listing.specs.Rows.{page-bound, PageGuarded, page-guarded}
+use Rattle.listing.specs.Rows.{page-binds, PageGuarded, page-guarded}
 use Rattle.listing.specs.Claims.{Beyond}
 use Rattle.listing.specs.Inner.Pages.{OnGroup, OnPage, wipedOutcome}
 use Rattle.listing.specs.Laws.Beyond.{beyond-refl, beyond-trans, beyond-room, wiped-again, search-beyond, same-end}
@@ -55,8 +55,8 @@ module _ (b : List ℤ) (m : PageMemory) (k start : ℕ) (preferred : List ℤ) 
   begins o t = record { on = o; count = t; same = refl; beyond = beyond-refl; inside = rw (t, o .group) (o .guard .inside); few = omega arith; fits = omega arith; long = refl }
 
 module _ {b : List ℤ} {m : PageMemory} {k start : ℕ} {preferred : List ℤ} {budget total n e : ℕ} {work′ : Trail} {out′ : List ℕ} (s : Round b m k start preferred budget total n e work′ out′) where
-  bound : Bound (formulaOf b .prefix)
-  bound = page-bound b m start (s .on .guard)
+  binds : Binds (formulaOf b .prefix)
+  binds = page-binds limits b m start (s .on .guard)
 
   lent : Room (length (formulaOf b .prefix)) work′
   lent = beyond-room (s .beyond) (s .on .guard .lent)
@@ -69,7 +69,7 @@ module _ {b : List ℤ} {m : PageMemory} {k start : ℕ} {preferred : List ℤ} 
   pub still-on : OnGroup b work′ k
   unfolding formulaOf
   still-on =
-      record { on = record { block = s .on .guard .block; room = rw (← prefix-length b (s .on .guard .block)) lent }; group = s .on .group; narrow = narrow (s .on) }
+      record { on = record { block = s .on .guard .block; room = rw (← prefix-length limits b (s .on .guard .block)) lent }; group = s .on .group; narrow = narrow (s .on) }
 
   -- what the page answers and leaves, once the work record is wiped
   abbrev Left : Paged → Trail → Type 0
@@ -95,14 +95,14 @@ module _ {b : List ℤ} {m : PageMemory} {k start : ℕ} {preferred : List ℤ} 
     -- there is room, and the opening n is searched
     module _ (room : 2 * e + 2 ≤ length out′) {r : Reached} {work″ : Trail} (f : reached r work″ ≡ openingSearch (formulaOf b) preferred budget work′ n) where
       beyond″ : Beyond (length (formulaOf b .prefix)) (m .work) work″
-      beyond″ = beyond-trans (s .beyond) (rw (← f) at (search-beyond (formulaOf b) bound preferred budget work′ lent n))
+      beyond″ = beyond-trans (s .beyond) (rw (← f) at (search-beyond (formulaOf b) binds preferred budget work′ lent n))
 
       searched : {st : State} → r .state ≡ st
           → pageFrom (ends b m k start preferred budget total) (total - n) n e out′
           ≡ bySearch st (pageFrom (ends b m k start preferred budget total) (total - (n + 1)) (n + 1) (e + 1) (written n e out′)) (pageFrom (ends b m k start preferred budget total) (total - (n + 1)) (n + 1) e out′) (sheet n e true out′)
       unfolding pageFrom
       searched {st} z =
-          let x : openingEnd (formulaOf b) preferred budget (m .work) n ≡ st = same-end (formulaOf b) bound preferred budget (m .work) (s .on .guard .lent) n work′ lent ∙ ap (λ (u : Search). u .state) (sym f) ∙ z in
+          let x : openingEnd (formulaOf b) preferred budget (m .work) n ≡ st = same-end (formulaOf b) binds preferred budget (m .work) (s .on .guard .lent) n work′ lent ∙ ap (λ (u : Search). u .state) (sym f) ∙ z in
           rw (more, le-leb (2 * e + 2) (length out′) room, x)
 
       pub pauses : r .state ≡ Open → {a : Paged} → a ≡ Page n e true → Left a work″
@@ -124,15 +124,15 @@ module _ {b : List ℤ} {m : PageMemory} {k start : ℕ} {preferred : List ℤ} 
       loses z = record { on = s .on; count = s .count; same = sym (searched z) ∙ s .same; beyond = beyond″; inside = omega arith; few = omega (arith, s .few); fits = s .fits; long = s .long }
 
 -- ---- the page
-module _ (b : List ℤ) (m : PageMemory) (start : ℕ) {r : ℕ} (e : r ≡ pageRefusal b m start) where
+module _ (b : List ℤ) (m : PageMemory) (start : ℕ) {r : ℕ} (e : r ≡ pageRefusal limits b m start) where
   -- a number other than 0 is answered, and nothing is written
-  pub refuses : (preferred : List ℤ) (budget : ℕ) → (r ≡ 0 → ⊥) → outcome (Refused r) m ≡ pageOf b m start preferred budget
+  pub refuses : (preferred : List ℤ) (budget : ℕ) → (r ≡ 0 → ⊥) → outcome (Refused r) m ≡ pageOf limits b m start preferred budget
   unfolding pageOf
   refuses preferred budget f = rw (← e) (unless-number Refused r m _ f)
 
   module _ (z : r ≡ 0) where
-    passed : PageGuarded b m start
-    passed = page-guarded b m start (sym e ∙ z)
+    passed : PageGuarded limits b m start
+    passed = page-guarded limits b m start (sym e ∙ z)
 
     pub on-page : {p : List ℤ} → p ≡ prefixOf b → {k : ℕ} → k ≡ firstGroup p → OnPage b m k start
     on-page is q = record { guard = passed; group = q ∙ ap firstGroup is }
@@ -140,8 +140,8 @@ module _ (b : List ℤ) (m : PageMemory) (start : ℕ) {r : ℕ} (e : r ≡ page
     -- the first V places are wiped at the end
     pub cleans : {v : ℕ} → v ≡ variablesOf b → (preferred : List ℤ) (budget : ℕ) {a : Paged} (m′ : PageMemory) {work″ : Trail}
         → wipedOutcome (formulaOf b) a m′ ≡ paged (formulaOf b) (m .work) (sheetOf (formulaOf b) m start preferred budget)
-        → work″ ≡ wipedTrail (m′ .work) 0 v → outcome a (record { work = work″; output = m′ .output }) ≡ pageOf b m start preferred budget
+        → work″ ≡ wipedTrail (m′ .work) 0 v → outcome a (record { work = work″; output = m′ .output }) ≡ pageOf limits b m start preferred budget
     unfolding formulaOf
     cleans {v} is preferred budget {a} m′ f w =
-        let n : length (prefixOf b) ≡ v = prefix-length b (passed .block) ∙ sym is in
-        rw (w, ← n) (f ∙ sym (page-accepted b m start preferred budget (sym e ∙ z)))
+        let n : length (prefixOf b) ≡ v = prefix-length limits b (passed .block) ∙ sym is in
+        rw (w, ← n) (f ∙ sym (page-accepted limits b m start preferred budget (sym e ∙ z)))

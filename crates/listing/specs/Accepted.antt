@@ -10,16 +10,17 @@ use lib.ListN.{length}
 use Rattle.words.specs.Laws.Bools.{clash, look}
 use Rattle.formula.specs.Formula.{formulaOf, variablesOf, prefixOf, firstGroup}
 use Rattle.formula.specs.Proper.{Proper}
+use Rattle.formula.specs.Limits.{Limits}
 use Rattle.rules.specs.declared.rule.State.{State}
 use Rattle.rules.specs.declared.rule.State.the-variants.{Open}
 use Rattle.rules.specs.Trail.{wipedTrail}
-use Rattle.rules.specs.Inner.Ready.{Bound}
+use Rattle.rules.specs.Inner.Ready.{Binds}
 use Rattle.rules.specs.Laws.Accepted.{prefix-length, accepted-proper}
 use Rattle.rules.specs.Laws.Untouched.{wiped-blank}
 use Rattle.listing.specs.declared.Paged.the-variants.{Page}
 use Rattle.listing.specs.Opening.{openings, openingEnd}
 use Rattle.listing.specs.Page.{Sheet, sheet, pageOf, sheetOf, PageMemory}
-use Rattle.listing.specs.Rows.{PageGuarded, page-guarded, page-bound}
+use Rattle.listing.specs.Rows.{PageGuarded, page-guarded, page-binds}
 use Rattle.listing.specs.Refused.{page-accepted, answered-accepted}
 use Rattle.listing.specs.Claims.{Unended, Stops, at-end, no-room, unended, PageClaims}
 use Rattle.listing.specs.Laws.Searched.{won, lost, search-ends}
@@ -38,14 +39,14 @@ module _ {ends : ℕ → State} {total size : ℕ} {s : Sheet} where
   stops-moves (no-room p i r g l) f q h = omega arith
   stops-moves (unended p u) f q h = clash p q
 
-module _ (b : List ℤ) (m : PageMemory) (start : ℕ) (preferred : List ℤ) (budget : ℕ) (g : PageGuarded b m start) where
+module _ (L : Limits) (b : List ℤ) (m : PageMemory) (start : ℕ) (preferred : List ℤ) (budget : ℕ) (g : PageGuarded L b m start) where
   ok : Proper (formulaOf b)
-  ok = accepted-proper b (g .block)
+  ok = accepted-proper L b (g .block)
 
-  bound : Bound (formulaOf b .prefix)
-  bound = page-bound b m start g
+  binds : Binds (formulaOf b .prefix)
+  binds = page-binds L b m start g
 
-  all-done : Done (formulaOf b) start (m .output) (openingEnd (formulaOf b) preferred budget (m .work)) (won (formulaOf b) ok bound (m .work) (g .lent) preferred budget) (lost (formulaOf b) ok bound (m .work) (g .lent) preferred budget) (sheetOf (formulaOf b) m start preferred budget)
+  all-done : Done (formulaOf b) start (m .output) (openingEnd (formulaOf b) preferred budget (m .work)) (won (formulaOf b) ok binds (m .work) (g .lent) preferred budget) (lost (formulaOf b) ok binds (m .work) (g .lent) preferred budget) (sheetOf (formulaOf b) m start preferred budget)
   unfolding formulaOf
   all-done =
       let i = g .inside in
@@ -54,8 +55,8 @@ module _ (b : List ℤ) (m : PageMemory) (start : ℕ) (preferred : List ℤ) (b
   enough : 2 ^ (variablesOf b + 1 - firstGroup (prefixOf b)) - 1 ≤ budget → (n : ℕ) → openingEnd (formulaOf b) preferred budget (m .work) n ≡ Open → ⊥
   unfolding formulaOf
   enough h n o =
-      let e : suc (length (prefixOf b)) ≡ variablesOf b + 1 = omega (arith, prefix-length b (g .block)) in
-      search-ends (formulaOf b) ok bound (m .work) (g .lent) preferred budget n (rw e (omega arith)) o
+      let e : suc (length (prefixOf b)) ≡ variablesOf b + 1 = omega (arith, prefix-length L b (g .block)) in
+      search-ends (formulaOf b) ok binds (m .work) (g .lent) preferred budget n (rw e (omega arith)) o
 
   -- a page that breaks no row
   pub claimed : PageClaims b m start preferred budget (sheetOf (formulaOf b) m start preferred budget) (wipedTrail (m .work) 0 (variablesOf b))
@@ -74,18 +75,18 @@ module _ (b : List ℤ) (m : PageMemory) (start : ℕ) (preferred : List ℤ) (b
       }
 
 -- whatever a page answers but a refusal, so it is
-pub accepted-page : (b : List ℤ) (m : PageMemory) (start : ℕ) (preferred : List ℤ) (budget : ℕ) (next entries : ℕ) (paused : Bool)
-    → let o = pageOf b m start preferred budget in
+pub accepted-page : (L : Limits) → (b : List ℤ) (m : PageMemory) (start : ℕ) (preferred : List ℤ) (budget : ℕ) (next entries : ℕ) (paused : Bool)
+    → let o = pageOf L b m start preferred budget in
     o .answer ≡ Page next entries paused → PageClaims b m start preferred budget (sheet next entries paused (o .memory .output)) (o .memory .work)
 unfolding formulaOf
-accepted-page b m start preferred budget next entries paused a =
-    let e = answered-accepted b m start preferred budget next entries paused a in
-    let g = page-guarded b m start e in
-    let q = page-accepted b m start preferred budget e in
+accepted-page L b m start preferred budget next entries paused a =
+    let e = answered-accepted L b m start preferred budget next entries paused a in
+    let g = page-guarded L b m start e in
+    let q = page-accepted L b m start preferred budget e in
     let s = sheetOf (formulaOf b) m start preferred budget in
     let a′ : Page (s .next) (s .entries) (s .paused) ≡ Page next entries paused = rw q at a in
     let x : s .next ≡ next = cc in
     let y : s .entries ≡ entries = cc in
     let z : s .paused ≡ paused = cc in
     let w : s ≡ sheet next entries paused (s .output) = rw (← x, ← y, ← z) in
-    rw (q, prefix-length b (g .block), ← w) (claimed b m start preferred budget g)
+    rw (q, prefix-length L b (g .block), ← w) (claimed L b m start preferred budget g)

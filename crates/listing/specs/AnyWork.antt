@@ -6,13 +6,14 @@ use mathlib.Core.List.{List}
 use lib.IntN.{ℤ}
 use Rattle.words.specs.Outcomes.{Outcome, unless}
 use Rattle.formula.specs.Formula.{formulaOf}
+use Rattle.formula.specs.Limits.{Limits}
 use Rattle.rules.specs.declared.rule.State.{State}
 use Rattle.session.specs.Refusals.{short}
 use Rattle.listing.specs.declared.Paged.{Paged}
 use Rattle.listing.specs.declared.Paged.the-variants.{Refused}
 use Rattle.listing.specs.Opening.{openings, openingEnd}
 use Rattle.listing.specs.Page.{workOf, PageMemory, pageRefusal, paged, pageFrom, sheetOf, pageOf}
-use Rattle.listing.specs.Rows.{page-guarded, page-bound}
+use Rattle.listing.specs.Rows.{page-guarded, page-binds}
 use Rattle.listing.specs.Laws.Beyond.{same-end}
 
 -- the same answer, and the same output
@@ -21,25 +22,25 @@ pub record SamePage (o o′ : Outcome PageMemory Paged) : Type 0 where
   pub output : o .memory .output ≡ o′ .memory .output
 
 -- two memories with the same output, of which both or none break row 11
-module _ (b : List ℤ) (m m′ : PageMemory) (buffers : short b (workOf m) ≡ short b (workOf m′)) (output : m .output ≡ m′ .output) (start : ℕ) where
-  same-refusal : pageRefusal b m start ≡ pageRefusal b m′ start
+module _ (L : Limits) (b : List ℤ) (m m′ : PageMemory) (buffers : short b (workOf m) ≡ short b (workOf m′)) (output : m .output ≡ m′ .output) (start : ℕ) where
+  same-refusal : pageRefusal L b m start ≡ pageRefusal L b m′ start
   unfolding pageRefusal
   same-refusal = rw (buffers, output)
 
   module _ (preferred : List ℤ) (budget : ℕ) where
-    same-sheet : pageRefusal b m start ≡ 0 → sheetOf (formulaOf b) m start preferred budget ≡ sheetOf (formulaOf b) m′ start preferred budget
+    same-sheet : pageRefusal L b m start ≡ 0 → sheetOf (formulaOf b) m start preferred budget ≡ sheetOf (formulaOf b) m′ start preferred budget
     same-sheet e =
-        let g = page-guarded b m start e in
-        let g′ = page-guarded b m′ start (rw same-refusal at e) in
+        let g = page-guarded L b m start e in
+        let g′ = page-guarded L b m′ start (rw same-refusal at e) in
         let F = formulaOf b in
-        let z : openingEnd F preferred budget (m .work) ≡ openingEnd F preferred budget (m′ .work) = fun-ext (λ n. same-end F (page-bound b m start g) preferred budget (m .work) (g .lent) n (m′ .work) (g′ .lent)) in
+        let z : openingEnd F preferred budget (m .work) ≡ openingEnd F preferred budget (m′ .work) = fun-ext (λ n. same-end F (page-binds L b m start g) preferred budget (m .work) (g .lent) n (m′ .work) (g′ .lent)) in
         rw output (ap (λ (ends : ℕ → State). pageFrom ends (openings F - start) start 0 (m′ .output)) z)
 
-    pub any-work : SamePage (pageOf b m start preferred budget) (pageOf b m′ start preferred budget)
+    pub any-work : SamePage (pageOf L b m start preferred budget) (pageOf L b m′ start preferred budget)
     unfolding pageOf
-    any-work = rw (← same-refusal) (go (pageRefusal b m start) refl)
+    any-work = rw (← same-refusal) (go (pageRefusal L b m start) refl)
       where
-        go : (n : ℕ) → pageRefusal b m start ≡ n
+        go : (n : ℕ) → pageRefusal L b m start ≡ n
             → SamePage (unless Refused n m (paged (formulaOf b) (m .work) (sheetOf (formulaOf b) m start preferred budget))) (unless Refused n m′ (paged (formulaOf b) (m′ .work) (sheetOf (formulaOf b) m′ start preferred budget)))
         go zero e = rw (same-sheet e) (record { answer = refl; output = refl })
         go (suc n) e = record { answer = refl; output = output }

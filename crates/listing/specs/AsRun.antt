@@ -12,6 +12,7 @@ use Rattle.words.specs.Outcomes.{outcome}
 use Rattle.words.specs.Rows.{refusalOf}
 use Rattle.words.specs.Laws.Rows.{goes-on}
 use Rattle.formula.specs.Formula.{formulaOf, prefixOf, firstGroup}
+use Rattle.formula.specs.Limits.{Limits}
 use Rattle.rules.specs.declared.rule.State.the-variants.{Open}
 use Rattle.rules.specs.Inner.Ready.{Room}
 use Rattle.rules.specs.Laws.Accepted.{prefix-length}
@@ -25,11 +26,11 @@ use Rattle.session.specs.Run.{runFrom, runOf}
 use Rattle.session.specs.Laws.Accepted.{open-passes}
 use Rattle.listing.specs.Opening.{openingStart, openingSearch}
 use Rattle.listing.specs.Page.{PageMemory}
-use Rattle.listing.specs.Rows.{PageGuarded, page-bound}
+use Rattle.listing.specs.Rows.{PageGuarded, page-binds}
 use Rattle.listing.specs.Laws.Start.{starts, Starts}
 
 -- a page that passes its rows, and a budget of 32 bits
-module _ (b : List ℤ) (m : PageMemory) (start : ℕ) (g : PageGuarded b m start) (preferred : List ℤ) (budget : ℕ) (word : budget < 4294967296) (n : ℕ) where
+module _ (L : Limits) (b : List ℤ) (m : PageMemory) (start : ℕ) (g : PageGuarded L b m start) (preferred : List ℤ) (budget : ℕ) (word : budget < 4294967296) (n : ℕ) where
   -- the memory at the start of the opening's search, and the session that stands there
   abbrev begun : Memory
   begun = memoryOf (openingStart (formulaOf b) (m .work) n)
@@ -41,20 +42,20 @@ module _ (b : List ℤ) (m : PageMemory) (start : ℕ) (g : PageGuarded b m star
   seen = record { 0 = 0 }
 
   begins : Starts (formulaOf b) (m .work) n
-  begins = starts (formulaOf b) (page-bound b m start g) (m .work) n (g .lent)
+  begins = starts (formulaOf b) (page-binds L b m start g) (m .work) n (g .lent)
 
-  passes : runRefusal fresh b begun seen budget ≡ 0
+  passes : runRefusal L fresh b begun seen budget ≡ 0
   unfolding runRefusal openRefusal openingStart formulaOf
   passes =
       let r : Room (length (prefixOf b)) (begun .trail) = begins .kept .room in
-      let v = prefix-length b (g .block) in
-      let o = open-passes b begun (record { block = g .block; room = record { lits = omega (arith, r .lits); kinds = omega (arith, r .kinds) } }) in
-      let s : refusalOf (sessionRows fresh b begun seen) ≡ 0 = goes-on (openRows b begun) (ofSession fresh b begun seen) refl o ∙ rw (begins .kept .good) in
-      goes-on (sessionRows fresh b begun seen) (ofRun fresh b begun seen budget) refl s ∙ rw (le-ltb lastRevision (0 + budget) (omega arith))
+      let v = prefix-length L b (g .block) in
+      let o = open-passes L b begun (record { block = g .block; room = record { lits = omega (arith, r .lits); kinds = omega (arith, r .kinds) } }) in
+      let s : refusalOf (sessionRows L fresh b begun seen) ≡ 0 = goes-on (openRows L b begun) (ofSession fresh b begun seen) refl o ∙ rw (begins .kept .good) in
+      goes-on (sessionRows L fresh b begun seen) (ofRun fresh b begun seen budget) refl s ∙ rw (le-ltb lastRevision (0 + budget) (omega arith))
 
   pub search-is-run : let t = runFrom (formulaOf b) preferred budget (openingStart (formulaOf b) (m .work) n) 0 in
       let u = openingSearch (formulaOf b) preferred budget (m .work) n in
-      runOf fresh b begun seen budget preferred ≡ outcome (Until (session (u .count) (t .steps) (u .state)) (t .steps)) (memoryOf u)
+      runOf L fresh b begun seen budget preferred ≡ outcome (Until (session (u .count) (t .steps) (u .state)) (t .steps)) (memoryOf u)
   unfolding runOf openingStart formulaOf
   search-is-run =
       let t = runFrom (formulaOf b) preferred budget (openingStart (formulaOf b) (m .work) n) 0 in

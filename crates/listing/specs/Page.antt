@@ -13,7 +13,7 @@ use Rattle.rules.specs.declared.rule.State.{State}
 use Rattle.rules.specs.declared.rule.State.the-variants.{Open, Valid, Unsat}
 use Rattle.rules.specs.Trail.{Trail, trail, wipedTrail}
 use Rattle.words.specs.Outcomes.{Outcome, outcome, unless}
-use Rattle.formula.specs.Limits.{limits}
+use Rattle.formula.specs.Limits.{Limits}
 use Rattle.session.specs.Memory.{Memory}
 use Rattle.session.specs.Refusals.{openRows}
 use Rattle.listing.specs.declared.Paged.{Paged}
@@ -38,19 +38,19 @@ abbrev pub firstUniversal : Formula → Bool
 firstUniversal F = ltb 0 (length (F .prefix)) && negative (word (F .prefix) 0)
 
 -- [row.18] [row.19] [row.20] [row.21]
-abbrev pub ofPage : Formula → ℕ → List ℕ → List Row
-ofPage F start out =
+abbrev pub ofPage : Limits → Formula → ℕ → List ℕ → List Row
+ofPage L F start out =
     row 18 (firstUniversal F)
-    ∷ row 19 (ltb (limits .group) (firstGroup (F .prefix)))
+    ∷ row 19 (ltb (L .group) (firstGroup (F .prefix)))
     ∷ row 20 (ltb (openings F) start)
     ∷ row 21 (ltb (length out) 2)
     ∷ []
 
-abbrev pub pageRows : List ℤ → PageMemory → ℕ → List Row
-pageRows b m start = openRows b (workOf m) ++ ofPage (formulaOf b) start (m .output)
+abbrev pub pageRows : Limits → List ℤ → PageMemory → ℕ → List Row
+pageRows L b m start = openRows L b (workOf m) ++ ofPage L (formulaOf b) start (m .output)
 
-unfoldable pub pageRefusal : List ℤ → PageMemory → ℕ → ℕ
-pageRefusal b m start = refusalOf (pageRows b m start)
+unfoldable pub pageRefusal : Limits → List ℤ → PageMemory → ℕ → ℕ
+pageRefusal L b m start = refusalOf (pageRows L b m start)
 
 -- ---- what a page writes
 -- where a page stands: the next opening, the entries written, whether it is paused, and the output
@@ -96,7 +96,7 @@ paged F work s =
 abbrev pub sheetOf : Formula → PageMemory → ℕ → List ℤ → ℕ → Sheet
 sheetOf F m start preferred budget = pageFrom (openingEnd F preferred budget (m .work)) (openings F - start) start 0 (m .output)
 
-unfoldable pub pageOf : List ℤ → PageMemory → ℕ → List ℤ → ℕ → Outcome PageMemory Paged
-pageOf b m start preferred budget =
+unfoldable pub pageOf : Limits → List ℤ → PageMemory → ℕ → List ℤ → ℕ → Outcome PageMemory Paged
+pageOf L b m start preferred budget =
     let F = formulaOf b in
-    unless Refused (pageRefusal b m start) m (paged F (m .work) (sheetOf F m start preferred budget))
+    unless Refused (pageRefusal L b m start) m (paged F (m .work) (sheetOf F m start preferred budget))

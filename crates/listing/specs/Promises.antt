@@ -7,9 +7,10 @@ use lib.IntN.{ℤ}
 use Rattle.words.specs.Outcomes.{outcome, Same, same}
 use Rattle.listing.specs.declared.Paged.{Paged}
 use Rattle.listing.specs.Page.{PageMemory, pageOf}
+use Rattle.formula.specs.Limits.{limits}
 
 abbrev pub PagePromise : List ℤ → PageMemory → ℕ → List ℤ → ℕ → Paged → PageMemory → Type 0
-PagePromise b m start preferred budget r m′ = outcome r m′ ≡ pageOf b m start preferred budget
+PagePromise b m start preferred budget r m′ = outcome r m′ ≡ pageOf limits b m start preferred budget
 
 -- [only]
 pub only-page : {r r′ : Paged} {m′ m″ : PageMemory} (b : List ℤ) (m : PageMemory) (start : ℕ) (preferred : List ℤ) (budget : ℕ)

@@ -8,6 +8,7 @@ use native.Mathlib.Omega.{arith}
 use lib.IntN.{ℤ}
 use Rattle.words.specs.Outcomes.{Outcome, unless, Left, unless-left}
 use Rattle.formula.specs.Formula.{formulaOf}
+use Rattle.formula.specs.Limits.{Limits}
 use Rattle.listing.specs.declared.Paged.{Paged}
 use Rattle.listing.specs.declared.Paged.the-variants.{Page, Refused}
 use Rattle.listing.specs.Page.{PageMemory, pageRefusal, paged, sheetOf, pageOf}
@@ -22,18 +23,18 @@ unless-page : (k : ℕ) (m : PageMemory) (o : Outcome PageMemory Paged) (n e : �
 unless-page zero m o n e p a = refl
 unless-page (suc k) m o n e p a = let z : _≡_ {A = ℕ} 0 1 = cc in absurd (omega arith)
 
-module _ (b : List ℤ) (m : PageMemory) (start : ℕ) (preferred : List ℤ) (budget : ℕ) where
-  pub page-refused-leaves : (n : ℕ) → let o = pageOf b m start preferred budget in
-      o .answer ≡ Refused n → Left (pageRefusal b m start) n m (o .memory)
+module _ (L : Limits) (b : List ℤ) (m : PageMemory) (start : ℕ) (preferred : List ℤ) (budget : ℕ) where
+  pub page-refused-leaves : (n : ℕ) → let o = pageOf L b m start preferred budget in
+      o .answer ≡ Refused n → Left (pageRefusal L b m start) n m (o .memory)
   unfolding pageOf
-  page-refused-leaves n = unless-left Refused refused-told (pageRefusal b m start) m _ n (page-none _ _ _ n)
+  page-refused-leaves n = unless-left Refused refused-told (pageRefusal L b m start) m _ n (page-none _ _ _ n)
 
   -- a page that breaks no row
-  pub page-accepted : pageRefusal b m start ≡ 0 → pageOf b m start preferred budget ≡ paged (formulaOf b) (m .work) (sheetOf (formulaOf b) m start preferred budget)
+  pub page-accepted : pageRefusal L b m start ≡ 0 → pageOf L b m start preferred budget ≡ paged (formulaOf b) (m .work) (sheetOf (formulaOf b) m start preferred budget)
   unfolding pageOf
   page-accepted e = rw e
 
   -- an answer with a page comes from one
-  pub answered-accepted : (n e : ℕ) (p : Bool) → pageOf b m start preferred budget .answer ≡ Page n e p → pageRefusal b m start ≡ 0
+  pub answered-accepted : (n e : ℕ) (p : Bool) → pageOf L b m start preferred budget .answer ≡ Page n e p → pageRefusal L b m start ≡ 0
   unfolding pageOf
-  answered-accepted = unless-page (pageRefusal b m start) m (paged (formulaOf b) (m .work) (sheetOf (formulaOf b) m start preferred budget))
+  answered-accepted = unless-page (pageRefusal L b m start) m (paged (formulaOf b) (m .work) (sheetOf (formulaOf b) m start preferred budget))

@@ -9,7 +9,7 @@ use borrow.Author.Tests.{ltb-false, le-ltb}
 use Rattle.words.specs.Lists.{In}
 use Rattle.words.specs.Rows.{Numbered}
 use Rattle.words.specs.Laws.Rows.{numbered, given, goes-on, first-part, passed}
-use Rattle.formula.specs.Limits.{limits}
+use Rattle.formula.specs.Limits.{Limits}
 use Rattle.formula.specs.Formula.{formulaOf, prefixOf, firstGroup}
 use Rattle.formula.specs.Block.{refusal}
 use Rattle.session.specs.Refusals.{openRows, openRefusal}
@@ -17,55 +17,55 @@ use Rattle.session.specs.Rows.{openNumbers}
 use Rattle.session.specs.Laws.Accepted.{opened, open-passes}
 use Rattle.listing.specs.Opening.{openings}
 use Rattle.listing.specs.Page.{workOf, firstUniversal, ofPage, pageRows, pageRefusal, PageMemory}
-use Rattle.rules.specs.Inner.Ready.{Bound, Room}
-use Rattle.rules.specs.Laws.Accepted.{prefix-length, accepted-bound}
+use Rattle.rules.specs.Inner.Ready.{Binds, Room}
+use Rattle.rules.specs.Laws.Accepted.{prefix-length, accepted-binds}
 
-module _ (b : List ℤ) (m : PageMemory) (start : ℕ) where
-  pub page-numbered : Numbered (pageRows b m start) (pageRefusal b m start)
+module _ (L : Limits) (b : List ℤ) (m : PageMemory) (start : ℕ) where
+  pub page-numbered : Numbered (pageRows L b m start) (pageRefusal L b m start)
   unfolding pageRefusal
-  page-numbered = numbered (pageRows b m start) refl
+  page-numbered = numbered (pageRows L b m start) refl
 
-  pub page-gives : In (pageRefusal b m start) (0 ∷ openNumbers ++ 18 ∷ 19 ∷ 20 ∷ 21 ∷ [])
+  pub page-gives : In (pageRefusal L b m start) (0 ∷ openNumbers ++ 18 ∷ 19 ∷ 20 ∷ 21 ∷ [])
   unfolding pageRefusal
-  page-gives = given (pageRows b m start)
+  page-gives = given (pageRows L b m start)
 
   -- ---- what an accepted page has shown
   pub record PageGuarded : Type 0 where
-    pub block : refusal limits b ≡ 0
+    pub block : refusal L b ≡ 0
     pub lent : Room (length (formulaOf b .prefix)) (m .work)
     pub exists : firstUniversal (formulaOf b) ≡ false
-    pub narrow : firstGroup (prefixOf b) ≤ limits .group
+    pub narrow : firstGroup (prefixOf b) ≤ L .group
     pub inside : start ≤ openings (formulaOf b)
     pub room : 2 ≤ length (m .output)
 
-  pub page-guarded : pageRefusal b m start ≡ 0 → PageGuarded
+  pub page-guarded : pageRefusal L b m start ≡ 0 → PageGuarded
   unfolding pageRefusal openRefusal formulaOf
   page-guarded e =
-      let o = opened b (workOf m) (first-part (openRows b (workOf m)) (ofPage (formulaOf b) start (m .output)) e) in
-      let r = passed (pageRows b m start) refl e in
+      let o = opened L b (workOf m) (first-part (openRows L b (workOf m)) (ofPage L (formulaOf b) start (m .output)) e) in
+      let r = passed (pageRows L b m start) refl e in
       record {
         block = o .block;
-        lent = rw (prefix-length b (o .block)) (o .room);
+        lent = rw (prefix-length L b (o .block)) (o .room);
         exists = r 18;
-        narrow = ltb-false (limits .group) (firstGroup (prefixOf b)) (r 19);
+        narrow = ltb-false (L .group) (firstGroup (prefixOf b)) (r 19);
         inside = ltb-false (2 ^ firstGroup (prefixOf b)) start (r 20);
         room = ltb-false (length (m .output)) 2 (r 21);
       }
 
   -- and the other way round
-  pub page-passes : PageGuarded → pageRefusal b m start ≡ 0
+  pub page-passes : PageGuarded → pageRefusal L b m start ≡ 0
   unfolding pageRefusal openRefusal formulaOf
   page-passes g =
-      let o = open-passes b (workOf m) (record { block = g .block; room = rw (← prefix-length b (g .block)) (g .lent) }) in
-      goes-on (openRows b (workOf m)) (ofPage (formulaOf b) start (m .output)) refl o
+      let o = open-passes L b (workOf m) (record { block = g .block; room = rw (← prefix-length L b (g .block)) (g .lent) }) in
+      goes-on (openRows L b (workOf m)) (ofPage L (formulaOf b) start (m .output)) refl o
       ∙ rw (
         g .exists,
-        le-ltb (limits .group) (firstGroup (prefixOf b)) (g .narrow),
+        le-ltb (L .group) (firstGroup (prefixOf b)) (g .narrow),
         le-ltb (2 ^ firstGroup (prefixOf b)) start (g .inside),
         le-ltb (length (m .output)) 2 (g .room),
       )
 
   -- its prefix, as the searches need it
-  pub page-bound : PageGuarded → Bound (formulaOf b .prefix)
+  pub page-binds : PageGuarded → Binds (formulaOf b .prefix)
   unfolding formulaOf
-  page-bound g = accepted-bound b (g .block)
+  page-binds g = accepted-binds L b (g .block)

@@ -1,6 +1,7 @@
 // The rows of the table that speak of a page, in its order.
 ghost use mathlib.Core.Path.{_≡_};
 ghost use mathlib.Core.List.{[]};
+ghost use Rattle.formula.specs.Limits.{limits};
 ghost use Rattle.words.specs.Rows.{refusalOf};
 ghost use Rattle.rules.specs.Inner.Ready.{formula};
 ghost use Rattle.listing.specs.Page.{pageMemory, ofPage, pageRefusal};
@@ -8,7 +9,7 @@ use crate::openings;
 
 // Rows 18 to 21, which look at the prefix and at no clause.
 fn openings_refusal(prefix: &[i32], start: u32, output: &[u32]) -> u32
-    ensures { λ r. ⌜ r ≡ refusalOf (ofPage (formula (now (prefix .entry)) [] []) start (now (output .entry))) ⌝ }
+    ensures { λ r. ⌜ r ≡ refusalOf (ofPage limits (formula (now (prefix .entry)) [] []) start (now (output .entry))) ⌝ }
 {
     if words::negative_at(prefix, 0) {
         return 18;
@@ -34,7 +35,7 @@ pub(crate) fn page_refusal(
     start: u32,
     output: &[u32],
 ) -> u32
-    ensures { λ r. ⌜ r ≡ pageRefusal (now (block .entry)) (pageMemory (now (lits .entry)) (now (kinds .entry)) (now (output .entry))) start ⌝ }
+    ensures { λ r. ⌜ r ≡ pageRefusal limits (now (block .entry)) (pageMemory (now (lits .entry)) (now (kinds .entry)) (now (output .entry))) start ⌝ }
 {
     let refused = session::open_refusal(block, lits, kinds);
     if refused != 0 {

@@ -12,6 +12,10 @@ ghost use Rattle.rules.specs.Search.{search, reached};
 ghost use Rattle.rules.specs.declared.rule.State.the-variants.{Open};
 ghost use Rattle.listing.specs.Opening.{valueAt, valuesOf, openingStart, openingSearch};
 ghost use Rattle.listing.specs.Inner.Pages.{OnGroup, WritableAt, Writable};
+ghost use Rattle.words.specs.Outcomes.{outcome};
+ghost use Rattle.rules.specs.Inner.Ready.{LentTables};
+use formula::LITERAL_PLACES;
+use rules::PLACES;
 use rules::Reached;
 
 // The size of the first group.
@@ -90,11 +94,14 @@ pub(crate) fn try_opening(
     n: u32,
     preferred: &[i32],
     budget: u32,
+    levels: &[u16; PLACES],
+    statuses: &mut [u8; LITERAL_PLACES],
 ) -> Reached
     requires { ⌜ OnGroup (now block) (trail (now lits) (now kinds)) k ⌝ }
-    ensures { λ r. ⌜ reached r (trail (now (lits .exit)) (now (kinds .exit))) ≡ openingSearch (formulaOf (now (block .entry))) (now (preferred .entry)) budget (trail (now (lits .entry)) (now (kinds .entry))) n ⌝ }
+    requires { ⌜ LentTables (now block) (now levels) (now statuses) ⌝ }
+    ensures { λ r. ⌜ outcome (reached r (trail (now (lits .exit)) (now (kinds .exit)))) (now (statuses .exit)) ≡ outcome (openingSearch (formulaOf (now (block .entry))) (now (preferred .entry)) budget (trail (now (lits .entry)) (now (kinds .entry))) n) (now (statuses .entry)) ⌝ }
 {
     begin(block, lits, kinds, k, n);
-    let found = session::search(block, lits, kinds, k, budget, preferred);
+    let found = session::search(block, lits, kinds, k, budget, preferred, levels, statuses);
     found.reached
 }

@@ -8,6 +8,7 @@ ghost use Rattle.listing.specs.Page.{pageMemory, paged, sheetOf};
 ghost use Rattle.listing.specs.Inner.Pages.{OnPage, wipedOutcome};
 use crate::Paged;
 use crate::openings;
+use formula::LITERAL_PLACES;
 use rules::State;
 
 // An answer.
@@ -45,6 +46,8 @@ pub(crate) fn fill(
     requires { ⌜ OnPage (now block) (pageMemory (now lits) (now kinds) (now output)) k start ⌝ }
     ensures { λ r. ⌜ wipedOutcome (formulaOf (now (block .entry))) r (pageMemory (now (lits .exit)) (now (kinds .exit)) (now (output .exit))) ≡ paged (formulaOf (now (block .entry))) (pageMemory (now (lits .entry)) (now (kinds .entry)) (now (output .entry)) .work) (sheetOf (formulaOf (now (block .entry))) (pageMemory (now (lits .entry)) (now (kinds .entry)) (now (output .entry))) start (now (preferred .entry)) budget) ⌝ }
 {
+    let levels = rules::levels(block);
+    let mut statuses = [0u8; LITERAL_PLACES];
     let total = openings::count(k);
     let mut n = start;
     let mut entries = 0;
@@ -52,7 +55,17 @@ pub(crate) fn fill(
         if output.len() < 2 * (entries as usize) + 2 {
             return answer(n, entries, false);
         }
-        let reached = openings::try_opening(block, lits, kinds, k, n, preferred, budget);
+        let reached = openings::try_opening(
+            block,
+            lits,
+            kinds,
+            k,
+            n,
+            preferred,
+            budget,
+            &levels,
+            &mut statuses,
+        );
         let next = n + 1;
         let state = reached.state;
         match state {

@@ -15,6 +15,7 @@ use Rattle.session.specs.Memory.{Memory}
 use Rattle.session.specs.Outcome.{stepOutcome}
 use Rattle.session.specs.Run.{runOf}
 use Rattle.mokihazureo.specs.Called.{lent, told, revision}
+use Rattle.formula.specs.Limits.{limits}
 
 -- a truth as a number
 pub bit : (p : Bool) → cond p 1 0 ≡ boolByte p
@@ -27,8 +28,8 @@ tells status numbers a e p q = rw (← e, p, q)
 
 -- the session of the three numbers
 module _ {s t : Session} (same : s ≡ t) (b : List ℤ) (m : Memory) (seen : ℕ) where
-  pub step-of : {l k : ℤ} → l ≡ k → {o : Outcome Memory Answer} → o ≡ stepOutcome s b m (revision seen) (literal l) → o ≡ stepOutcome t b m (revision seen) (literal k)
+  pub step-of : {l k : ℤ} → l ≡ k → {o : Outcome Memory Answer} → o ≡ stepOutcome limits s b m (revision seen) (literal l) → o ≡ stepOutcome limits t b m (revision seen) (literal k)
   step-of kept e = rw (← same, ← kept) e
 
-  pub run-of : (budget : ℕ) (preferred : List ℤ) {o : Outcome Memory Ran} → o ≡ runOf s b m (revision seen) budget preferred → o ≡ runOf t b m (revision seen) budget preferred
+  pub run-of : (budget : ℕ) (preferred : List ℤ) {o : Outcome Memory Ran} → o ≡ runOf limits s b m (revision seen) budget preferred → o ≡ runOf limits t b m (revision seen) budget preferred
   run-of budget preferred e = rw (← same) e

@@ -6,6 +6,7 @@ use mathlib.Core.List.{List, [], _∷_}
 use lib.IntN.{ℤ}
 use lib.Seq.{sets}
 use Rattle.words.specs.Outcomes.{Outcome, outcome}
+use Rattle.formula.specs.Limits.{Limits}
 use Rattle.rules.specs.Due.{literal}
 use Rattle.session.specs.declared.Revision.{Revision}
 use Rattle.session.specs.declared.Session.{Session}
@@ -51,11 +52,11 @@ abbrev pub answerNumbers : Answer → List ℕ
 answerNumbers (To s) = numbersOf s
 answerNumbers (Refused n) = []
 
-abbrev pub openCall : List ℤ → Memory → ℕ → List ℕ → Outcome (Lent Memory) ℕ
-openCall b m first a = told statusOf answerNumbers a (openOutcome b m (revision first))
+abbrev pub openCall : Limits → List ℤ → Memory → ℕ → List ℕ → Outcome (Lent Memory) ℕ
+openCall L b m first a = told statusOf answerNumbers a (openOutcome L b m (revision first))
 
-abbrev pub stepCall : Session → List ℤ → Memory → ℕ → ℤ → List ℕ → Outcome (Lent Memory) ℕ
-stepCall s b m seen l a = told statusOf answerNumbers a (stepOutcome s b m (revision seen) (literal l))
+abbrev pub stepCall : Limits → Session → List ℤ → Memory → ℕ → ℤ → List ℕ → Outcome (Lent Memory) ℕ
+stepCall L s b m seen l a = told statusOf answerNumbers a (stepOutcome L s b m (revision seen) (literal l))
 
 -- ---- a run: the count of accepted steps is a fourth number
 abbrev pub ranStatus : Ran → ℕ
@@ -66,8 +67,8 @@ abbrev pub ranNumbers : Ran → List ℕ
 ranNumbers (Until s n) = s .length ∷ s .revision .0 ∷ numberOf (s .state) ∷ n ∷ []
 ranNumbers (Stopped n) = []
 
-abbrev pub runCall : Session → List ℤ → Memory → ℕ → ℕ → List ℤ → List ℕ → Outcome (Lent Memory) ℕ
-runCall s b m seen budget preferred a = told ranStatus ranNumbers a (runOf s b m (revision seen) budget preferred)
+abbrev pub runCall : Limits → Session → List ℤ → Memory → ℕ → ℕ → List ℤ → List ℕ → Outcome (Lent Memory) ℕ
+runCall L s b m seen budget preferred a = told ranStatus ranNumbers a (runOf L s b m (revision seen) budget preferred)
 
 -- ---- a page: where the next one begins, the entries written, and 1 for paused, else 0
 abbrev pub pagedStatus : paged.Paged → ℕ
@@ -78,5 +79,5 @@ abbrev pub pagedNumbers : paged.Paged → List ℕ
 pagedNumbers (paged.the-variants.Page n e p) = n ∷ e ∷ cond p 1 0 ∷ []
 pagedNumbers (paged.the-variants.Refused n) = []
 
-abbrev pub pageCall : List ℤ → PageMemory → ℕ → List ℤ → ℕ → List ℕ → Outcome (Lent PageMemory) ℕ
-pageCall b m start preferred budget a = told pagedStatus pagedNumbers a (pageOf b m start preferred budget)
+abbrev pub pageCall : Limits → List ℤ → PageMemory → ℕ → List ℤ → ℕ → List ℕ → Outcome (Lent PageMemory) ℕ
+pageCall L b m start preferred budget a = told pagedStatus pagedNumbers a (pageOf L b m start preferred budget)

@@ -5,6 +5,7 @@ use mathlib.Core.List.{List, []}
 use Prim.Native.Nat.{ℕ, zero, suc}
 use lib.IntN.{ℤ}
 use Rattle.words.specs.Outcomes.{Outcome, unless}
+use Rattle.formula.specs.Limits.{Limits}
 use Rattle.session.specs.declared.Session.{Session}
 use Rattle.session.specs.declared.Answer.the-variants.{Refused}
 use Rattle.session.specs.declared.Ran.the-variants.{Stopped}
@@ -27,19 +28,19 @@ stated : {M A : Type 0} (status : A → ℕ) (numbers : A → List ℕ) (number 
 stated status numbers number tells none zero m a o e = record { status = e; leaves = λ f. absurd (f refl) }
 stated status numbers number tells none (suc n) m a o e = record { status = tells (suc n); leaves = λ f. rw (none (suc n)) }
 
-pub open-stated : (b : List ℤ) (m : Memory) (first : ℕ) (a : List ℕ) → Stated (openRefusal b m) m a (openCall b m first a)
+pub open-stated : (L : Limits) → (b : List ℤ) (m : Memory) (first : ℕ) (a : List ℕ) → Stated (openRefusal L b m) m a (openCall L b m first a)
 unfolding openOutcome
-open-stated b m first a = stated statusOf answerNumbers Refused (λ n. refl) (λ n. refl) (openRefusal b m) m a _ refl
+open-stated L b m first a = stated statusOf answerNumbers Refused (λ n. refl) (λ n. refl) (openRefusal L b m) m a _ refl
 
-module _ (s : Session) (b : List ℤ) (m : Memory) (seen : ℕ) (a : List ℕ) where
-  pub step-stated : (l : ℤ) → Stated (stepRefusal s b m (revision seen) (literal l)) m a (stepCall s b m seen l a)
+module _ (L : Limits) (s : Session) (b : List ℤ) (m : Memory) (seen : ℕ) (a : List ℕ) where
+  pub step-stated : (l : ℤ) → Stated (stepRefusal L s b m (revision seen) (literal l)) m a (stepCall L s b m seen l a)
   unfolding stepOutcome
-  step-stated l = stated statusOf answerNumbers Refused (λ n. refl) (λ n. refl) (stepRefusal s b m (revision seen) (literal l)) m a _ refl
+  step-stated l = stated statusOf answerNumbers Refused (λ n. refl) (λ n. refl) (stepRefusal L s b m (revision seen) (literal l)) m a _ refl
 
-  pub run-stated : (budget : ℕ) (preferred : List ℤ) → Stated (runRefusal s b m (revision seen) budget) m a (runCall s b m seen budget preferred a)
+  pub run-stated : (budget : ℕ) (preferred : List ℤ) → Stated (runRefusal L s b m (revision seen) budget) m a (runCall L s b m seen budget preferred a)
   unfolding runOf
-  run-stated budget preferred = stated ranStatus ranNumbers Stopped (λ n. refl) (λ n. refl) (runRefusal s b m (revision seen) budget) m a _ refl
+  run-stated budget preferred = stated ranStatus ranNumbers Stopped (λ n. refl) (λ n. refl) (runRefusal L s b m (revision seen) budget) m a _ refl
 
-pub page-stated : (b : List ℤ) (m : PageMemory) (start : ℕ) (preferred : List ℤ) (budget : ℕ) (a : List ℕ) → Stated (pageRefusal b m start) m a (pageCall b m start preferred budget a)
+pub page-stated : (L : Limits) → (b : List ℤ) (m : PageMemory) (start : ℕ) (preferred : List ℤ) (budget : ℕ) (a : List ℕ) → Stated (pageRefusal L b m start) m a (pageCall L b m start preferred budget a)
 unfolding pageOf
-page-stated b m start preferred budget a = stated pagedStatus pagedNumbers paged.the-variants.Refused (λ n. refl) (λ n. refl) (pageRefusal b m start) m a _ refl
+page-stated L b m start preferred budget a = stated pagedStatus pagedNumbers paged.the-variants.Refused (λ n. refl) (λ n. refl) (pageRefusal L b m start) m a _ refl

@@ -3,7 +3,7 @@ ghost use mathlib.Core.Path.{_≡_};
 ghost use Rattle.session.specs.Memory.{memory};
 ghost use Rattle.listing.specs.Page.{pageMemory};
 ghost use Rattle.mokihazureo.specs.Called.{lent, sessionOf};
-ghost use Rattle.mokihazureo.specs.Only.{CheckPromise, OpenPromise, StepPromise, RunPromise, PagePromise};
+ghost use Rattle.mokihazureo.specs.Promises.{CheckPromise, OpenPromise, StepPromise, RunPromise, PagePromise};
 use formula::Checked;
 use session::Revision;
 use words::Literal;

@@ -2,8 +2,9 @@
 
 -- the tables; a loop that looks for the first; the walk over the clauses, the look at one, and what it makes due
 pub mod Filled
+pub mod Sorted
 pub mod Occurring
-pub mod Levels
+pub mod Levelled
 pub mod First
 pub mod Walk
 pub mod Looks

@@ -70,10 +70,10 @@ module _ {A : Type 0} {z : A} {from to : ℕ} {l₀ : List A} where
     wiping-past h = sym (wiped-past z l i to h) ∙ w .same
 
 -- a variable is far from the least word, so an entry's literal has an opposite
-pub cuttable : {p : List ℤ} {t : Trail} {n i : ℕ} → Kept p t n → i < n → Cuttable i n t
-cuttable k h =
+pub cuttable : {p : List ℤ} {t : Trail} {n i : ℕ} → Kept p t n → length p ≤ limits .variables → i < n → Cuttable i n t
+cuttable k few h =
     let e = kept-named k h in
-    record { inside = h; room = kept-room k; small = omega (arith, variables-small, k .prefix .room, e .most) }
+    record { inside = h; room = kept-room k; small = omega (arith, variables-small, few, e .most) }
 
 -- a cut: the rest is set to 0, and the opposite x stands at its place
 pub flipped : {i n : ℕ} {t : Trail} → Cuttable i n t → {t′ : Trail} {x : ℤ} → t′ ≡ wipedTrail t (i + 1) n → x ≡ opposite (getD (t .lits) i (pos 0)) → search (put t′ i (entry 0 x)) (i + 1) Open ≡ flip i (search t n Open)
@@ -89,7 +89,7 @@ proposal-chosen proposal first k = rw (ne-eqb (natAbs (proposal .0)) 0 k)
 -- its kind: a variable past the last one is not universal, and of the others the table says it
 pub kind-over : (p : List ℤ) → Bound p → (l : ℤ) → limits .variables < natAbs l → 1 ≡ kindOf p l
 unfolding universal
-kind-over p b l h = rw (to-false (universal p l) (λ e. let k = in-named (length p) p (b .named) (mem-e (negℤ (pos (natAbs l))) p e) in omega (arith, k .most, natAbs-neg (pos (natAbs l)), b .room)))
+kind-over p b l h = rw (to-false (universal p l) (λ e. let k = in-named (length p) p (b .binds .named) (mem-e (negℤ (pos (natAbs l))) p e) in omega (arith, k .most, natAbs-neg (pos (natAbs l)), b .room)))
 
 pub kind-by : (p : List ℤ) → Bound p → (l : ℤ) (t : List ℕ) → Quantifiers p t → (v : ℕ) → v ≡ natAbs l → cond (eqb (getD t v 0) 2) 2 1 ≡ kindOf p l
 kind-by p b l t said v is = rw (is, quantifier-in p b t said l)

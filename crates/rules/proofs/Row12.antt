@@ -29,7 +29,7 @@ use Rattle.rules.specs.Laws.Records.{room-less, record-length, record-ge
 -- ---- kinds
 -- the table tells a variable's quantifier, since it has one only
 kind-test : (p : List ℤ) → Bound p → (l : ℤ) → Named (length p) l → (k q : ℕ) → eqb q 2 ≡ universal p l → wrongKind k q ≡ badKind p (entry k l)
-kind-test p b l n k q e = rw (e, quantifier (length p) p (b .named) (b .once) refl l n) (go (existential p l))
+kind-test p b l n k q e = rw (e, quantifier (length p) p (b .binds .named) (b .binds .once) refl l n) (go (existential p l))
   where
     go : (e : Bool) → (ltb 2 k || (eqb k 1 && not e) || (eqb k 2 && not (not e))) ≡ (ltb 2 k || (eqb k 1 && not e) || (eqb k 2 && e))
     go true = refl

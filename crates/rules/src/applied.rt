@@ -1,5 +1,6 @@
 // One rule applied to the lent buffers.
 ghost use mathlib.Core.Path.{_≡_};
+ghost use Rattle.formula.specs.Limits.{limits};
 ghost use Rattle.formula.specs.Formula.{prefixOf};
 ghost use Rattle.rules.specs.Trail.{trail};
 ghost use Rattle.rules.specs.Apply.{kindOf, moveOf};
@@ -77,7 +78,7 @@ pub fn apply(
     rule: Rule,
     proposal: Literal,
 ) -> Reached
-    requires { ⌜ OnBlock (now block) (trail (now lits) (now kinds)) count ⌝ }
+    requires { ⌜ OnBlock limits (now block) (trail (now lits) (now kinds)) count ⌝ }
     requires { ⌜ Fitting (prefixOf (now block)) count rule ⌝ }
     ensures { λ r. ⌜ ApplyPromise (now (block .entry)) (trail (now (lits .entry)) (now (kinds .entry))) count rule proposal r (trail (now (lits .exit)) (now (kinds .exit))) ⌝ }
 {

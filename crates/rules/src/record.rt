@@ -1,5 +1,6 @@
 // Row 12, over the whole record: linear in the record and the prefix.
 ghost use mathlib.Core.Path.{_≡_};
+ghost use Rattle.formula.specs.Limits.{limits};
 ghost use Rattle.words.specs.Lists.{any};
 ghost use Rattle.rules.specs.Trail.{trail, recordOf};
 ghost use Rattle.rules.specs.Check.{badKind};
@@ -40,7 +41,7 @@ fn bad_kinds(prefix: &[i32], lits: &[i32], kinds: &[u8], count: usize) -> bool
 
 // Whether the record is turned away.
 pub fn bad_record(block: &[i32], lits: &[i32], kinds: &[u8], count: usize) -> bool
-    requires { ⌜ OnBuffers (now block) (trail (now lits) (now kinds)) ⌝ }
+    requires { ⌜ OnBuffers limits (now block) (trail (now lits) (now kinds)) ⌝ }
     ensures { λ r. ⌜ BadRecordPromise (now (block .entry)) (trail (now (lits .entry)) (now (kinds .entry))) count r ⌝ }
 {
     let prefix = formula::prefix(block);

@@ -32,28 +32,29 @@ use Rattle.session.specs.Run.{trip, runFrom, runOf}
 use Rattle.session.specs.Laws.Accepted.{guarded, step-from-15, run-from-15}
 use Rattle.session.specs.Laws.Runs.{travelled}
 use Rattle.session.specs.Inner.Guards.{sessionRefusal, proposalRefusal}
+use Rattle.formula.specs.Limits.{limits}
 
 -- ---- opening
-module _ (b : List ℤ) (m : Memory) (rev : Revision) {r : ℕ} (e : r ≡ openRefusal b m) where
-  pub open-stops : (r ≡ 0 → ⊥) → outcome (Refused r) m ≡ openOutcome b m rev
+module _ (b : List ℤ) (m : Memory) (rev : Revision) {r : ℕ} (e : r ≡ openRefusal limits b m) where
+  pub open-stops : (r ≡ 0 → ⊥) → outcome (Refused r) m ≡ openOutcome limits b m rev
   unfolding openOutcome
   open-stops f = rw (← e) (unless-number Refused r m _ f)
 
-  pub open-clears : r ≡ 0 → {n : ℕ} → n ≡ variablesOf b → {t′ : Trail} → t′ ≡ wipedTrail (m .trail) 0 n → outcome (To (session 0 (rev .0) Open)) (record { trail = t′ }) ≡ openOutcome b m rev
+  pub open-clears : r ≡ 0 → {n : ℕ} → n ≡ variablesOf b → {t′ : Trail} → t′ ≡ wipedTrail (m .trail) 0 n → outcome (To (session 0 (rev .0) Open)) (record { trail = t′ }) ≡ openOutcome limits b m rev
   unfolding openOutcome
   open-clears z is w = rw (← e, z, ← is, ← w)
 
 -- ---- a step
-module _ (s : Session) (b : List ℤ) (m : Memory) (seen : Revision) (l : Literal) {r : ℕ} (e : r ≡ sessionRefusal s b m seen) where
-  pub step-stops : (r ≡ 0 → ⊥) → outcome (Refused r) m ≡ stepOutcome s b m seen l
+module _ (s : Session) (b : List ℤ) (m : Memory) (seen : Revision) (l : Literal) {r : ℕ} (e : r ≡ sessionRefusal limits s b m seen) where
+  pub step-stops : (r ≡ 0 → ⊥) → outcome (Refused r) m ≡ stepOutcome limits s b m seen l
   unfolding stepOutcome stepRefusal sessionRefusal
-  step-stops f = rw (← stops (sessionRows s b m seen) (ofStep s b m seen l) e f) (unless-number Refused r m _ f)
+  step-stops f = rw (← stops (sessionRows limits s b m seen) (ofStep s b m seen l) e f) (unless-number Refused r m _ f)
 
   module _ (z : r ≡ 0) where
-    from-15 : stepRefusal s b m seen l ≡ refusalOf (ofStep s b m seen l)
-    from-15 = step-from-15 s b m seen l (sym e ∙ z)
+    from-15 : stepRefusal limits s b m seen l ≡ refusalOf (ofStep s b m seen l)
+    from-15 = step-from-15 limits s b m seen l (sym e ∙ z)
 
-    pub step-last : s .revision .0 ≡ lastRevision → outcome (Refused 15) m ≡ stepOutcome s b m seen l
+    pub step-last : s .revision .0 ≡ lastRevision → outcome (Refused 15) m ≡ stepOutcome limits s b m seen l
     unfolding stepOutcome
     step-last h = rw (from-15, eq-eqb (s .revision .0) lastRevision h)
 
@@ -62,47 +63,47 @@ module _ (s : Session) (b : List ℤ) (m : Memory) (seen : Revision) (l : Litera
         {rule : Rule} (is : rule ≡ due (formulaOf b) (recordOf (m .trail) (s .length)))
         {q : ℕ} (proper : q ≡ proposalRefusal (prefixOf b) (among (take (s .length) (m .trail .lits))) rule l)
       where
-        step-from-16 : stepRefusal s b m seen l ≡ q
+        step-from-16 : stepRefusal limits s b m seen l ≡ q
         unfolding proposalRefusal formulaOf
         step-from-16 =
-            let g = guarded s b m seen (sym e ∙ z) in
+            let g = guarded limits s b m seen (sym e ∙ z) in
             rw (from-15, ne-eqb (s .revision .0) lastRevision below, kept-true (prefixOf b) (m .trail) (s .length) (g .on .kept), ← is, proper)
 
-        pub step-improper : (q ≡ 0 → ⊥) → outcome (Refused q) m ≡ stepOutcome s b m seen l
+        pub step-improper : (q ≡ 0 → ⊥) → outcome (Refused q) m ≡ stepOutcome limits s b m seen l
         unfolding stepOutcome
         step-improper f = rw step-from-16 (unless-number Refused q m _ f)
 
         pub step-moves : q ≡ 0 → (t : Reached) (t′ : Trail)
             → reached t t′ ≡ apply (prefixOf b) rule (l .0) (search (m .trail) (s .length) Open)
             → {s′ : Session} → s′ ≡ session (t .count) (s .revision .0 + 1) (t .state)
-            → outcome (To s′) (record { trail = t′ }) ≡ stepOutcome s b m seen l
+            → outcome (To s′) (record { trail = t′ }) ≡ stepOutcome limits s b m seen l
         unfolding stepOutcome
         step-moves y t t′ a is′ =
-            let g = guarded s b m seen (sym e ∙ z) in
+            let g = guarded limits s b m seen (sym e ∙ z) in
             rw (step-from-16, y, g .live, ← is, ← a, is′)
 
 -- ---- a run
-module _ (s : Session) (b : List ℤ) (m : Memory) (seen : Revision) (budget : ℕ) (preferred : List ℤ) {r : ℕ} (e : r ≡ sessionRefusal s b m seen) where
-  pub run-stops : (r ≡ 0 → ⊥) → outcome (Stopped r) m ≡ runOf s b m seen budget preferred
+module _ (s : Session) (b : List ℤ) (m : Memory) (seen : Revision) (budget : ℕ) (preferred : List ℤ) {r : ℕ} (e : r ≡ sessionRefusal limits s b m seen) where
+  pub run-stops : (r ≡ 0 → ⊥) → outcome (Stopped r) m ≡ runOf limits s b m seen budget preferred
   unfolding runOf runRefusal sessionRefusal
-  run-stops f = rw (← stops (sessionRows s b m seen) (ofRun s b m seen budget) e f) (unless-number Stopped r m _ f)
+  run-stops f = rw (← stops (sessionRows limits s b m seen) (ofRun s b m seen budget) e f) (unless-number Stopped r m _ f)
 
   module _ (z : r ≡ 0) where
-    pub run-over : lastRevision - s .revision .0 < budget → outcome (Stopped 15) m ≡ runOf s b m seen budget preferred
+    pub run-over : lastRevision - s .revision .0 < budget → outcome (Stopped 15) m ≡ runOf limits s b m seen budget preferred
     unfolding runOf
-    run-over h = rw (run-from-15 s b m seen budget (sym e ∙ z), lt-ltb lastRevision (s .revision .0 + budget) (omega arith))
+    run-over h = rw (run-from-15 limits s b m seen budget (sym e ∙ z), lt-ltb lastRevision (s .revision .0 + budget) (omega arith))
 
     pub run-moves : s .revision .0 ≤ lastRevision → budget ≤ lastRevision - s .revision .0
         → (t : Reached) (steps : ℕ) (t′ : Trail) → trip (reached t t′) steps ≡ runFrom (formulaOf b) preferred budget (search (m .trail) (s .length) Open) 0
         → {s′ : Session} → s′ ≡ session (t .count) (s .revision .0 + steps) (t .state)
-        → outcome (Until s′ steps) (record { trail = t′ }) ≡ runOf s b m seen budget preferred
+        → outcome (Until s′ steps) (record { trail = t′ }) ≡ runOf limits s b m seen budget preferred
     unfolding runOf
     run-moves low h t steps t′ a d =
-        let g = guarded s b m seen (sym e ∙ z) in
-        rw (run-from-15 s b m seen budget (sym e ∙ z), le-ltb lastRevision (s .revision .0 + budget) (omega arith), g .live, ← a, d)
+        let g = guarded limits s b m seen (sym e ∙ z) in
+        rw (run-from-15 limits s b m seen budget (sym e ∙ z), le-ltb lastRevision (s .revision .0 + budget) (omega arith), g .live, ← a, d)
 
 -- a run's steps are at most its budget
-pub steps-within : {b : List ℤ} {t : Trail} {n : ℕ} → OnBlock b t n → (budget : ℕ) (preferred : List ℤ) {u : Search} {steps : ℕ}
+pub steps-within : {b : List ℤ} {t : Trail} {n : ℕ} → OnBlock limits b t n → (budget : ℕ) (preferred : List ℤ) {u : Search} {steps : ℕ}
     → trip u steps ≡ runFrom (formulaOf b) preferred budget (search t n Open) 0 → steps ≤ budget
 unfolding formulaOf
 steps-within {b} {t} {n} o budget preferred e =

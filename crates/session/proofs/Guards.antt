@@ -35,43 +35,43 @@ refused-some zero k e z = let y : _≡_ {A = ℕ} 0 1 = cc in omega arith
 refused-some (suc n) k e z = let y : k ≡ suc n = cc in omega arith
 
 module _ (b : List ℤ) (m : Memory) {r : Checked} (e : r ≡ checkedOf (refusal limits b)) where
-  pub block-refused : (k : ℕ) → r ≡ Refused k → k ≡ openRefusal b m
+  pub block-refused : (k : ℕ) → r ≡ Refused k → k ≡ openRefusal limits b m
   unfolding openRefusal refusal
   block-refused k h = stops (rows limits b) (ofBuffers b m) (sym (checked-refused (refusal limits b) k (sym e ∙ h))) (refused-some (refusal limits b) k (sym e ∙ h))
 
   module _ (h : r ≡ Accepted) {t : Bool} (tested : t ≡ short b m) where
-    block-passed : openRefusal b m ≡ refusalOf (ofBuffers b m)
-    block-passed = from-11 b m (checked-accepted (refusal limits b) (sym e ∙ h))
+    block-passed : openRefusal limits b m ≡ refusalOf (ofBuffers b m)
+    block-passed = from-11 limits b m (checked-accepted (refusal limits b) (sym e ∙ h))
 
-    pub buffers-short : t ≡ true → 11 ≡ openRefusal b m
+    pub buffers-short : t ≡ true → 11 ≡ openRefusal limits b m
     buffers-short x = rw (block-passed, ← tested, x)
 
-    pub buffers-pass : t ≡ false → 0 ≡ openRefusal b m
+    pub buffers-pass : t ≡ false → 0 ≡ openRefusal limits b m
     buffers-pass x = rw (block-passed, ← tested, x)
 
 -- ---- rows 1 to 14
-module _ (s : Session) (b : List ℤ) (m : Memory) (seen : Revision) {r : ℕ} (e : r ≡ openRefusal b m) where
-  pub session-buffers : (r ≡ 0 → ⊥) → r ≡ sessionRefusal s b m seen
+module _ (s : Session) (b : List ℤ) (m : Memory) (seen : Revision) {r : ℕ} (e : r ≡ openRefusal limits b m) where
+  pub session-buffers : (r ≡ 0 → ⊥) → r ≡ sessionRefusal limits s b m seen
   unfolding openRefusal sessionRefusal
-  session-buffers f = stops (openRows b m) (ofSession s b m seen) e f
+  session-buffers f = stops (openRows limits b m) (ofSession s b m seen) e f
 
   module _ (z : r ≡ 0) where
-    buffers-passed : sessionRefusal s b m seen ≡ refusalOf (ofSession s b m seen)
-    buffers-passed = from-12 s b m seen (sym e ∙ z)
+    buffers-passed : sessionRefusal limits s b m seen ≡ refusalOf (ofSession s b m seen)
+    buffers-passed = from-12 limits s b m seen (sym e ∙ z)
 
     module _ {t : Bool} (bad : t ≡ badRecord (prefixOf b) (m .trail) (s .length)) where
-      pub session-record : t ≡ true → 12 ≡ sessionRefusal s b m seen
+      pub session-record : t ≡ true → 12 ≡ sessionRefusal limits s b m seen
       session-record x = rw (buffers-passed, ← bad, x)
 
       module _ (x : t ≡ false) {u : Bool} (ended : u ≡ over (s .state)) where
-        pub session-over : u ≡ true → 13 ≡ sessionRefusal s b m seen
+        pub session-over : u ≡ true → 13 ≡ sessionRefusal limits s b m seen
         session-over y = rw (buffers-passed, ← bad, x, ← ended, y)
 
         module _ (y : u ≡ false) where
-          pub session-stale : (seen .0 ≡ s .revision .0 → ⊥) → 14 ≡ sessionRefusal s b m seen
+          pub session-stale : (seen .0 ≡ s .revision .0 → ⊥) → 14 ≡ sessionRefusal limits s b m seen
           session-stale f = rw (buffers-passed, ← bad, x, ← ended, y, ne-eqb (seen .0) (s .revision .0) f)
 
-          pub session-passes : seen .0 ≡ s .revision .0 → 0 ≡ sessionRefusal s b m seen
+          pub session-passes : seen .0 ≡ s .revision .0 → 0 ≡ sessionRefusal limits s b m seen
           session-passes q = rw (buffers-passed, ← bad, x, ← ended, y, eq-eqb (seen .0) (s .revision .0) q)
 
 -- ---- rows 16 and 17

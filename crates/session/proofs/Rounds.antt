@@ -26,8 +26,9 @@ use Rattle.session.specs.Refusals.{over}
 use Rattle.session.specs.Run.{trip, advance, runFrom}
 use Rattle.session.specs.Laws.Accepted.{over-open}
 use Rattle.session.specs.Laws.Runs.{advance-keeps, run-ended, loop-more, loop-last}
+use Rattle.formula.specs.Limits.{limits}
 
-module _ {b : List ℤ} {t : Trail} {n : ℕ} (o : OnBlock b t n) (preferred : List ℤ) where
+module _ {b : List ℤ} {t : Trail} {n : ℕ} (o : OnBlock limits b t n) (preferred : List ℤ) where
   -- the due rule, with the proposal that the preferences give it
   pub advanced : {rule : Rule} → rule ≡ due (formulaOf b) (recordOf t n)
       → {l : Literal} → l ≡ literal (proposalOf (prefixOf b) (among (take n (t .lits))) preferred rule)
@@ -40,7 +41,7 @@ module _ {b : List ℤ} {t : Trail} {n : ℕ} (o : OnBlock b t n) (preferred : L
   abbrev onward : Search
   onward = advance (formulaOf b) preferred (search t n Open)
 
-  advance-on : OnBlock b (onward .trail) (onward .count)
+  advance-on : OnBlock limits b (onward .trail) (onward .count)
   unfolding formulaOf
   advance-on = record { block = o .block; kept = advance-keeps (formulaOf b) preferred (search t n Open) (o .kept) }
 
@@ -50,13 +51,13 @@ module _ {b : List ℤ} {t : Trail} {n : ℕ} (o : OnBlock b t n) (preferred : L
 
 -- ---- the loop: from the first buffers to the present ones, with some steps of the budget done
 pub record Round (b : List ℤ) (t₀ : Trail) (n budget : ℕ) (preferred : List ℤ) (t : Trail) (at : Reached) (steps : ℕ) : Type 0 where
-  pub on : OnBlock b t (at .count)
+  pub on : OnBlock limits b t (at .count)
   pub within : steps ≤ budget
   pub lits-long : length (t .lits) ≡ length (t₀ .lits)
   pub kinds-long : length (t .kinds) ≡ length (t₀ .kinds)
   pub same : runFrom (formulaOf b) preferred (budget - steps) (reached at t) steps ≡ runFrom (formulaOf b) preferred budget (search t₀ n Open) 0
 
-pub begun : {b : List ℤ} {t : Trail} {n : ℕ} → OnBlock b t n → (budget : ℕ) (preferred : List ℤ) → Round b t n budget preferred t (record { count = n; state = Open }) 0
+pub begun : {b : List ℤ} {t : Trail} {n : ℕ} → OnBlock limits b t n → (budget : ℕ) (preferred : List ℤ) → Round b t n budget preferred t (record { count = n; state = Open }) 0
 begun o budget preferred = record { on = o; within = omega arith; lits-long = refl; kinds-long = refl; same = rw sub-zero }
 
 module _
@@ -79,7 +80,7 @@ module _
         let live = over-open (at .state) (sym e ∙ f) in
         let long = advance-lengths (now .on) preferred in
         record {
-          on = subst (λ (u : Search). OnBlock b (u .trail) (u .count)) (sym a) (advance-on (now .on) preferred);
+          on = subst (λ (u : Search). OnBlock limits b (u .trail) (u .count)) (sym a) (advance-on (now .on) preferred);
           within = omega arith;
           lits-long = ap (λ (u : Search). length (u .trail .lits)) a ∙ long .0 ∙ now .lits-long;
           kinds-long = ap (λ (u : Search). length (u .trail .kinds)) a ∙ long .1 ∙ now .kinds-long;

@@ -4,6 +4,7 @@ use mathlib.Core.List.{List, [], _∷_}
 use lib.IntN.{ℤ}
 use Rattle.words.specs.Outcomes.{Outcome}
 use Rattle.words.specs.declared.Literal.{Literal}
+use Rattle.formula.specs.Limits.{Limits}
 use Rattle.session.specs.declared.Revision.{Revision}
 use Rattle.session.specs.declared.Session.{Session}
 use Rattle.session.specs.declared.Answer.{Answer}
@@ -37,16 +38,16 @@ afterRun d (Until s n) m = desk s m (d .steps + n)
 afterRun d (Stopped n) m = desk (d .latest) m (d .steps)
 
 -- the calls on a desk
-abbrev pub stepAt : List ℤ → Desk → Revision → Literal → Outcome Memory Answer
-stepAt b d = stepOutcome (d .latest) b (d .memory)
+abbrev pub stepAt : Limits → List ℤ → Desk → Revision → Literal → Outcome Memory Answer
+stepAt L b d = stepOutcome L (d .latest) b (d .memory)
 
-abbrev pub runAt : List ℤ → Desk → Revision → ℕ → List ℤ → Outcome Memory Ran
-runAt b d = runOf (d .latest) b (d .memory)
+abbrev pub runAt : Limits → List ℤ → Desk → Revision → ℕ → List ℤ → Outcome Memory Ran
+runAt L b d = runOf L (d .latest) b (d .memory)
 
-unfoldable pub call : List ℤ → Desk → Call → Desk
-call b d (step seen l) = let o = stepAt b d seen l in afterStep d (o .answer) (o .memory)
-call b d (run seen budget preferred) = let o = runAt b d seen budget preferred in afterRun d (o .answer) (o .memory)
+unfoldable pub call : Limits → List ℤ → Desk → Call → Desk
+call L b d (step seen l) = let o = stepAt L b d seen l in afterStep d (o .answer) (o .memory)
+call L b d (run seen budget preferred) = let o = runAt L b d seen budget preferred in afterRun d (o .answer) (o .memory)
 
-unfoldable pub play : List ℤ → Desk → List Call → Desk
-play b d [] = d
-play b d (c ∷ cs) = play b (call b d c) cs
+unfoldable pub play : Limits → List ℤ → Desk → List Call → Desk
+play L b d [] = d
+play L b d (c ∷ cs) = play L b (call L b d c) cs

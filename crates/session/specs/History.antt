@@ -9,7 +9,7 @@ use native.Mathlib.Omega.{arith}
 use lib.IntN.{ℤ, pos}
 use Rattle.words.specs.Outcomes.{Outcome}
 use Rattle.words.specs.declared.Literal.{Literal}
-use Rattle.formula.specs.Limits.{limits}
+use Rattle.formula.specs.Limits.{Limits}
 use Rattle.formula.specs.Formula.{formulaOf, variablesOf, prefixOf}
 use Rattle.formula.specs.Block.{refusal}
 use Rattle.formula.specs.Truth.{true?}
@@ -24,7 +24,7 @@ use Rattle.rules.specs.Laws.Wiped.{wiped-length}
 use Rattle.rules.specs.Laws.Good.{good-kept}
 use Rattle.rules.specs.Search.{standingOf}
 use Rattle.rules.specs.Inner.Ready.{KeptIn}
-use Rattle.rules.specs.Laws.Accepted.{prefix-length, accepted-bound}
+use Rattle.rules.specs.Laws.Accepted.{prefix-length, accepted-binds}
 use Rattle.session.specs.declared.Revision.{Revision}
 use Rattle.session.specs.declared.Session.{Session}
 use Rattle.session.specs.declared.Answer.{Answer}
@@ -46,7 +46,7 @@ verdictOf true = Valid
 verdictOf false = Unsat
 
 -- what is asked of a desk of a session opened at the revision `first` on the block b
-pub record Demand (b : List ℤ) (first : ℕ) (d : Desk) : Type 0 where
+pub record Demand (L : Limits) (b : List ℤ) (first : ℕ) (d : Desk) : Type 0 where
   -- [demand.2.steps]
   pub steps : d .steps < 2 ^ suc (variablesOf b)
   pub open-fewer : d .latest .state ≡ Open → suc (d .steps) < 2 ^ suc (variablesOf b)
@@ -58,12 +58,12 @@ pub record Demand (b : List ℤ) (first : ℕ) (d : Desk) : Type 0 where
   pub unsat-false : d .latest .state ≡ Unsat → true? (formulaOf b) ≡ false
   -- [demand.2.goes-on]
   pub accepted : d .latest .state ≡ Open → (d .latest .revision .0 ≡ lastRevision → ⊥)
-      → (s : Session) × (stepAt b d (d .latest .revision) (literal (pos 0)) .answer ≡ To s)
+      → (s : Session) × (stepAt L b d (d .latest .revision) (literal (pos 0)) .answer ≡ To s)
   -- [demand.2.last] whatever is proposed; and so is a run that would go past the last revision
   pub refused : d .latest .state ≡ Open → d .latest .revision .0 ≡ lastRevision
-      → (l : Literal) → stepAt b d (d .latest .revision) l .answer ≡ Refused 15
+      → (l : Literal) → stepAt L b d (d .latest .revision) l .answer ≡ Refused 15
   pub run-stopped : d .latest .state ≡ Open → (budget : ℕ) → lastRevision < d .latest .revision .0 + budget
-      → (preferred : List ℤ) → runAt b d (d .latest .revision) budget preferred .answer ≡ Stopped 15
+      → (preferred : List ℤ) → runAt L b d (d .latest .revision) budget preferred .answer ≡ Stopped 15
 
 -- ---- what every call keeps
 record Invariant (b : List ℤ) (first : ℕ) (d : Desk) : Type 0 where
@@ -71,60 +71,60 @@ record Invariant (b : List ℤ) (first : ℕ) (d : Desk) : Type 0 where
   kept : KeptIn (prefixOf b) (searchAt d)
   revision : d .latest .revision .0 ≡ first + d .steps
 
-module _ (b : List ℤ) (first : ℕ) where
+module _ (L : Limits) (b : List ℤ) (first : ℕ) where
   -- one more rule, or none
-  step-holds : (d : Desk) (seen : Revision) (l : Literal) → Invariant b first d → Invariant b first (call b d (step seen l))
+  step-holds : (d : Desk) (seen : Revision) (l : Literal) → Invariant b first d → Invariant b first (call L b d (step seen l))
   unfolding call
-  step-holds d seen l r = go (stepAt b d seen l .answer) refl
+  step-holds d seen l r = go (stepAt L b d seen l .answer) refl
     where
-      go : (a : Answer) → stepAt b d seen l .answer ≡ a → Invariant b first (afterStep d a (stepAt b d seen l .memory))
+      go : (a : Answer) → stepAt L b d seen l .answer ≡ a → Invariant b first (afterStep d a (stepAt L b d seen l .memory))
       go (To s′) e =
-          let f = accepted-step (d .latest) b (d .memory) seen l s′ e in
+          let f = accepted-step L (d .latest) b (d .memory) seen l s′ e in
           let x : d .steps + 1 ≡ suc (d .steps) = omega arith in
           let y = r .revision in
           let z = f .revision in
           record { path = rw x (path-snoc (formulaOf b) (rw (f .live) at (r .path)) (f .step)); kept = f .kept; revision = omega arith }
-      go (Refused n) e = let w = step-refused-leaves (d .latest) b (d .memory) seen l n e in rw (w .memory) r
+      go (Refused n) e = let w = step-refused-leaves L (d .latest) b (d .memory) seen l n e in rw (w .memory) r
 
-  hand-holds : (preferred : List ℤ) (c : ℕ) (d : Desk) → Invariant b first d → Invariant b first (byHand b preferred c d)
+  hand-holds : (preferred : List ℤ) (c : ℕ) (d : Desk) → Invariant b first d → Invariant b first (byHand L b preferred c d)
   unfolding byHand handed
   hand-holds preferred zero d r = r
-  hand-holds preferred (suc c) d r = hand-holds preferred c (handed b preferred d) (step-holds d _ _ r)
+  hand-holds preferred (suc c) d r = hand-holds preferred c (handed L b preferred d) (step-holds d _ _ r)
 
-  hand-calls : (preferred : List ℤ) (n : ℕ) (d : Desk) → (calls : List Call) × (play b d calls ≡ byHand b preferred n d)
+  hand-calls : (preferred : List ℤ) (n : ℕ) (d : Desk) → (calls : List Call) × (play L b d calls ≡ byHand L b preferred n d)
   unfolding byHand handed play
   hand-calls preferred zero d = ([], refl)
-  hand-calls preferred (suc n) d = let (calls, e) = hand-calls preferred n (handed b preferred d) in (step _ _ ∷ calls, e)
+  hand-calls preferred (suc n) d = let (calls, e) = hand-calls preferred n (handed L b preferred d) in (step _ _ ∷ calls, e)
 
-  call-holds : (d : Desk) (c : Call) → Invariant b first d → Invariant b first (call b d c)
+  call-holds : (d : Desk) (c : Call) → Invariant b first d → Invariant b first (call L b d c)
   call-holds d (step seen l) r = step-holds d seen l r
-  call-holds d (run seen budget preferred) r = rw (run-is-steps b d seen budget preferred) (hand-holds preferred _ d r)
+  call-holds d (run seen budget preferred) r = rw (run-is-steps L b d seen budget preferred) (hand-holds preferred _ d r)
 
-  play-holds : (cs : List Call) (d : Desk) → Invariant b first d → Invariant b first (play b d cs)
+  play-holds : (cs : List Call) (d : Desk) → Invariant b first d → Invariant b first (play L b d cs)
   unfolding play
   play-holds [] d r = r
-  play-holds (c ∷ cs) d r = play-holds cs (call b d c) (call-holds d c r)
+  play-holds (c ∷ cs) d r = play-holds cs (call L b d c) (call-holds d c r)
 
 -- ---- what is kept is what is asked
-module _ (b : List ℤ) (block : refusal limits b ≡ 0) (first : ℕ) where
-  guard : (d : Desk) → Invariant b first d → d .latest .state ≡ Open → Guarded (d .latest) b (d .memory) (d .latest .revision)
+module _ (L : Limits) (b : List ℤ) (block : refusal L b ≡ 0) (first : ℕ) where
+  guard : (d : Desk) → Invariant b first d → d .latest .state ≡ Open → Guarded L (d .latest) b (d .memory) (d .latest .revision)
   guard d r o = record { on = record { block = block; kept = r .kept }; live = o; current = refl }
 
-  demand : (d : Desk) → Invariant b first d → Demand b first d
+  demand : (d : Desk) → Invariant b first d → Demand L b first d
   unfolding formulaOf
   demand d r =
-      let any = accepted-any-order limits b block in
+      let any = accepted-any-order L b block in
       record {
-        steps = rw (prefix-length b block) at (any .short (r .path));
-        open-fewer = λ o. rw (prefix-length b block) at (any .fewer (rw o at (r .path)));
+        steps = rw (prefix-length L b block) at (any .short (r .path));
+        open-fewer = λ o. rw (prefix-length L b block) at (any .fewer (rw o at (r .path)));
         revision = r .revision;
         valid-true = λ e. any .right true (rw e at (r .path));
         unsat-false = λ e. any .right false (rw e at (r .path));
         accepted = λ o h.
-            let e = step-passes _ _ _ _ (guard d r o) h (literal (pos 0)) (inl refl) (inl refl) in
-            (_, ap (λ (o : Outcome Memory Answer). o .answer) (accepted-is _ _ _ _ _ e));
-        refused = λ o h l. ap (λ (o : Outcome Memory Answer). o .answer) (step-refused _ _ _ _ l 14 (step-last _ _ _ _ (guard d r o) h l));
-        run-stopped = λ o budget h preferred. ap (λ (o : Outcome Memory Ran). o .answer) (run-refused _ _ _ _ budget preferred 14 (run-last _ _ _ _ (guard d r o) budget h));
+            let e = step-passes L _ _ _ _ (guard d r o) h (literal (pos 0)) (inl refl) (inl refl) in
+            (_, ap (λ (o : Outcome Memory Answer). o .answer) (accepted-is L _ _ _ _ _ e));
+        refused = λ o h l. ap (λ (o : Outcome Memory Answer). o .answer) (step-refused L _ _ _ _ l 14 (step-last L _ _ _ _ (guard d r o) h l));
+        run-stopped = λ o budget h preferred. ap (λ (o : Outcome Memory Ran). o .answer) (run-refused L _ _ _ _ budget preferred 14 (run-last L _ _ _ _ (guard d r o) budget h));
       }
 
   -- a session that isn't open tells the truth
@@ -138,23 +138,23 @@ module _ (b : List ℤ) (block : refusal limits b ≡ 0) (first : ℕ) where
 
 -- ---- after an accepted opening
 -- the desk that it leaves
-abbrev pub freshDesk : List ℤ → Memory → Revision → Session → Desk
-freshDesk b m rev s = desk s (openOutcome b m rev .memory) 0
+abbrev pub freshDesk : Limits → List ℤ → Memory → Revision → Session → Desk
+freshDesk L b m rev s = desk s (openOutcome L b m rev .memory) 0
 
-module _ (b : List ℤ) (m : Memory) (rev : Revision) (s : Session) (a : openOutcome b m rev .answer ≡ To s) where
-  open-passed : openRefusal b m ≡ 0
+module _ (L : Limits) (b : List ℤ) (m : Memory) (rev : Revision) (s : Session) (a : openOutcome L b m rev .answer ≡ To s) where
+  open-passed : openRefusal L b m ≡ 0
   unfolding openOutcome
-  open-passed = unless-to (openRefusal b m) m _ s a
+  open-passed = unless-to (openRefusal L b m) m _ s a
 
-  block : refusal limits b ≡ 0
-  block = opened b m open-passed .block
+  block : refusal L b ≡ 0
+  block = opened L b m open-passed .block
 
-  begun : Invariant b (rev .0) (freshDesk b m rev s)
+  begun : Invariant b (rev .0) (freshDesk L b m rev s)
   unfolding openOutcome formulaOf recordOf
   begun =
-      let room = opened b m open-passed .room in
-      let bound = accepted-bound b block in
-      let n = prefix-length b block in
+      let room = opened L b m open-passed .room in
+      let bound = accepted-binds L b block in
+      let n = prefix-length L b block in
       let a′ = rw open-passed at a in
       let z : s ≡ session 0 (rev .0) Open = cc in
       rw (open-passed, z)
@@ -168,46 +168,46 @@ module _ (b : List ℤ) (m : Memory) (rev : Revision) (s : Session) (a : openOut
         revision = omega arith;
       })
 
-  kept-after : (calls : List Call) → Invariant b (rev .0) (play b (freshDesk b m rev s) calls)
-  kept-after calls = play-holds b (rev .0) calls (freshDesk b m rev s) begun
+  kept-after : (calls : List Call) → Invariant b (rev .0) (play L b (freshDesk L b m rev s) calls)
+  kept-after calls = play-holds L b (rev .0) calls (freshDesk L b m rev s) begun
 
   -- [order.rules] the accepted steps of a history, exactly as many as it counts, are one path of the rules from the empty record
-  pub history-path : (calls : List Call) → let d = play b (freshDesk b m rev s) calls in Path (formulaOf b) (d .steps) (going []) (standingOf (searchAt d))
+  pub history-path : (calls : List Call) → let d = play L b (freshDesk L b m rev s) calls in Path (formulaOf b) (d .steps) (going []) (standingOf (searchAt d))
   history-path calls = kept-after calls .path
 
   -- [demand.2.history] whatever is called
-  pub any-history : (calls : List Call) → Demand b (rev .0) (play b (freshDesk b m rev s) calls)
-  any-history calls = demand b block (rev .0) _ (kept-after calls)
+  pub any-history : (calls : List Call) → Demand L b (rev .0) (play L b (freshDesk L b m rev s) calls)
+  any-history calls = demand L b block (rev .0) _ (kept-after calls)
 
   -- [demand.2.steps] so an accepted run ends the session, with the truth, if the steps so far and its budget are together at least 2^(V+1) - 1. A
   -- budget has 32 bits: with 32 variables or more none is so large, and a fresh session may need more runs than one
-  pub enough-ends : (calls : List Call) (seen : Revision) (budget : ℕ) (preferred : List ℤ) (s′ : Session) (c : ℕ) → let d = play b (freshDesk b m rev s) calls in
-      runAt b d seen budget preferred .answer ≡ Until s′ c → 2 ^ suc (variablesOf b) ≤ suc (d .steps + budget) → s′ .state ≡ verdictOf (true? (formulaOf b))
+  pub enough-ends : (calls : List Call) (seen : Revision) (budget : ℕ) (preferred : List ℤ) (s′ : Session) (c : ℕ) → let d = play L b (freshDesk L b m rev s) calls in
+      runAt L b d seen budget preferred .answer ≡ Until s′ c → 2 ^ suc (variablesOf b) ≤ suc (d .steps + budget) → s′ .state ≡ verdictOf (true? (formulaOf b))
   unfolding call
   enough-ends calls seen budget preferred s′ c e h =
-      let d = play b (freshDesk b m rev s) calls in
-      let r = rw e at (call-holds b (rev .0) d (run seen budget preferred) (kept-after calls)) in
-      decided b block (rev .0) _ r
+      let d = play L b (freshDesk L b m rev s) calls in
+      let r = rw e at (call-holds L b (rev .0) d (run seen budget preferred) (kept-after calls)) in
+      decided L b block (rev .0) _ r
       (λ o.
-      let u = run-pauses b d seen budget preferred s′ c e .used o in
-      let l = demand b block (rev .0) _ r .open-fewer o in
+      let u = run-pauses L b d seen budget preferred s′ c e .used o in
+      let l = demand L b block (rev .0) _ r .open-fewer o in
       omega arith)
 
   -- as many steps made by hand end it too, those after the end being refused, if the first revision leaves room for them
   pub steps-end : (preferred : List ℤ) → let n = 2 ^ suc (variablesOf b) - 1 in
-      rev .0 + n ≤ lastRevision → byHand b preferred n (freshDesk b m rev s) .latest .state ≡ verdictOf (true? (formulaOf b))
+      rev .0 + n ≤ lastRevision → byHand L b preferred n (freshDesk L b m rev s) .latest .state ≡ verdictOf (true? (formulaOf b))
   steps-end preferred h =
       let n = 2 ^ suc (variablesOf b) - 1 in
-      let r = hand-holds b (rev .0) preferred n (freshDesk b m rev s) begun in
+      let r = hand-holds L b (rev .0) preferred n (freshDesk L b m rev s) begun in
       let first = begun .revision in
-      decided b block (rev .0) _ r
+      decided L b block (rev .0) _ r
       (λ o.
-      let u = hand-used b preferred block n (freshDesk b m rev s) (begun .kept) (omega arith) o in
-      let l = demand b block (rev .0) _ r .open-fewer o in
+      let u = hand-used L b preferred block n (freshDesk L b m rev s) (begun .kept) (omega arith) o in
+      let l = demand L b block (rev .0) _ r .open-fewer o in
       omega arith)
 
   -- so some history ends, of steps alone
-  pub some-history-ends : rev .0 + (2 ^ suc (variablesOf b) - 1) ≤ lastRevision → (calls : List Call) × (play b (freshDesk b m rev s) calls .latest .state ≡ verdictOf (true? (formulaOf b)))
+  pub some-history-ends : rev .0 + (2 ^ suc (variablesOf b) - 1) ≤ lastRevision → (calls : List Call) × (play L b (freshDesk L b m rev s) calls .latest .state ≡ verdictOf (true? (formulaOf b)))
   some-history-ends h =
-      let (calls, e) = hand-calls b (rev .0) [] (2 ^ suc (variablesOf b) - 1) (freshDesk b m rev s) in
+      let (calls, e) = hand-calls L b (rev .0) [] (2 ^ suc (variablesOf b) - 1) (freshDesk L b m rev s) in
       (calls, rw e (steps-end [] h))

@@ -6,6 +6,7 @@ use mathlib.Core.List.{List}
 use lib.IntN.{ℤ, pos}
 use lib.ListN.{length}
 use Rattle.formula.specs.Formula.{variablesOf}
+use Rattle.formula.specs.Limits.{Limits}
 use Rattle.rules.specs.declared.rule.State.the-variants.{Open}
 use Rattle.rules.specs.Laws.Wiped.{wiped-length}
 use Rattle.session.specs.declared.Revision.{Revision}
@@ -27,11 +28,11 @@ pub record Fresh (b : List ℤ) (rev : Revision) (s : Session) (m m′ : Memory)
   pub untouched : (j : ℕ) → variablesOf b ≤ j → entryAt (m′ .trail) j ≡ entryAt (m .trail) j
   pub lengths : (length (m′ .trail .lits) ≡ length (m .trail .lits)) × (length (m′ .trail .kinds) ≡ length (m .trail .kinds))
 
-pub accepted-open : (b : List ℤ) (m : Memory) (rev : Revision) (s : Session) → let o = openOutcome b m rev in
+pub accepted-open : (L : Limits) → (b : List ℤ) (m : Memory) (rev : Revision) (s : Session) → let o = openOutcome L b m rev in
     o .answer ≡ To s → Fresh b rev s m (o .memory)
 unfolding openOutcome
-accepted-open b m rev s a =
-    let e = unless-to (openRefusal b m) m _ s a in
+accepted-open L b m rev s a =
+    let e = unless-to (openRefusal L b m) m _ s a in
     let a′ = rw e at a in
     rw e
     (record {

@@ -5,6 +5,7 @@ use lib.IntN.{ℤ}
 use Rattle.words.specs.Outcomes.{Outcome, outcome, unless}
 use Rattle.words.specs.declared.Literal.{Literal}
 use Rattle.formula.specs.Formula.{formulaOf, variablesOf, prefixOf}
+use Rattle.formula.specs.Limits.{Limits}
 use Rattle.rules.specs.declared.rule.State.{State}
 use Rattle.rules.specs.declared.rule.State.the-variants.{Open}
 use Rattle.rules.specs.Due.{due}
@@ -23,9 +24,9 @@ abbrev pub session : ℕ → ℕ → State → Session
 session n rev st = record { length = n; revision = record { 0 = rev }; state = st }
 
 -- [session.fresh] [opening.wipes]
-unfoldable pub openOutcome : List ℤ → Memory → Revision → Outcome Memory Answer
-openOutcome b m rev =
-    unless Refused (openRefusal b m) m
+unfoldable pub openOutcome : Limits → List ℤ → Memory → Revision → Outcome Memory Answer
+openOutcome L b m rev =
+    unless Refused (openRefusal L b m) m
     (outcome (To (session 0 (rev .0) Open)) (record { trail = wipedTrail (m .trail) 0 (variablesOf b) }))
 
 -- [revision.adds] a session whose search has gone on by some accepted steps
@@ -43,5 +44,5 @@ stepped s b l t =
     outcome (To (moved s 1 u)) (memoryOf u)
 
 -- [table.leaves] else the number, and all as it was
-unfoldable pub stepOutcome : Session → List ℤ → Memory → Revision → Literal → Outcome Memory Answer
-stepOutcome s b m seen l = unless Refused (stepRefusal s b m seen l) m (stepped s b l (searchOf s m))
+unfoldable pub stepOutcome : Limits → Session → List ℤ → Memory → Revision → Literal → Outcome Memory Answer
+stepOutcome L s b m seen l = unless Refused (stepRefusal L s b m seen l) m (stepped s b l (searchOf s m))

@@ -4,7 +4,7 @@ use mathlib.Core.Path.{_≡_, ap}
 use mathlib.Core.List.{List}
 use Prim.Native.Nat.{ℕ}
 use lib.IntN.{ℤ}
-use Rattle.words.specs.Outcomes.{only-one, outcome, Same, same}
+use Rattle.words.specs.Outcomes.{Outcome, only-one, outcome, Same, same}
 use Rattle.words.specs.declared.Literal.{Literal}
 use Rattle.formula.specs.Formula.{formulaOf}
 use Rattle.rules.specs.declared.rule.State.{State}
@@ -21,16 +21,17 @@ use Rattle.session.specs.States.{numberOf, stateNumbered}
 use Rattle.session.specs.Refusals.{openRefusal}
 use Rattle.session.specs.Outcome.{openOutcome, stepOutcome}
 use Rattle.session.specs.Run.{Trip, trip, runFrom, runOf}
+use Rattle.formula.specs.Limits.{limits}
 
 -- ---- the entrances
 abbrev pub OpenPromise : List ℤ → Memory → Revision → Answer → Memory → Type 0
-OpenPromise b m rev r m′ = outcome r m′ ≡ openOutcome b m rev
+OpenPromise b m rev r m′ = outcome r m′ ≡ openOutcome limits b m rev
 
 abbrev pub StepPromise : Session → List ℤ → Memory → Revision → Literal → Answer → Memory → Type 0
-StepPromise s b m seen l r m′ = outcome r m′ ≡ stepOutcome s b m seen l
+StepPromise s b m seen l r m′ = outcome r m′ ≡ stepOutcome limits s b m seen l
 
 abbrev pub RunPromise : Session → List ℤ → Memory → Revision → ℕ → List ℤ → Ran → Memory → Type 0
-RunPromise s b m seen budget preferred r m′ = outcome r m′ ≡ runOf s b m seen budget preferred
+RunPromise s b m seen budget preferred r m′ = outcome r m′ ≡ runOf limits s b m seen budget preferred
 
 abbrev pub NumberOfPromise : State → ℕ → Type 0
 NumberOfPromise st r = r ≡ numberOf st
@@ -56,16 +57,20 @@ only-state-of n = only-one
 
 -- ---- the inner doors
 abbrev pub OpenRefusalPromise : List ℤ → Memory → ℕ → Type 0
-OpenRefusalPromise b m r = r ≡ openRefusal b m
+OpenRefusalPromise b m r = r ≡ openRefusal limits b m
 
-abbrev pub SearchPromise : List ℤ → Trail → ℕ → ℕ → List ℤ → Searched → Trail → Type 0
-SearchPromise b t n budget preferred r t′ = trip (reached (r .reached) t′) (r .steps) ≡ runFrom (formulaOf b) preferred budget (search t n Open) 0
+-- s is the table that is lent blank: it is left as it was
+abbrev pub SearchPromise : List ℤ → Trail → ℕ → ℕ → List ℤ → List ℕ → Searched → Trail → List ℕ → Type 0
+SearchPromise b t n budget preferred s r t′ s′ = outcome (trip (reached (r .reached) t′) (r .steps)) s′ ≡ outcome (runFrom (formulaOf b) preferred budget (search t n Open) 0) s
 
 pub only-open-refusal : {r r′ : ℕ} (b : List ℤ) (m : Memory) → OpenRefusalPromise b m r → OpenRefusalPromise b m r′ → r ≡ r′
 only-open-refusal b m = only-one
 
-pub only-search : {r r′ : Searched} {t′ t″ : Trail} (b : List ℤ) (t : Trail) (n budget : ℕ) (preferred : List ℤ)
-    → SearchPromise b t n budget preferred r t′ → SearchPromise b t n budget preferred r′ t″ → (r ≡ r′) × (t′ ≡ t″)
-only-search b t n budget preferred p q =
+pub only-search : {r r′ : Searched} {t′ t″ : Trail} {s′ s″ : List ℕ} (b : List ℤ) (t : Trail) (n budget : ℕ) (preferred : List ℤ) (s : List ℕ)
+    → SearchPromise b t n budget preferred s r t′ s′ → SearchPromise b t n budget preferred s r′ t″ s″ → Same r r′ (outcome t′ s′) (outcome t″ s″)
+only-search b t n budget preferred s p q =
     let e = only-one p q in
-    (ap (λ (u : Trip). record { reached = record { count = u .reached .count; state = u .reached .state }; steps = u .steps }) e, ap (λ (u : Trip). u .reached .trail) e)
+    record {
+      answer = ap (λ (o : Outcome (List ℕ) Trip). let u = o .answer in record { reached = record { count = u .reached .count; state = u .reached .state }; steps = u .steps }) e;
+      memory = ap (λ (o : Outcome (List ℕ) Trip). outcome (o .answer .reached .trail) (o .memory)) e;
+    }

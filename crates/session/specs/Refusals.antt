@@ -7,7 +7,7 @@ use lib.IntN.{ℤ, natAbs}
 use lib.ListN.{length}
 use Rattle.words.specs.Rows.{Row, row, refusalOf}
 use Rattle.words.specs.declared.Literal.{Literal}
-use Rattle.formula.specs.Limits.{limits}
+use Rattle.formula.specs.Limits.{Limits}
 use Rattle.formula.specs.Formula.{formulaOf, variablesOf, prefixOf}
 use Rattle.formula.specs.Block.{rows}
 use Rattle.theory.specs.Record.{Assignment, trueIn}
@@ -50,11 +50,11 @@ abbrev pub ofBuffers : List ℤ → Memory → List Row
 ofBuffers b m = row 11 (short b m) ∷ []
 
 -- [calls.open]
-abbrev pub openRows : List ℤ → Memory → List Row
-openRows b m = rows limits b ++ ofBuffers b m
+abbrev pub openRows : Limits → List ℤ → Memory → List Row
+openRows L b m = rows L b ++ ofBuffers b m
 
-unfoldable pub openRefusal : List ℤ → Memory → ℕ
-openRefusal b m = refusalOf (openRows b m)
+unfoldable pub openRefusal : Limits → List ℤ → Memory → ℕ
+openRefusal L b m = refusalOf (openRows L b m)
 
 -- [row.16] [row.17] a proposal, where a rule is due
 abbrev pub ofProposal : List ℤ → Assignment → Rule → Literal → List Row
@@ -72,9 +72,6 @@ module _ (s : Session) (b : List ℤ) (m : Memory) (seen : Revision) where
       ∷ row 14 (stale s seen)
       ∷ []
 
-  abbrev pub sessionRows : List Row
-  sessionRows = openRows b m ++ ofSession
-
   -- [row.15] for a step
   abbrev pub ofStep : Literal → List Row
   ofStep l =
@@ -83,20 +80,24 @@ module _ (s : Session) (b : List ℤ) (m : Memory) (seen : Revision) where
       row 15 (eqb (s .revision .0) lastRevision)
       ∷ ofProposal (F .prefix) (trueIn r) (due F r) l
 
-  -- [calls.step]
-  abbrev pub stepRows : Literal → List Row
-  stepRows l = sessionRows ++ ofStep l
-
-  unfoldable pub stepRefusal : Literal → ℕ
-  stepRefusal l = refusalOf (stepRows l)
-
   -- [row.15] for a run
   abbrev pub ofRun : ℕ → List Row
   ofRun budget = row 15 (ltb lastRevision (s .revision .0 + budget)) ∷ []
 
+module _ (L : Limits) (s : Session) (b : List ℤ) (m : Memory) (seen : Revision) where
+  abbrev pub sessionRows : List Row
+  sessionRows = openRows L b m ++ ofSession s b m seen
+
+  -- [calls.step]
+  abbrev pub stepRows : Literal → List Row
+  stepRows l = sessionRows ++ ofStep s b m seen l
+
+  unfoldable pub stepRefusal : Literal → ℕ
+  stepRefusal l = refusalOf (stepRows l)
+
   -- [calls.run]
   abbrev pub runRows : ℕ → List Row
-  runRows budget = sessionRows ++ ofRun budget
+  runRows budget = sessionRows ++ ofRun s b m seen budget
 
   unfoldable pub runRefusal : ℕ → ℕ
   runRefusal budget = refusalOf (runRows budget)

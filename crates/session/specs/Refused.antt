@@ -13,6 +13,7 @@ use Rattle.words.specs.Outcomes.{Outcome, outcome, unless, Left, unless-left}
 use Rattle.words.specs.Rows.{test, upTo}
 use Rattle.words.specs.Laws.Rows.{refused-by}
 use Rattle.words.specs.declared.Literal.{Literal}
+use Rattle.formula.specs.Limits.{Limits}
 use Rattle.session.specs.declared.Revision.{Revision}
 use Rattle.session.specs.declared.Session.{Session}
 use Rattle.session.specs.declared.Answer.{Answer}
@@ -40,45 +41,45 @@ unless-until zero m o s c e = refl
 unless-until (suc n) m o s c e = absurd (ran-none s c (suc n) (sym e))
 
 -- ---- a refused call leaves both buffers as they were
-pub open-refused-leaves : (b : List ℤ) (m : Memory) (rev : Revision) (n : ℕ) → let o = openOutcome b m rev in
-    o .answer ≡ Refused n → Left (openRefusal b m) n m (o .memory)
+pub open-refused-leaves : (L : Limits) → (b : List ℤ) (m : Memory) (rev : Revision) (n : ℕ) → let o = openOutcome L b m rev in
+    o .answer ≡ Refused n → Left (openRefusal L b m) n m (o .memory)
 unfolding openOutcome
-open-refused-leaves b m rev n = unless-left Refused (λ j k e. cc) (openRefusal b m) m _ n (accepted-none _ n)
+open-refused-leaves L b m rev n = unless-left Refused (λ j k e. cc) (openRefusal L b m) m _ n (accepted-none _ n)
 
-module _ (s : Session) (b : List ℤ) (m : Memory) (seen : Revision) where
-  pub step-refused-leaves : (l : Literal) (n : ℕ) → let o = stepOutcome s b m seen l in
-      o .answer ≡ Refused n → Left (stepRefusal s b m seen l) n m (o .memory)
+module _ (L : Limits) (s : Session) (b : List ℤ) (m : Memory) (seen : Revision) where
+  pub step-refused-leaves : (l : Literal) (n : ℕ) → let o = stepOutcome L s b m seen l in
+      o .answer ≡ Refused n → Left (stepRefusal L s b m seen l) n m (o .memory)
   unfolding stepOutcome
-  step-refused-leaves l n = unless-left Refused (λ j k e. cc) (stepRefusal s b m seen l) m _ n (accepted-none _ n)
+  step-refused-leaves l n = unless-left Refused (λ j k e. cc) (stepRefusal L s b m seen l) m _ n (accepted-none _ n)
 
-  pub run-refused-leaves : (budget : ℕ) (preferred : List ℤ) (n : ℕ) → let o = runOf s b m seen budget preferred in
-      o .answer ≡ Stopped n → Left (runRefusal s b m seen budget) n m (o .memory)
+  pub run-refused-leaves : (budget : ℕ) (preferred : List ℤ) (n : ℕ) → let o = runOf L s b m seen budget preferred in
+      o .answer ≡ Stopped n → Left (runRefusal L s b m seen budget) n m (o .memory)
   unfolding runOf
-  run-refused-leaves budget preferred n = unless-left Stopped (λ j k e. cc) (runRefusal s b m seen budget) m _ n (ran-none _ _ n)
+  run-refused-leaves budget preferred n = unless-left Stopped (λ j k e. cc) (runRefusal L s b m seen budget) m _ n (ran-none _ _ n)
 
   -- ---- a number other than 0 is answered
-  pub step-refused : (l : Literal) (n : ℕ) → stepRefusal s b m seen l ≡ suc n → stepOutcome s b m seen l ≡ outcome (Refused (suc n)) m
+  pub step-refused : (l : Literal) (n : ℕ) → stepRefusal L s b m seen l ≡ suc n → stepOutcome L s b m seen l ≡ outcome (Refused (suc n)) m
   unfolding stepOutcome
   step-refused l n e = rw e
 
-  pub run-refused : (budget : ℕ) (preferred : List ℤ) (n : ℕ) → runRefusal s b m seen budget ≡ suc n → runOf s b m seen budget preferred ≡ outcome (Stopped (suc n)) m
+  pub run-refused : (budget : ℕ) (preferred : List ℤ) (n : ℕ) → runRefusal L s b m seen budget ≡ suc n → runOf L s b m seen budget preferred ≡ outcome (Stopped (suc n)) m
   unfolding runOf
   run-refused budget preferred n e = rw e
 
   -- ---- a row that applies: the call is refused, with its number or that of a row before it
   abbrev pub StepRefusedBy : ℕ → Literal → Type 0
-  StepRefusedBy k l = (n : ℕ) × In (suc n) (upTo k (stepRows s b m seen l)) × (stepOutcome s b m seen l ≡ outcome (Refused (suc n)) m)
+  StepRefusedBy k l = (n : ℕ) × In (suc n) (upTo k (stepRows L s b m seen l)) × (stepOutcome L s b m seen l ≡ outcome (Refused (suc n)) m)
 
   abbrev pub RunRefusedBy : ℕ → ℕ → List ℤ → Type 0
-  RunRefusedBy k budget preferred = (n : ℕ) × In (suc n) (upTo k (runRows s b m seen budget)) × (runOf s b m seen budget preferred ≡ outcome (Stopped (suc n)) m)
+  RunRefusedBy k budget preferred = (n : ℕ) × In (suc n) (upTo k (runRows L s b m seen budget)) × (runOf L s b m seen budget preferred ≡ outcome (Stopped (suc n)) m)
 
-  step-by : (k : ℕ) (l : Literal) → test k (stepRows s b m seen l) ≡ true → StepRefusedBy k l
+  step-by : (k : ℕ) (l : Literal) → test k (stepRows L s b m seen l) ≡ true → StepRefusedBy k l
   unfolding stepRefusal
-  step-by k l t = let (n, i, e) = refused-by k (stepRows s b m seen l) refl t in (n, i, step-refused l n e)
+  step-by k l t = let (n, i, e) = refused-by k (stepRows L s b m seen l) refl t in (n, i, step-refused l n e)
 
-  run-by : (k budget : ℕ) (preferred : List ℤ) → test k (runRows s b m seen budget) ≡ true → RunRefusedBy k budget preferred
+  run-by : (k budget : ℕ) (preferred : List ℤ) → test k (runRows L s b m seen budget) ≡ true → RunRefusedBy k budget preferred
   unfolding runRefusal
-  run-by k budget preferred t = let (n, i, e) = refused-by k (runRows s b m seen budget) refl t in (n, i, run-refused budget preferred n e)
+  run-by k budget preferred t = let (n, i, e) = refused-by k (runRows L s b m seen budget) refl t in (n, i, run-refused budget preferred n e)
 
   -- [row.13] the session has ended
   pub ended-step-refused : over (s .state) ≡ true → (l : Literal) → StepRefusedBy 13 l

@@ -8,6 +8,7 @@ use Rattle.words.specs.Rows.{Numbered}
 use Rattle.words.specs.Laws.Rows.{numbered, given}
 use Rattle.words.specs.declared.Literal.{Literal}
 use Rattle.formula.specs.Rows.{blockNumbers}
+use Rattle.formula.specs.Limits.{Limits}
 use Rattle.session.specs.declared.Revision.{Revision}
 use Rattle.session.specs.declared.Session.{Session}
 use Rattle.session.specs.Memory.{Memory}
@@ -17,28 +18,28 @@ use Rattle.session.specs.Refusals.{openRows, openRefusal, stepRows, step
 abbrev pub openNumbers : List ℕ
 openNumbers = blockNumbers ++ 11 ∷ []
 
-module _ (b : List ℤ) (m : Memory) where
-  pub open-numbered : Numbered (openRows b m) (openRefusal b m)
+module _ (L : Limits) (b : List ℤ) (m : Memory) where
+  pub open-numbered : Numbered (openRows L b m) (openRefusal L b m)
   unfolding openRefusal
-  open-numbered = numbered (openRows b m) refl
+  open-numbered = numbered (openRows L b m) refl
 
-  pub open-gives : In (openRefusal b m) (0 ∷ openNumbers)
+  pub open-gives : In (openRefusal L b m) (0 ∷ openNumbers)
   unfolding openRefusal
-  open-gives = given (openRows b m)
+  open-gives = given (openRows L b m)
 
-module _ (s : Session) (b : List ℤ) (m : Memory) (seen : Revision) where
-  pub step-numbered : (l : Literal) → Numbered (stepRows s b m seen l) (stepRefusal s b m seen l)
+module _ (L : Limits) (s : Session) (b : List ℤ) (m : Memory) (seen : Revision) where
+  pub step-numbered : (l : Literal) → Numbered (stepRows L s b m seen l) (stepRefusal L s b m seen l)
   unfolding stepRefusal
-  step-numbered l = numbered (stepRows s b m seen l) refl
+  step-numbered l = numbered (stepRows L s b m seen l) refl
 
-  pub step-gives : (l : Literal) → In (stepRefusal s b m seen l) (0 ∷ openNumbers ++ 12 ∷ 13 ∷ 14 ∷ 15 ∷ 16 ∷ 17 ∷ [])
+  pub step-gives : (l : Literal) → In (stepRefusal L s b m seen l) (0 ∷ openNumbers ++ 12 ∷ 13 ∷ 14 ∷ 15 ∷ 16 ∷ 17 ∷ [])
   unfolding stepRefusal
-  step-gives l = given (stepRows s b m seen l)
+  step-gives l = given (stepRows L s b m seen l)
 
-  pub run-numbered : (budget : ℕ) → Numbered (runRows s b m seen budget) (runRefusal s b m seen budget)
+  pub run-numbered : (budget : ℕ) → Numbered (runRows L s b m seen budget) (runRefusal L s b m seen budget)
   unfolding runRefusal
-  run-numbered budget = numbered (runRows s b m seen budget) refl
+  run-numbered budget = numbered (runRows L s b m seen budget) refl
 
-  pub run-gives : (budget : ℕ) → In (runRefusal s b m seen budget) (0 ∷ openNumbers ++ 12 ∷ 13 ∷ 14 ∷ 15 ∷ [])
+  pub run-gives : (budget : ℕ) → In (runRefusal L s b m seen budget) (0 ∷ openNumbers ++ 12 ∷ 13 ∷ 14 ∷ 15 ∷ [])
   unfolding runRefusal
-  run-gives budget = given (runRows s b m seen budget)
+  run-gives budget = given (runRows L s b m seen budget)

@@ -4,6 +4,7 @@ use mathlib.Core.List.{List}
 use lib.IntN.{ℤ}
 use Rattle.words.specs.Outcomes.{Outcome, outcome, unless}
 use Rattle.formula.specs.Formula.{Formula, formulaOf}
+use Rattle.formula.specs.Limits.{Limits}
 use Rattle.theory.specs.Record.{trueIn}
 use Rattle.rules.specs.declared.rule.State.{State}
 use Rattle.rules.specs.declared.rule.State.the-variants.{Open, Valid, Unsat}
@@ -47,7 +48,7 @@ module _ (F : Formula) (preferred : List ℤ) where
 abbrev pub ran : Session → Trip → Outcome Memory Ran
 ran s u = outcome (Until (moved s (u .steps) (u .reached)) (u .steps)) (memoryOf (u .reached))
 
-unfoldable pub runOf : Session → List ℤ → Memory → Revision → ℕ → List ℤ → Outcome Memory Ran
-runOf s b m seen budget preferred =
-    unless Stopped (runRefusal s b m seen budget) m
+unfoldable pub runOf : Limits → Session → List ℤ → Memory → Revision → ℕ → List ℤ → Outcome Memory Ran
+runOf L s b m seen budget preferred =
+    unless Stopped (runRefusal L s b m seen budget) m
     (ran s (runFrom (formulaOf b) preferred budget (searchOf s m) 0))

@@ -9,7 +9,7 @@ use native.Mathlib.Omega.{arith}
 use lib.IntN.{ℤ}
 use Rattle.words.specs.Laws.Bools.{look}
 use Rattle.words.specs.declared.Literal.{Literal}
-use Rattle.formula.specs.Limits.{limits}
+use Rattle.formula.specs.Limits.{Limits}
 use Rattle.formula.specs.Formula.{formulaOf, prefixOf}
 use Rattle.formula.specs.Block.{refusal}
 use Rattle.theory.specs.Record.{trueIn}
@@ -42,40 +42,40 @@ proposalAt b preferred d =
     literal (proposalOf (prefixOf b) (trueIn r) preferred (due (formulaOf b) r))
 
 -- one step by hand with that proposal, at the revision of the moment; and n of them
-unfoldable pub handed : List ℤ → List ℤ → Desk → Desk
-handed b preferred d = call b d (step (d .latest .revision) (proposalAt b preferred d))
+unfoldable pub handed : Limits → List ℤ → List ℤ → Desk → Desk
+handed L b preferred d = call L b d (step (d .latest .revision) (proposalAt b preferred d))
 
-unfoldable pub byHand : List ℤ → List ℤ → ℕ → Desk → Desk
-byHand b preferred zero d = d
-byHand b preferred (suc n) d = byHand b preferred n (handed b preferred d)
+unfoldable pub byHand : Limits → List ℤ → List ℤ → ℕ → Desk → Desk
+byHand L b preferred zero d = d
+byHand L b preferred (suc n) d = byHand L b preferred n (handed L b preferred d)
 
 -- ---- steps by hand, rule by rule
 -- a desk whose search has gone on by a trip
 abbrev deskAfter : Desk → Trip → Desk
 deskAfter d u = desk (moved (d .latest) (u .steps) (u .reached)) (memoryOf (u .reached)) (d .steps + u .steps)
 
-module _ (b : List ℤ) (preferred : List ℤ) where
+module _ (L : Limits) (b : List ℤ) (preferred : List ℤ) where
   -- a session that has ended stays: the step is refused
-  hand-ended : (d : Desk) → over (d .latest .state) ≡ true → handed b preferred d ≡ d
+  hand-ended : (d : Desk) → over (d .latest .state) ≡ true → handed L b preferred d ≡ d
   unfolding handed call
   hand-ended d h =
-      let (n, i, e) = ended-step-refused (d .latest) b (d .memory) (d .latest .revision) h (proposalAt b preferred d) in rw e
+      let (n, i, e) = ended-step-refused L (d .latest) b (d .memory) (d .latest .revision) h (proposalAt b preferred d) in rw e
 
-  module _ (block : refusal limits b ≡ 0) where
+  module _ (block : refusal L b ≡ 0) where
     hand-step : (d : Desk) → KeptIn (prefixOf b) (searchAt d) → d .latest .state ≡ Open → d .latest .revision .0 < lastRevision
-        → handed b preferred d ≡ deskAfter d (trip (advance (formulaOf b) preferred (searchAt d)) 1)
+        → handed L b preferred d ≡ deskAfter d (trip (advance (formulaOf b) preferred (searchAt d)) 1)
     unfolding handed call advance formulaOf
     hand-step d k o h =
         let r = recordIn (searchAt d) in
         let (due-or-none, permitted) = proposal-passes (prefixOf b) (trueIn r) preferred (due (formulaOf b) r) in
-        let g : Guarded (d .latest) b (d .memory) (d .latest .revision) = record { on = record { block = block; kept = k }; live = o; current = refl } in
+        let g : Guarded L (d .latest) b (d .memory) (d .latest .revision) = record { on = record { block = block; kept = k }; live = o; current = refl } in
         let below : d .latest .revision .0 ≡ lastRevision → ⊥ = λ e. omega arith in
-        let e = step-passes _ _ _ _ g below (proposalAt b preferred d) due-or-none permitted in
-        rw (accepted-is _ _ _ _ _ e)
+        let e = step-passes L _ _ _ _ g below (proposalAt b preferred d) due-or-none permitted in
+        rw (accepted-is L _ _ _ _ _ e)
 
     -- as many as a budget are the run with that budget
     hand-run : (n : ℕ) (d : Desk) → KeptIn (prefixOf b) (searchAt d) → d .latest .revision .0 + n ≤ lastRevision
-        → byHand b preferred n d ≡ deskAfter d (runFrom (formulaOf b) preferred n (searchAt d) 0)
+        → byHand L b preferred n d ≡ deskAfter d (runFrom (formulaOf b) preferred n (searchAt d) 0)
     unfolding byHand formulaOf
     hand-run zero d k h =
         let x : d .latest .revision .0 + 0 ≡ d .latest .revision .0 = omega arith in
@@ -83,7 +83,7 @@ module _ (b : List ℤ) (preferred : List ℤ) where
         rw (loop-last (formulaOf b) preferred 0 (searchAt d) 0 (omega arith), x, y)
     hand-run (suc n) d k h = elim (look (over (d .latest .state))) [
       | inl e ↦
-          ap (byHand b preferred n) (hand-ended d e)
+          ap (byHand L b preferred n) (hand-ended d e)
           ∙ hand-run n d k (omega arith)
           ∙ ap (deskAfter d) (run-ended (formulaOf b) preferred n (searchAt d) 0 e ∙ sym (run-ended (formulaOf b) preferred (suc n) (searchAt d) 0 e))
       | inr e ↦
@@ -93,14 +93,14 @@ module _ (b : List ℤ) (preferred : List ℤ) where
           let u = runFrom F preferred n (advance F preferred t) 0 in
           let x : d .latest .revision .0 + 1 + u .steps ≡ d .latest .revision .0 + (u .steps + 1) = omega arith in
           let y : d .steps + 1 + u .steps ≡ d .steps + (u .steps + 1) = omega arith in
-          ap (byHand b preferred n) (hand-step d k o (omega arith))
+          ap (byHand L b preferred n) (hand-step d k o (omega arith))
           ∙ hand-run n (deskAfter d (trip (advance F preferred t) 1)) (advance-keeps F preferred t k) (omega arith)
           ∙ rw (run-further F preferred n t o, x, y)
     ]
 
     -- and if they leave the session open, each was accepted
     pub hand-used : (n : ℕ) (d : Desk) → KeptIn (prefixOf b) (searchAt d) → d .latest .revision .0 + n ≤ lastRevision
-        → byHand b preferred n d .latest .state ≡ Open → byHand b preferred n d .steps ≡ d .steps + n
+        → byHand L b preferred n d .latest .state ≡ Open → byHand L b preferred n d .steps ≡ d .steps + n
     unfolding formulaOf
     hand-used n d k h o =
         let e = hand-run n d k h in
@@ -112,45 +112,45 @@ abbrev pub counted : Ran → ℕ
 counted (Until s n) = n
 counted (Stopped n) = 0
 
-module _ (b : List ℤ) (d : Desk) (seen : Revision) (budget : ℕ) (preferred : List ℤ) where
+module _ (L : Limits) (b : List ℤ) (d : Desk) (seen : Revision) (budget : ℕ) (preferred : List ℤ) where
   -- where an accepted run leads
   led : Trip
   led = runFrom (formulaOf b) preferred budget (searchAt d) 0
 
-  module _ (e : runRefusal (d .latest) b (d .memory) seen budget ≡ 0) where
-    run-accepted : runAt b d seen budget preferred ≡ ran (d .latest) led
+  module _ (e : runRefusal L (d .latest) b (d .memory) seen budget ≡ 0) where
+    run-accepted : runAt L b d seen budget preferred ≡ ran (d .latest) led
     unfolding runOf led
     run-accepted = rw e
 
     led-far : Travelled (formulaOf b) preferred budget (searchAt d) led
     unfolding led formulaOf
-    led-far = travelled (formulaOf b) preferred budget (searchAt d) (run-guarded (d .latest) b (d .memory) seen budget e .guard .on .kept)
+    led-far = travelled (formulaOf b) preferred budget (searchAt d) (run-guarded L (d .latest) b (d .memory) seen budget e .guard .on .kept)
 
-    accepted-hand : (n : ℕ) → n ≤ budget → runFrom (formulaOf b) preferred n (searchAt d) 0 ≡ led → byHand b preferred n d ≡ deskAfter d led
+    accepted-hand : (n : ℕ) → n ≤ budget → runFrom (formulaOf b) preferred n (searchAt d) 0 ≡ led → byHand L b preferred n d ≡ deskAfter d led
     accepted-hand n h q =
-        let g = run-guarded (d .latest) b (d .memory) seen budget e in
-        hand-run b preferred (g .guard .on .block) n d (g .guard .on .kept) (omega (arith, g .below)) ∙ ap (deskAfter d) q
+        let g = run-guarded L (d .latest) b (d .memory) seen budget e in
+        hand-run L b preferred (g .guard .on .block) n d (g .guard .on .kept) (omega (arith, g .below)) ∙ ap (deskAfter d) q
 
   -- [demand.2.run] a run is the steps that it counts
-  pub run-is-steps : call b d (run seen budget preferred) ≡ byHand b preferred (counted (runAt b d seen budget preferred .answer)) d
+  pub run-is-steps : call L b d (run seen budget preferred) ≡ byHand L b preferred (counted (runAt L b d seen budget preferred .answer)) d
   unfolding call byHand led
-  run-is-steps = go (runRefusal (d .latest) b (d .memory) seen budget) refl
+  run-is-steps = go (runRefusal L (d .latest) b (d .memory) seen budget) refl
     where
-      go : (n : ℕ) → runRefusal (d .latest) b (d .memory) seen budget ≡ n → call b d (run seen budget preferred) ≡ byHand b preferred (counted (runAt b d seen budget preferred .answer)) d
+      go : (n : ℕ) → runRefusal L (d .latest) b (d .memory) seen budget ≡ n → call L b d (run seen budget preferred) ≡ byHand L b preferred (counted (runAt L b d seen budget preferred .answer)) d
       go zero e = rw (run-accepted e) (sym (accepted-hand e (led .steps) (led-far e .within) (run-counted (formulaOf b) preferred budget (searchAt d))))
-      go (suc n) e = rw (run-refused (d .latest) b (d .memory) seen budget preferred n e)
+      go (suc n) e = rw (run-refused L (d .latest) b (d .memory) seen budget preferred n e)
 
   -- [run.pauses] the session that an accepted run answers is the one that as many steps by hand as its budget lead to (after the end they are
   -- refused), so that it is open exactly if they leave it open; and then all of the budget is used
   pub record Pauses (s′ : Session) (c : ℕ) : Type 0 where
-    pub by-hand : byHand b preferred budget d .latest ≡ s′
+    pub by-hand : byHand L b preferred budget d .latest ≡ s′
     pub within : c ≤ budget
     pub used : s′ .state ≡ Open → c ≡ budget
 
-  pub run-pauses : (s′ : Session) (c : ℕ) → runAt b d seen budget preferred .answer ≡ Until s′ c → Pauses s′ c
+  pub run-pauses : (s′ : Session) (c : ℕ) → runAt L b d seen budget preferred .answer ≡ Until s′ c → Pauses s′ c
   unfolding runOf led
   run-pauses s′ c a =
-      let e = unless-until (runRefusal (d .latest) b (d .memory) seen budget) (d .memory) _ s′ c a in
+      let e = unless-until (runRefusal L (d .latest) b (d .memory) seen budget) (d .memory) _ s′ c a in
       let w = led-far e in
       let a′ = rw (run-accepted e) at a in
       let x : led .steps ≡ c = cc in

@@ -7,6 +7,7 @@ use lib.IntN.{ℤ}
 use lib.ListN.{length}
 use Rattle.words.specs.declared.Literal.{Literal}
 use Rattle.formula.specs.Formula.{formulaOf, prefixOf}
+use Rattle.formula.specs.Limits.{Limits}
 use Rattle.theory.specs.Rules.{Step}
 use Rattle.rules.specs.declared.rule.State.the-variants.{Open}
 use Rattle.rules.specs.Due.{due}
@@ -43,20 +44,20 @@ pub record Stepped (b : List ℤ) (l : ℤ) (s s′ : Session) (m m′ : Memory)
   -- rows 11 and 12 would pass again
   pub kept : KeptIn (prefixOf b) (searchOf s′ m′)
 
-module _ (s : Session) (b : List ℤ) (m : Memory) (seen : Revision) (l : Literal) where
+module _ (L : Limits) (s : Session) (b : List ℤ) (m : Memory) (seen : Revision) (l : Literal) where
   -- where the due rule leads
   ruled : Search
   ruled = apply (prefixOf b) (due (formulaOf b) (recordOf (m .trail) (s .length))) (l .0) (searchOf s m)
 
   -- a step that breaks no row
-  pub accepted-is : stepRefusal s b m seen l ≡ 0 → stepOutcome s b m seen l ≡ stepped s b l (searchOf s m)
+  pub accepted-is : stepRefusal L s b m seen l ≡ 0 → stepOutcome L s b m seen l ≡ stepped s b l (searchOf s m)
   unfolding stepOutcome
   accepted-is e = rw e
 
-  stepped-ruled : stepRefusal s b m seen l ≡ 0 → Stepped b (l .0) s (moved s 1 ruled) m (memoryOf ruled)
+  stepped-ruled : stepRefusal L s b m seen l ≡ 0 → Stepped b (l .0) s (moved s 1 ruled) m (memoryOf ruled)
   unfolding ruled formulaOf
   stepped-ruled e =
-      let g = step-guarded s b m seen l e in
+      let g = step-guarded L s b m seen l e in
       let t = searchOf s m in
       let rule = due (formulaOf b) (recordOf (m .trail) (s .length)) in
       record {
@@ -71,10 +72,10 @@ module _ (s : Session) (b : List ℤ) (m : Memory) (seen : Revision) (l : Litera
         kept = due-keeps (formulaOf b) t (g .guard .on .kept) (l .0) (g .permitted);
       }
 
-  pub accepted-step : (s′ : Session) → let o = stepOutcome s b m seen l in o .answer ≡ To s′ → Stepped b (l .0) s s′ m (o .memory)
+  pub accepted-step : (s′ : Session) → let o = stepOutcome L s b m seen l in o .answer ≡ To s′ → Stepped b (l .0) s s′ m (o .memory)
   unfolding stepOutcome ruled
   accepted-step s′ a =
-      let e = unless-to (stepRefusal s b m seen l) m _ s′ a in
+      let e = unless-to (stepRefusal L s b m seen l) m _ s′ a in
       let q = accepted-is e in
       let a′ = rw q at a in
       let z : moved s 1 ruled ≡ s′ = cc in

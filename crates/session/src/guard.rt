@@ -1,17 +1,20 @@
 // The rows of the table that speak of buffers, of a session and of a proposal, in its order. Row 15 needs no look at them: it stands with the calls.
 ghost use mathlib.Core.Path.{_≡_};
 ghost use lib.ListN.{take};
+ghost use Rattle.formula.specs.Limits.{limits};
 ghost use Rattle.formula.specs.Formula.{prefixOf};
 ghost use Rattle.theory.specs.Record.{among};
 ghost use Rattle.session.specs.Memory.{memory};
 ghost use Rattle.rules.specs.Preferred.{decides};
 ghost use Rattle.rules.specs.Inner.Ready.{HeldOn};
+ghost use Rattle.rules.specs.Inner.Tables.{Levels};
 ghost use Rattle.session.specs.Refusals.{short, over};
 ghost use Rattle.session.specs.Promises.{OpenRefusalPromise};
 ghost use Rattle.session.specs.Inner.Guards.{sessionRefusal, proposalRefusal};
 use crate::Revision;
 use crate::Session;
 use formula::Checked;
+use rules::PLACES;
 use rules::Rule;
 use rules::State;
 use words::Literal;
@@ -74,7 +77,7 @@ pub(crate) fn session_refusal(
     kinds: &[u8],
     seen: Revision,
 ) -> u32
-    ensures { λ r. ⌜ r ≡ sessionRefusal session (now (block .entry)) (memory (now (lits .entry)) (now (kinds .entry))) seen ⌝ }
+    ensures { λ r. ⌜ r ≡ sessionRefusal limits session (now (block .entry)) (memory (now (lits .entry)) (now (kinds .entry))) seen ⌝ }
 {
     let refused = open_refusal(block, lits, kinds);
     if refused != 0 {
@@ -102,8 +105,10 @@ pub(crate) fn proposal_refusal(
     count: usize,
     rule: Rule,
     proposal: Literal,
+    levels: &[u16; PLACES],
 ) -> u32
     requires { ⌜ HeldOn (now block) (now lits) count ⌝ }
+    requires { ⌜ Levels (prefixOf (now block)) (now levels) ⌝ }
     ensures { λ r. ⌜ r ≡ proposalRefusal (prefixOf (now (block .entry))) (among (take count (now (lits .entry)))) rule proposal ⌝ }
 {
     if words::size(proposal.0) == 0 {
@@ -112,7 +117,7 @@ pub(crate) fn proposal_refusal(
     if !is_decide(rule) {
         return 16;
     }
-    if !rules::is_open(block, lits, count, proposal) {
+    if !rules::is_open(block, lits, count, proposal, levels) {
         return 17;
     }
     0

@@ -9,6 +9,7 @@ mod guard; // which row of the table turns a call away, but for row 15
 mod searches; // rule after rule
 mod states; // a state as a number
 
+use formula::LITERAL_PLACES;
 pub use guard::open_refusal;
 use rules::Reached;
 use rules::State;
@@ -80,8 +81,10 @@ impl Session {
             return Answer::Refused(15);
         }
         let count = self.length;
-        let rule = rules::due(block, lits, kinds, count);
-        let improper = guard::proposal_refusal(block, lits, count, rule, proposal);
+        let levels = rules::levels(block);
+        let mut statuses = [0u8; LITERAL_PLACES];
+        let rule = rules::due(block, lits, kinds, count, &levels, &mut statuses);
+        let improper = guard::proposal_refusal(block, lits, count, rule, proposal, &levels);
         if improper != 0 {
             return Answer::Refused(improper);
         }
@@ -111,7 +114,18 @@ impl Session {
             return Ran::Stopped(15);
         }
         let count = self.length;
-        let found = search(block, lits, kinds, count, budget, preferred);
+        let levels = rules::levels(block);
+        let mut statuses = [0u8; LITERAL_PLACES];
+        let found = search(
+            block,
+            lits,
+            kinds,
+            count,
+            budget,
+            preferred,
+            &levels,
+            &mut statuses,
+        );
         let reached = found.reached;
         let steps = found.steps;
         Ran::Until {

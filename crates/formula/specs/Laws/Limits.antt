@@ -20,6 +20,11 @@ pub group-is : limits .group ≡ maxGroup
 unfolding limits
 group-is = refl
 
+-- an opening's number has 32 bits
+pub group-small : limits .group ≤ 31
+unfolding limits
+group-small = lit≤ tt
+
 -- a variable is far from the least word
 pub variables-small : limits .variables ≤ 2147483647
 unfolding limits

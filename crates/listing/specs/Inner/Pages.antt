@@ -15,13 +15,13 @@ use Rattle.rules.specs.Inner.Ready.{OnBuffers}
 
 -- the block passes its rows, the buffers row 11, and the first group, of k variables, row 19
 pub record OnGroup (b : List ℤ) (work : Trail) (k : ℕ) : Type 0 where
-  pub on : OnBuffers b work
+  pub on : OnBuffers limits b work
   pub group : k ≡ firstGroup (prefixOf b)
   pub narrow : k ≤ limits .group
 
 -- a page passes all its rows, and k is the size of the first group
 pub record OnPage (b : List ℤ) (m : PageMemory) (k start : ℕ) : Type 0 where
-  pub guard : PageGuarded b m start
+  pub guard : PageGuarded limits b m start
   pub group : k ≡ firstGroup (prefixOf b)
 
 -- an answer and the memory, once the first V places of the work record are wiped

@@ -17,7 +17,7 @@ use Rattle.rules.specs.Due.{due}
 use Rattle.rules.specs.Preferred.{proposalOf}
 use Rattle.rules.specs.Search.{Search, recordIn}
 use Rattle.rules.specs.Trail.{wiped, Trail, wipedTrail}
-use Rattle.rules.specs.Inner.Ready.{Bound, KeptIn, Room}
+use Rattle.rules.specs.Inner.Ready.{Binds, KeptIn, Room}
 use Rattle.words.specs.Laws.Stores.{sets-outside}
 use Rattle.rules.specs.Laws.Wiped.{wiped-length, wiped-inside, wiped-outside}
 use Rattle.rules.specs.Laws.Records.{kept-good}
@@ -79,7 +79,7 @@ module _ (F : Formula) (preferred : List ℤ) where
   ]
 
 -- ---- a page's searches, on buffers that pass row 11
-module _ (F : Formula) (bound : Bound (F .prefix)) (preferred : List ℤ) (budget : ℕ) (work : Trail) (lent : Room (length (F .prefix)) work) (n : ℕ) where
+module _ (F : Formula) (binds : Binds (F .prefix)) (preferred : List ℤ) (budget : ℕ) (work : Trail) (lent : Room (length (F .prefix)) work) (n : ℕ) where
   start-beyond : Beyond (length (F .prefix)) work (openingStart F work n .trail)
   unfolding openingStart
   start-beyond =
@@ -93,12 +93,12 @@ module _ (F : Formula) (bound : Bound (F .prefix)) (preferred : List ℤ) (budge
 
   -- what a search leaves differs in the first V places only
   pub search-beyond : Beyond (length (F .prefix)) work (openingSearch F preferred budget work n .trail)
-  search-beyond = beyond-trans start-beyond (run-beyond F preferred budget (openingStart F work n) (starts F bound work n lent .kept))
+  search-beyond = beyond-trans start-beyond (run-beyond F preferred budget (openingStart F work n) (starts F binds work n lent .kept))
 
   -- and on other buffers it ends in the same way
   pub same-end : (work′ : Trail) → Room (length (F .prefix)) work′ → openingEnd F preferred budget work n ≡ openingEnd F preferred budget work′ n
   unfolding openingStart
   same-end work′ lent′ =
-      let s = starts F bound work n lent in
-      let s′ = starts F bound work′ n lent′ in
+      let s = starts F binds work n lent in
+      let s′ = starts F binds work′ n lent′ in
       run-alike F preferred budget 0 (s .kept) (s′ .kept) (record { held = s .held ∙ sym (s′ .held); count = refl; state = refl }) .state

@@ -22,7 +22,7 @@ use Rattle.theory.specs.Laws.Monotone.{open-within}
 use Rattle.theory.specs.Theorem.{AnyOrder, any-order-from}
 use Rattle.rules.specs.declared.rule.State.the-variants.{Open, Valid, Unsat}
 use Rattle.rules.specs.Search.{standingOf}
-use Rattle.rules.specs.Inner.Ready.{Bound, Room}
+use Rattle.rules.specs.Inner.Ready.{Binds, Room}
 use Rattle.session.specs.Run.{runFrom}
 use Rattle.session.specs.Laws.Runs.{Travelled, travelled}
 use Rattle.listing.specs.Opening.{groupOf, valuesOf, openingStart, openingSearch, openingEnd}
@@ -55,9 +55,9 @@ module _ (F : Formula) (ok : Proper F) (n : ℕ) where
   wins-under = rw (given-literals (valuesOf n (groupOf F)), rest-is)
 
 -- ---- the search of the opening n, on buffers that pass row 11
-module _ (F : Formula) (ok : Proper F) (bound : Bound (F .prefix)) (work : Trail) (lent : Room (length (F .prefix)) work) (preferred : List ℤ) (budget n : ℕ) where
+module _ (F : Formula) (ok : Proper F) (binds : Binds (F .prefix)) (work : Trail) (lent : Room (length (F .prefix)) work) (preferred : List ℤ) (budget n : ℕ) where
   begun : Starts F work n
-  begun = starts F bound work n lent
+  begun = starts F binds work n lent
 
   searched : Travelled F preferred budget (openingStart F work n) (runFrom F preferred budget (openingStart F work n) 0)
   searched = travelled F preferred budget (openingStart F work n) (begun .kept)

@@ -18,7 +18,7 @@ use Rattle.theory.specs.Record.{entry, Record, literals, forced}
 use Rattle.theory.specs.Start.{suits, allSuit, Good}
 use Rattle.rules.specs.Trail.{Trail, wiped, noEntry}
 use Rattle.rules.specs.Search.{recordIn}
-use Rattle.rules.specs.Inner.Ready.{Bound, KeptIn, Room}
+use Rattle.rules.specs.Inner.Ready.{Binds, KeptIn, Room}
 use Rattle.rules.specs.Laws.Wiped.{wiped-length, wiped-inside}
 use Rattle.rules.specs.Laws.Records.{room-less, record-length, record-get}
 use Rattle.rules.specs.Laws.Good.{good-kept}
@@ -84,7 +84,7 @@ pub record Starts (F : Formula) (work : Trail) (n : ℕ) : Type 0 where
   pub good : Good F (opened F n)
   pub kept : KeptIn (F .prefix) (openingStart F work n)
 
-module _ (F : Formula) (bound : Bound (F .prefix)) (work : Trail) (n : ℕ) (lent : Room (length (F .prefix)) work) where
+module _ (F : Formula) (binds : Binds (F .prefix)) (work : Trail) (n : ℕ) (lent : Room (length (F .prefix)) work) where
   values-count : length (valuesOf n (groupOf F)) ≡ firstGroup (F .prefix)
   values-count = values-length n (groupOf F) ∙ group-length F
 
@@ -113,7 +113,7 @@ module _ (F : Formula) (bound : Bound (F .prefix)) (work : Trail) (n : ℕ) (len
 
   opened-good : Good F (opened F n)
   opened-good = record {
-    distinct = rw (given-literals (valuesOf n (groupOf F))) (values-twice n (groupOf F) (twice-take (firstGroup (F .prefix)) (F .prefix) (bound .once)));
+    distinct = rw (given-literals (valuesOf n (groupOf F))) (values-twice n (groupOf F) (twice-take (firstGroup (F .prefix)) (F .prefix) (binds .once)));
     suited = given-suited (F .prefix) (valuesOf n (groupOf F)) (group-stands F n);
   }
 
@@ -125,8 +125,8 @@ module _ (F : Formula) (bound : Bound (F .prefix)) (work : Trail) (n : ℕ) (len
     count = given-length (valuesOf n (groupOf F)) ∙ values-count;
     good = opened-good;
     kept = record {
-      prefix = bound;
+      prefix = binds;
       room = start-room;
-      good = good-kept F (openingStart F work n .trail) (firstGroup (F .prefix)) bound (group-few (F .prefix)) (rw start-held opened-good);
+      good = good-kept F (openingStart F work n .trail) (firstGroup (F .prefix)) binds (group-few (F .prefix)) (rw start-held opened-good);
     };
   }

@@ -8,7 +8,7 @@ use mathlib.Core.List.{List}
 use lib.IntN.{ℤ, pos, natAbs}
 use lib.ListN.{length}
 use Rattle.words.specs.Lists.{any}
-use Rattle.formula.specs.Limits.{limits}
+use Rattle.formula.specs.Limits.{Limits, limits}
 use Rattle.formula.specs.Formula.{Formula, variablesOf, prefixOf, clausesFrom}
 use Rattle.formula.specs.Block.{noVariable, twice, badEnds, repeats, refusal}
 use Rattle.theory.specs.Record.{Assignment}
@@ -17,7 +17,8 @@ use Rattle.rules.specs.Trail.{Trail}
 use Rattle.rules.specs.Search.{Search}
 use Rattle.rules.specs.Apply.{moveOf}
 use Rattle.rules.specs.Check.{badRecord}
-use Rattle.rules.specs.Inner.Tables.{Written}
+use Rattle.rules.specs.Inner.Tables.{Written, Levels}
+use Rattle.rules.specs.Inner.ByLiteral.{Blank}
 use Rattle.rules.specs.declared.rule.Rule.{Rule}
 use Rattle.rules.specs.declared.rule.Move.{Move}
 use Rattle.rules.specs.declared.rule.Move.the-variants.{Append, Flip, End}
@@ -27,10 +28,15 @@ use Rattle.rules.specs.declared.rule.Move.the-variants.{Append, Flip, En
 abbrev pub formula : List ℤ → List ℤ → List ℤ → Formula
 formula p es ls = record { prefix = p; clauses = clausesFrom ls 0 es }
 
-pub record Bound (p : List ℤ) : Type 0 where
-  pub room : length p ≤ limits .variables
+-- a prefix of n words binds the variables 1 to n, each once
+pub record Binds (p : List ℤ) : Type 0 where
   pub named : any (noVariable (length p)) p ≡ false
   pub once : twice p ≡ false
+
+-- and the tables have a place for each of them
+pub record Bound (p : List ℤ) : Type 0 where
+  pub room : length p ≤ limits .variables
+  pub binds : Binds p
 
 pub record Ready (p es ls : List ℤ) : Type 0 where
   pub prefix : Bound p
@@ -45,7 +51,7 @@ pub record Room (n : ℕ) (t : Trail) : Type 0 where
   pub kinds : n ≤ length (t .kinds)
 
 pub record Kept (p : List ℤ) (t : Trail) (n : ℕ) : Type 0 where
-  pub prefix : Bound p
+  pub prefix : Binds p
   pub room : Room (length p) t
   pub good : badRecord p t n ≡ false
 
@@ -53,17 +59,22 @@ abbrev pub KeptIn : List ℤ → Search → Type 0
 KeptIn p s = Kept p (s .trail) (s .count)
 
 -- ---- the doors, with the block itself: its rows and 11, then 12, and then only which literals are true, with no kinds
-pub record OnBuffers (b : List ℤ) (t : Trail) : Type 0 where
-  pub block : refusal limits b ≡ 0
+pub record OnBuffers (L : Limits) (b : List ℤ) (t : Trail) : Type 0 where
+  pub block : refusal L b ≡ 0
   pub room : Room (variablesOf b) t
 
-pub record OnBlock (b : List ℤ) (t : Trail) (n : ℕ) : Type 0 where
-  pub block : refusal limits b ≡ 0
+pub record OnBlock (L : Limits) (b : List ℤ) (t : Trail) (n : ℕ) : Type 0 where
+  pub block : refusal L b ≡ 0
   pub kept : Kept (prefixOf b) t n
 
 pub record HeldOn (b ls : List ℤ) (n : ℕ) : Type 0 where
   pub block : refusal limits b ≡ 0
   pub written : Written ls n
+
+-- the tables that are lent: the block's levels, and one that is blank
+pub record LentTables (b : List ℤ) (levels statuses : List ℕ) : Type 0 where
+  pub told : Levels (prefixOf b) levels
+  pub blank : Blank statuses
 
 -- a move has a place to write to: a cut is inside the record, and an entry more is inside the buffers
 abbrev pub MoveFits : List ℤ → ℕ → Move → Type 0

@@ -16,7 +16,7 @@ use Rattle.words.specs.Laws.Words.{mem-e}
 use Rattle.formula.specs.Formula.{clausesFrom, existential, universal, level}
 use Rattle.formula.specs.Block.{twice}
 use Rattle.theory.specs.Tests.{untrueOf, unassignedE, unassignedU, inConflict}
-use Rattle.rules.specs.Inner.Tables.{signOf, valueIn, Values, Quantifiers, Levels}
+use Rattle.rules.specs.Inner.Tables.{signOf, valueIn, Values, Levels}
 use Rattle.rules.specs.Inner.Ready.{Ready, Bound}
 use Rattle.formula.specs.Limits.{limits}
 use Rattle.formula.specs.Laws.Limits.{variables-are}
@@ -31,7 +31,7 @@ use Rattle.rules.specs.Due.{onFound, lowest, lowestUnit}
 use Rattle.rules.specs.Inner.Clauses.{Placed, Clauses, levelBy, conflictBy, onDeciding, lowestUnitBy, decidingBy}
 use Rattle.rules.specs.Inner.ByLiteral.{statusBy, statusIn, trueBy, Statuses}
 use Rattle.rules.specs.Inner.Tabled.{Consistent, Sorted, as-false, as-true, as-existential, as-universal, Sorts}
-use Rattle.rules.specs.Laws.VariablesMean.{quantifier-in}
+use Rattle.rules.specs.Laws.VariablesMean.{level-at}
 use Rattle.rules.specs.Laws.ClausesMean.{Meant, untrue-means, lowest-conflict-means, lowest-unit-means}
 use Rattle.rules.specs.declared.found.Deciding.{Deciding}
 use Rattle.rules.specs.declared.found.Deciding.the-variants.{Conflict, Quiet}
@@ -39,12 +39,16 @@ use Rattle.rules.specs.declared.found.Found.{Found}
 use Rattle.rules.specs.declared.found.Found.the-variants.{At, Nothing}
 use Rattle.rules.specs.declared.found.UnitFound.{UnitFound}
 
-module _ (p : List ℤ) (b : Bound p) (ρ : Assignment) (values quantifiers : List ℕ) (vals : Values ρ values) (quants : Quantifiers p quantifiers) (con : Consistent ρ) where
+module _ (p : List ℤ) (b : Bound p) (ρ : Assignment) (values : List ℕ) (vals : Values ρ values) (con : Consistent ρ) where
   -- a literal is true, or false by its opposite, or unassigned and of its variable's quantifier
-  status-is : (x : ℤ) → 0 < natAbs x → statusBy values quantifiers x ≡ cond (ρ x) 1 (cond (ρ (negℤ x)) 0 (cond (universal p x) 3 2))
+  status-is : (x : ℤ) → 0 < natAbs x → statusBy p values x ≡ cond (ρ x) 1 (cond (ρ (negℤ x)) 0 (cond (universal p x) 3 2))
   unfolding statusBy
-  status-is x z = rw (vals (natAbs x), quantifier-in p b quantifiers quants x) (by x z)
+  status-is x z = rw (vals (natAbs x), two (universal p x)) (by x z)
     where
+      two : (u : Bool) → eqb (cond u 2 1) 2 ≡ u
+      two true = refl
+      two false = refl
+
       plus : (s t u : Bool) → _≡_ {A = ℕ} (cond (eqb (cond s 1 (cond t 2 0)) 0) (cond u 3 2) (cond (eqb (cond s 1 (cond t 2 0)) 1) 1 0)) (cond s 1 (cond t 0 (cond u 3 2)))
       plus true t u = refl
       plus false true u = refl
@@ -61,15 +65,15 @@ module _ (p : List ℤ) (b : Bound p) (ρ : Assignment) (values quantifiers : Li
       by (negsuc n) z = minus (ρ (negsuc n)) (ρ (pos (suc n))) (universal p (negsuc n)) (con (suc n) z)
 
   -- so a table of statuses says of each literal of the prefix's variables what it is
-  pub sorts : (statuses : List ℕ) → Statuses (length p) values quantifiers statuses → Sorts p ρ statuses
+  pub sorts : (statuses : List ℕ) → Statuses p values statuses → Sorts p ρ statuses
   unfolding assigned unassignedE unassignedU
   sorts statuses said x n = go (look (ρ x)) (look (ρ (negℤ x))) (look (existential p x))
     where
       is : statusIn statuses x ≡ cond (ρ x) 1 (cond (ρ (negℤ x)) 0 (cond (universal p x) 3 2))
-      is = said x (n .some) (n .most) ∙ status-is x (n .some)
+      is = said .said x (n .most) (all-bound (length p) p (b .binds .named) (b .binds .once) refl (natAbs x) (n .some) (n .most)) ∙ status-is x (n .some)
 
       other : universal p x ≡ not (existential p x)
-      other = quantifier (length p) p (b .named) (b .once) refl x n
+      other = quantifier (length p) p (b .binds .named) (b .binds .once) refl x n
 
       go : (ρ x ≡ true) ⊎ (ρ x ≡ false) → (ρ (negℤ x) ≡ true) ⊎ (ρ (negℤ x) ≡ false) → (existential p x ≡ true) ⊎ (existential p x ≡ false) → Sorted p ρ (statusIn statuses) x
       go (inl h) k e = as-true (is ∙ rw h) h
@@ -121,7 +125,7 @@ module _ (p es ls : List ℤ) (ready : Ready p es ls) where
         meant : (x : ℤ) → In x ls → Meant p ρ (statusIn statuses) (levelBy levels) x
         meant x i = let n = literal-named i in record {
           sorted = sorting x n;
-          at = lvls (natAbs x) (all-bound (length p) p (ready .prefix .named) (ready .prefix .once) refl (natAbs x) (n .some) (n .most));
+          at = level-at p levels lvls (natAbs x) (all-bound (length p) p (ready .prefix .binds .named) (ready .prefix .binds .once) refl (natAbs x) (n .some) (n .most));
           low = omega (arith, level-few p (natAbs x), ready .prefix .room, variables-are);
         }
 

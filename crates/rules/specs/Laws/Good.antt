@@ -26,21 +26,21 @@ use Rattle.theory.specs.Start.{suits, allSuit, Good}
 use Rattle.theory.specs.Laws.Moves.{suits-stands}
 use Rattle.rules.specs.Trail.{Trail, recordOf}
 use Rattle.rules.specs.Check.{badKind, badRecord}
-use Rattle.rules.specs.Inner.Ready.{Bound, Kept}
+use Rattle.rules.specs.Inner.Ready.{Binds, Kept}
 use Rattle.rules.specs.Laws.Records.{Passing, in-literals, good, good-passes}
 
 -- the words of a size from 1 to V are those that name a variable of the prefix
-bound-stands : (p : List ℤ) → Bound p → (l : ℤ) → noVariable (length p) l ≡ false → stands p l ≡ true
+bound-stands : (p : List ℤ) → Binds p → (l : ℤ) → noVariable (length p) l ≡ false → stands p l ≡ true
 bound-stands p b l h = all-stand (length p) p (b .named) (b .once) refl l (named (length p) l h)
 
-stands-within : (p : List ℤ) → Bound p → (l : ℤ) → stands p l ≡ true → noVariable (length p) l ≡ false
+stands-within : (p : List ℤ) → Binds p → (l : ℤ) → stands p l ≡ true → noVariable (length p) l ≡ false
 stands-within p b l h = named-passes (length p) l (stands-named (length p) p (b .named) l h)
 
 -- so the prefix is proper, whatever the clauses: with none, say
 abbrev pub bare : List ℤ → Formula
 bare p = record { prefix = p; clauses = [] }
 
-pub bare-proper : (p : List ℤ) → Bound p → Proper (bare p)
+pub bare-proper : (p : List ℤ) → Binds p → Proper (bare p)
 unfolding any
 bare-proper p b = record { named = to-false (mem (pos 0) p) (λ e. clash refl (any-none (noVariable (length p)) p (b .named) (mem-e (pos 0) p e))); once = b .once; plain = refl }
 
@@ -52,7 +52,7 @@ kind-suits p (suc zero) l s h = elim (stands-bound p l s) [ inl e ↦ e | inr e 
 kind-suits p (suc (suc zero)) l s h = elim (stands-bound p l s) [ inl e ↦ clash e h | inr e ↦ e ]
 kind-suits p (suc (suc (suc k))) l s h = let z = ltb-false 2 (suc (suc (suc k))) (or-fl (ltb 2 (suc (suc (suc k)))) _ (or-fl _ _ h)) in absurd (omega arith)
 
-suits-kind : (p : List ℤ) → Bound p → (k : ℕ) (l : ℤ) → suits p k l ≡ true → badKind p (entry k l) ≡ false
+suits-kind : (p : List ℤ) → Binds p → (k : ℕ) (l : ℤ) → suits p k l ≡ true → badKind p (entry k l) ≡ false
 unfolding suits
 suits-kind p b zero l h = refl
 suits-kind p b (suc zero) l h = rw (existential-universal {F = bare p} (bare-proper p b) l h)
@@ -83,7 +83,7 @@ module _ (F : Formula) (t : Trail) (n : ℕ) where
       fits : (e : Entry) → In e r → suits p (e .kind) (e .literal) ≡ true
       fits e i = kind-suits p (e .kind) (e .literal) (bound-stands p (k .prefix) (e .literal) (any-none (noVariable (length p)) (literals r) (g .named) (in-literals i))) (any-none (badKind p) r (g .kinds) i)
 
-  pub good-kept : Bound (F .prefix) → n ≤ length (F .prefix) → Good F (recordOf t n) → badRecord (F .prefix) t n ≡ false
+  pub good-kept : Binds (F .prefix) → n ≤ length (F .prefix) → Good F (recordOf t n) → badRecord (F .prefix) t n ≡ false
   unfolding allSuit
   good-kept b h g = good-passes p t n (record {
     few = h;

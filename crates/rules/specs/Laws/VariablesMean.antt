@@ -81,7 +81,7 @@ unassigned-in values p l e =
 -- ---- quantifiers: a variable has one sign in the prefix
 pub quantifier-in : (p : List ℤ) → Bound p → (t : List ℕ) → Quantifiers p t → (l : ℤ) → eqb (getD t (natAbs l) 0) 2 ≡ universal p l
 unfolding universal
-quantifier-in p b t said l = rw (said (natAbs l)) (go (mem (pos (natAbs l)) p) (mem (negℤ (pos (natAbs l))) p) (λ e. let i = mem-e (pos (natAbs l)) p e in one-sign p (b .once) i (in-named (length p) p (b .named) i .some)))
+quantifier-in p b t said l = rw (said (natAbs l)) (go (mem (pos (natAbs l)) p) (mem (negℤ (pos (natAbs l))) p) (λ e. let i = mem-e (pos (natAbs l)) p e in one-sign p (b .binds .once) i (in-named (length p) p (b .binds .named) i .some)))
   where
     go : (x y : Bool) → (x ≡ true → y ≡ false) → eqb (cond x 1 (cond y 2 0)) 2 ≡ y
     go true y f = rw (f refl)
@@ -120,19 +120,19 @@ module _ (m : List (List ℤ)) (table : List ℕ) (said : Occurring m table) (v 
 module _ (p : List ℤ) (b : Bound p) (m : List (List ℤ)) (ρ : Assignment) where
   monotone-own : (q : ℤ) → In q p → monotone p m ρ q ≡ (not (assigned ρ q) && oneSign m (pos (natAbs q)))
   unfolding monotone unassignedE unassignedU existential universal
-  monotone-own (pos zero) i = absurd (let k = in-named (length p) p (b .named) i in omega (arith, k .some))
+  monotone-own (pos zero) i = absurd (let k = in-named (length p) p (b .binds .named) i in omega (arith, k .some))
   monotone-own (pos (suc n)) i =
-      rw (mem-i i, one-sign p (b .once) i (omega arith))
+      rw (mem-i i, one-sign p (b .binds .once) i (omega arith))
       (or-false (not (assigned ρ (pos (suc n))) && oneSign m (pos (suc n))))
-  monotone-own (negsuc n) i = rw (mem-i i, one-sign p (b .once) i (omega arith))
+  monotone-own (negsuc n) i = rw (mem-i i, one-sign p (b .binds .once) i (omega arith))
 
   monotone-opposite : (q : ℤ) → In q p → monotone p m ρ (negℤ q) ≡ (not (assigned ρ q) && oneSign m (negℤ (pos (natAbs q))))
   unfolding monotone unassignedE unassignedU existential universal assigned
-  monotone-opposite (pos zero) i = absurd (let k = in-named (length p) p (b .named) i in omega (arith, k .some))
+  monotone-opposite (pos zero) i = absurd (let k = in-named (length p) p (b .binds .named) i in omega (arith, k .some))
   monotone-opposite (pos (suc n)) i =
-      rw (mem-i i, one-sign p (b .once) i (omega arith), or-comm (ρ (negsuc n)) (ρ (pos (suc n))))
+      rw (mem-i i, one-sign p (b .binds .once) i (omega arith), or-comm (ρ (negsuc n)) (ρ (pos (suc n))))
       (or-false (not (ρ (pos (suc n)) || ρ (negsuc n)) && oneSign m (negsuc n)))
-  monotone-opposite (negsuc n) i = rw (mem-i i, one-sign p (b .once) i (omega arith), or-comm (ρ (negsuc n)) (ρ (pos (suc n))))
+  monotone-opposite (negsuc n) i = rw (mem-i i, one-sign p (b .binds .once) i (omega arith), or-comm (ρ (negsuc n)) (ρ (pos (suc n))))
 
   pub monotone-means : (values occurs : List ℕ) → Values ρ values → Occurring m occurs → firstOf (monotoneIn values occurs) p ≡ firstMonotone p m ρ
   unfolding firstMonotone monotoneIn
@@ -144,11 +144,14 @@ module _ (p : List ℤ) (b : Bound p) (m : List (List ℤ)) (ρ : Assignment) wh
 
       each : (q : ℤ) → In q p → monotoneIn values occurs q ≡ cond (monotone p m ρ q) (Is (literal q)) (cond (monotone p m ρ (negℤ q)) (Is (literal (negℤ q))) NoLiteral)
       each q i =
-          let small : natAbs q ≤ limits .variables = le-trans (in-named (length p) p (b .named) i .most) (b .room) in
+          let small : natAbs q ≤ limits .variables = le-trans (in-named (length p) p (b .binds .named) i .most) (b .room) in
           rw (assigned-in ρ values vals q, monotone-own q i, monotone-opposite q i, ← signs-one m occurs occ (natAbs q) small, ← signs-two m occurs occ (natAbs q) small)
           (go (assigned ρ q) _ _ (Is (literal q)) (Is (literal (negℤ q))))
 
 -- ---- levels and open literals
+pub level-at : (p : List ℤ) (t : List ℕ) → Levels p t → (v : ℕ) → any (names v) p ≡ true → getD t v 0 ≡ levelOf p v
+level-at p t said v h = said v ∙ rw h
+
 both-under : (a b c : Bool) → ((a && c) || (b && c)) ≡ ((a || b) && c)
 both-under true true true = refl
 both-under true true false = refl
@@ -170,8 +173,8 @@ module _ (p : List ℤ) (b : Bound p) (ρ : Assignment) (values : List ℕ) (val
   lowest-first l e k room =
       let (w, v) = unassigned-found ρ p l e in
       let inside = subst (λ (xs : List ℤ). In (w .word) xs) (sym (w .whole)) (in-middle (w .before) (w .word) (w .after)) in
-      let at : getD levels (natAbs (l .0)) 0 ≡ levelOf p (natAbs (w .word)) = lvls (natAbs (l .0)) (any-i (names (natAbs (l .0))) inside (eq-eqb _ _ v)) ∙ ap (levelOf p) v in
-      let least = and-r (unassignedE p ρ (w .word) || unassignedU p ρ (w .word)) (all (λ q. assigned ρ q || leb (level p (w .word)) (level p q)) p) (first-open (bare p) (bare-proper p b) ρ w (w .word) refl) in
+      let at : getD levels (natAbs (l .0)) 0 ≡ levelOf p (natAbs (w .word)) = level-at p levels lvls (natAbs (l .0)) (any-i (names (natAbs (l .0))) inside (eq-eqb _ _ v)) ∙ ap (levelOf p) v in
+      let least = and-r (unassignedE p ρ (w .word) || unassignedU p ρ (w .word)) (all (λ q. assigned ρ q || leb (level p (w .word)) (level p q)) p) (first-open (bare p) (bare-proper p (b .binds)) ρ w (w .word) refl) in
       rw at (bool-eq _ _
       (λ h. all-i (λ q. assigned ρ q || leb k (level p q)) p (λ q i. higher (assigned ρ q) (level p (w .word)) (level p q) h (or-e (assigned ρ q) (leb (level p (w .word)) (level p q)) (all-e (λ q. assigned ρ q || leb (level p (w .word)) (level p q)) p least i))))
       (λ h. lower (assigned ρ (w .word)) (leb k (level p (w .word))) (w .unset) (all-e (λ q. assigned ρ q || leb k (level p q)) p h inside)))
@@ -194,10 +197,10 @@ module _ (p : List ℤ) (b : Bound p) (ρ : Assignment) (values : List ℕ) (val
   -- the prefix names the variables 1 to V
   named-is : (v : ℕ) → (not (eqb v 0) && leb v (length p)) ≡ any (names v) p
   named-is v = elim (ℕ-discrete v 0) [
-    | yes e ↦ rw e (sym (no-other (length p) p (b .named) 0 (λ h k. omega arith)))
+    | yes e ↦ rw e (sym (no-other (length p) p (b .binds .named) 0 (λ h k. omega arith)))
     | no f ↦ elim (decLe v (length p)) [
-      | yes h ↦ rw (ne-eqb v 0 f, le-leb v (length p) h) (sym (all-bound (length p) p (b .named) (b .once) refl v (omega arith) h))
-      | no h ↦ rw (ne-eqb v 0 f, lt-leb v (length p) (omega arith)) (sym (no-other (length p) p (b .named) v (λ i k. h k)))
+      | yes h ↦ rw (ne-eqb v 0 f, le-leb v (length p) h) (sym (all-bound (length p) p (b .binds .named) (b .binds .once) refl v (omega arith) h))
+      | no h ↦ rw (ne-eqb v 0 f, lt-leb v (length p) (omega arith)) (sym (no-other (length p) p (b .binds .named) v (λ i k. h k)))
     ]
   ]
 
@@ -206,7 +209,7 @@ module _ (p : List ℤ) (b : Bound p) (ρ : Assignment) (values : List ℕ) (val
   open-means low lowest l = rw (named-is (natAbs l), free-in ρ values vals l, both-under (existential p l) (universal p l) (not (assigned ρ l)), binds p l) (go (look (any (names (natAbs l)) p)))
     where
       go : (any (names (natAbs l)) p ≡ true) ⊎ (any (names (natAbs l)) p ≡ false) → (any (names (natAbs l)) p && (not (assigned ρ l) && leb (getD levels (natAbs l) 0) low)) ≡ (any (names (natAbs l)) p && not (assigned ρ l) && all (λ q. assigned ρ q || leb (levelOf p (natAbs l)) (levelOf p (natAbs q))) p)
-      go (inl e) = rw (e, lvls (natAbs l) e, lowest (levelOf p (natAbs l)) (le-trans (level-few p (natAbs l)) (b .room)))
+      go (inl e) = rw (e, level-at p levels lvls (natAbs l) e, lowest (levelOf p (natAbs l)) (le-trans (level-few p (natAbs l)) (b .room)))
       go (inr e) = rw e
 
   pub preferred-means : (low : ℕ) → Lowest p ρ low → (ls : List ℤ) → onPicked (firstOf (preferredIn (length p) values levels low) ls) (λ l. l .0) (pos 0) ≡ firstOpen p ρ ls

@@ -11,7 +11,7 @@ use Rattle.theory.specs.Tests.{inConflict, conflict, monotone as isMonotone, un
 use Rattle.theory.specs.Rules.{Conflict, Quiet, Full}
 use Rattle.theory.specs.Laws.First.{first-open}
 use Rattle.rules.specs.Due.{onFound, onUnit, onPicked, lowest, last, lowestUnit, firstMonotone, firstUnassigned, dueAssigned, dueDecide, dueMonotone, dueUnit, dueConflict, due}
-use Rattle.rules.specs.Inner.Ready.{Bound}
+use Rattle.rules.specs.Inner.Ready.{Binds}
 use Rattle.rules.specs.Laws.Good.{bare, bare-proper}
 use Rattle.rules.specs.Laws.Searches.{lowest-none, lowest-at, UnitOf, unit-found, monotone-found, unassigned-none, unassigned-found}
 use Rattle.rules.specs.declared.rule.Rule.{Rule}
@@ -45,7 +45,7 @@ on-unit : (P : Rule → Type 0) (o : UnitFound) {f : Literal → ℕ → Rule} {
 on-unit P (On l c) h k = h l c refl
 on-unit P NoUnit h k = k refl
 
-module _ (F : Formula) (bound : Bound (F .prefix)) (r : Record) where
+module _ (F : Formula) (binds : Binds (F .prefix)) (r : Record) where
   by-conflict : (c : ℕ) → Conflict F r → Reason F r (dueConflict r c)
   by-conflict c h = on-found (Reason F r) (last 1 0 r) (λ i e. backtrack-exists i c h e) (λ e. fail c h e)
 
@@ -55,7 +55,7 @@ module _ (F : Formula) (bound : Bound (F .prefix)) (r : Record) where
 
     by-decide : Reason F r (dueDecide (F .prefix) r)
     by-decide = on-picked (Reason F r) (firstUnassigned (trueIn r) (F .prefix))
-        (λ l e. let (w, v) = unassigned-found (trueIn r) (F .prefix) l e in decide l quiet (first-open (bare (F .prefix)) (bare-proper (F .prefix) bound) (trueIn r) w (l .0) v))
+        (λ l e. let (w, v) = unassigned-found (trueIn r) (F .prefix) l e in decide l quiet (first-open (bare (F .prefix)) (bare-proper (F .prefix) binds) (trueIn r) w (l .0) v))
         (λ e. by-assigned (unassigned-none (trueIn r) (F .prefix) e))
 
     by-monotone : Reason F r (dueMonotone F r)

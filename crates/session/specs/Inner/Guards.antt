@@ -4,6 +4,7 @@ use mathlib.Core.List.{List}
 use lib.IntN.{ℤ}
 use Rattle.words.specs.Rows.{refusalOf}
 use Rattle.words.specs.declared.Literal.{Literal}
+use Rattle.formula.specs.Limits.{Limits}
 use Rattle.theory.specs.Record.{Assignment}
 use Rattle.rules.specs.declared.rule.Rule.{Rule}
 use Rattle.session.specs.declared.Revision.{Revision}
@@ -11,8 +12,8 @@ use Rattle.session.specs.declared.Session.{Session}
 use Rattle.session.specs.Memory.{Memory}
 use Rattle.session.specs.Refusals.{ofProposal, sessionRows}
 
-unfoldable pub sessionRefusal : Session → List ℤ → Memory → Revision → ℕ
-sessionRefusal s b m seen = refusalOf (sessionRows s b m seen)
+unfoldable pub sessionRefusal : Limits → Session → List ℤ → Memory → Revision → ℕ
+sessionRefusal L s b m seen = refusalOf (sessionRows L s b m seen)
 
 unfoldable pub proposalRefusal : List ℤ → Assignment → Rule → Literal → ℕ
 proposalRefusal p ρ rule l = refusalOf (ofProposal p ρ rule l)

@@ -12,7 +12,7 @@ use Rattle.words.specs.Laws.Bools.{clash, or-fl, or-fr}
 use Rattle.words.specs.Rows.{refusalOf}
 use Rattle.words.specs.Laws.Rows.{goes-on, first-part, passed}
 use Rattle.words.specs.declared.Literal.{Literal}
-use Rattle.formula.specs.Limits.{limits}
+use Rattle.formula.specs.Limits.{Limits}
 use Rattle.formula.specs.Formula.{variablesOf, prefixOf, formulaOf}
 use Rattle.formula.specs.Block.{rows, refusal}
 use Rattle.theory.specs.Record.{trueIn}
@@ -34,34 +34,34 @@ use Rattle.session.specs.Inner.Guards.{sessionRefusal}
 use Rattle.session.specs.Outcome.{searchOf}
 
 -- ---- the block's rows and row 11: the buffers have a place for each variable
-module _ (b : List ℤ) (m : Memory) where
-  pub from-11 : refusal limits b ≡ 0 → openRefusal b m ≡ refusalOf (ofBuffers b m)
+module _ (L : Limits) (b : List ℤ) (m : Memory) where
+  pub from-11 : refusal L b ≡ 0 → openRefusal L b m ≡ refusalOf (ofBuffers b m)
   unfolding refusal openRefusal
-  from-11 = goes-on (rows limits b) (ofBuffers b m) refl
+  from-11 = goes-on (rows L b) (ofBuffers b m) refl
 
-  pub opened : openRefusal b m ≡ 0 → OnBuffers b (m .trail)
+  pub opened : openRefusal L b m ≡ 0 → OnBuffers L b (m .trail)
   unfolding refusal openRefusal
   opened e =
       let n = variablesOf b in
       let ls = length (m .trail .lits) in
       let ks = length (m .trail .kinds) in
-      let r : short b m ≡ false = passed (openRows b m) refl e 11 in
+      let r : short b m ≡ false = passed (openRows L b m) refl e 11 in
       record {
-        block = first-part (rows limits b) (ofBuffers b m) e;
+        block = first-part (rows L b) (ofBuffers b m) e;
         room = record { lits = ltb-false ls n (or-fl (ltb ls n) (ltb ks n) r); kinds = ltb-false ks n (or-fr (ltb ls n) (ltb ks n) r) };
       }
 
-  pub open-passes : OnBuffers b (m .trail) → openRefusal b m ≡ 0
+  pub open-passes : OnBuffers L b (m .trail) → openRefusal L b m ≡ 0
   open-passes o = rw (from-11 (o .block), le-ltb (length (m .trail .lits)) (variablesOf b) (o .room .lits), le-ltb (length (m .trail .kinds)) (variablesOf b) (o .room .kinds))
 
 -- ---- rows 1 to 12: the due rule has a place to write to
-pub fitting : {b : List ℤ} {t : Trail} {n : ℕ} → OnBlock b t n → Fitting (prefixOf b) n (due (formulaOf b) (recordOf t n))
+pub fitting : {L : Limits} {b : List ℤ} {t : Trail} {n : ℕ} → OnBlock L b t n → Fitting (prefixOf b) n (due (formulaOf b) (recordOf t n))
 unfolding formulaOf
-fitting {b} {t} {n} o = due-fits (formulaOf b) (search t n Open) (o .kept)
+fitting {L} {b} {t} {n} o = due-fits (formulaOf b) (search t n Open) (o .kept)
 
 -- ---- rows 1 to 14, which a step and a run share
-pub record Guarded (s : Session) (b : List ℤ) (m : Memory) (seen : Revision) : Type 0 where
-  pub on : OnBlock b (m .trail) (s .length)
+pub record Guarded (L : Limits) (s : Session) (b : List ℤ) (m : Memory) (seen : Revision) : Type 0 where
+  pub on : OnBlock L b (m .trail) (s .length)
   pub live : s .state ≡ Open
   pub current : seen .0 ≡ s .revision .0
 
@@ -84,25 +84,25 @@ module _ (l : Literal) where
   so-proposed x (inl e) = rw (eq-eqb (natAbs (l .0)) 0 e)
   so-proposed x (inr e) = rw e (and-false (proposed l))
 
-module _ (s : Session) (b : List ℤ) (m : Memory) (seen : Revision) where
+module _ (L : Limits) (s : Session) (b : List ℤ) (m : Memory) (seen : Revision) where
   -- the rows from 12 on, where those before have passed; and from 15 on
-  pub from-12 : openRefusal b m ≡ 0 → sessionRefusal s b m seen ≡ refusalOf (ofSession s b m seen)
+  pub from-12 : openRefusal L b m ≡ 0 → sessionRefusal L s b m seen ≡ refusalOf (ofSession s b m seen)
   unfolding openRefusal sessionRefusal
-  from-12 = goes-on (openRows b m) (ofSession s b m seen) refl
+  from-12 = goes-on (openRows L b m) (ofSession s b m seen) refl
 
-  pub step-from-15 : (l : Literal) → sessionRefusal s b m seen ≡ 0 → stepRefusal s b m seen l ≡ refusalOf (ofStep s b m seen l)
+  pub step-from-15 : (l : Literal) → sessionRefusal L s b m seen ≡ 0 → stepRefusal L s b m seen l ≡ refusalOf (ofStep s b m seen l)
   unfolding stepRefusal sessionRefusal
-  step-from-15 l = goes-on (sessionRows s b m seen) (ofStep s b m seen l) refl
+  step-from-15 l = goes-on (sessionRows L s b m seen) (ofStep s b m seen l) refl
 
-  pub run-from-15 : (budget : ℕ) → sessionRefusal s b m seen ≡ 0 → runRefusal s b m seen budget ≡ refusalOf (ofRun s b m seen budget)
+  pub run-from-15 : (budget : ℕ) → sessionRefusal L s b m seen ≡ 0 → runRefusal L s b m seen budget ≡ refusalOf (ofRun s b m seen budget)
   unfolding runRefusal sessionRefusal
-  run-from-15 budget = goes-on (sessionRows s b m seen) (ofRun s b m seen budget) refl
+  run-from-15 budget = goes-on (sessionRows L s b m seen) (ofRun s b m seen budget) refl
 
-  pub guarded : sessionRefusal s b m seen ≡ 0 → Guarded s b m seen
+  pub guarded : sessionRefusal L s b m seen ≡ 0 → Guarded L s b m seen
   unfolding openRefusal sessionRefusal
   guarded e =
-      let o = opened b m (first-part (openRows b m) (ofSession s b m seen) e) in
-      let r = passed (sessionRows s b m seen) refl e in
+      let o = opened L b m (first-part (openRows L b m) (ofSession s b m seen) e) in
+      let r = passed (sessionRows L s b m seen) refl e in
       record {
         on = on-block b (m .trail) (s .length) o (r 12);
         live = over-open (s .state) (r 13);
@@ -111,47 +111,47 @@ module _ (s : Session) (b : List ℤ) (m : Memory) (seen : Revision) where
 
   -- an accepted step: its proposal is one that Decide may take
   pub record StepGuarded (l : Literal) : Type 0 where
-    pub guard : Guarded s b m seen
+    pub guard : Guarded L s b m seen
     pub permitted : Permitted (prefixOf b) (trueIn (recordIn (searchOf s m))) (l .0)
 
-  pub step-guarded : (l : Literal) → stepRefusal s b m seen l ≡ 0 → StepGuarded l
+  pub step-guarded : (l : Literal) → stepRefusal L s b m seen l ≡ 0 → StepGuarded l
   unfolding stepRefusal sessionRefusal formulaOf
   step-guarded l e =
-      let r = passed (stepRows s b m seen l) refl e in
+      let r = passed (stepRows L s b m seen l) refl e in
       record {
-        guard = guarded (first-part (sessionRows s b m seen) (ofStep s b m seen l) e);
+        guard = guarded (first-part (sessionRows L s b m seen) (ofStep s b m seen l) e);
         permitted = proposed-so l (isOpen (prefixOf b) (trueIn (recordIn (searchOf s m))) (l .0)) (r 17);
       }
 
   -- an accepted run: its revision can go up by its budget
   pub record RunGuarded (budget : ℕ) : Type 0 where
-    pub guard : Guarded s b m seen
+    pub guard : Guarded L s b m seen
     pub below : s .revision .0 + budget ≤ lastRevision
 
-  pub run-guarded : (budget : ℕ) → runRefusal s b m seen budget ≡ 0 → RunGuarded budget
+  pub run-guarded : (budget : ℕ) → runRefusal L s b m seen budget ≡ 0 → RunGuarded budget
   unfolding runRefusal sessionRefusal
   run-guarded budget e =
-      let r = passed (runRows s b m seen budget) refl e in
+      let r = passed (runRows L s b m seen budget) refl e in
       record {
-        guard = guarded (first-part (sessionRows s b m seen) (ofRun s b m seen budget) e);
+        guard = guarded (first-part (sessionRows L s b m seen) (ofRun s b m seen budget) e);
         below = ltb-false lastRevision (s .revision .0 + budget) (r 15);
       }
 
   -- ---- the other way round: a call that is so breaks no row but 15
-  module _ (g : Guarded s b m seen) where
-    guard-passes : sessionRefusal s b m seen ≡ 0
+  module _ (g : Guarded L s b m seen) where
+    guard-passes : sessionRefusal L s b m seen ≡ 0
     guard-passes =
-        let o = open-passes b m (record { block = g .on .block; room = rw (← prefix-length b (g .on .block)) (g .on .kept .room) }) in
+        let o = open-passes L b m (record { block = g .on .block; room = rw (← prefix-length L b (g .on .block)) (g .on .kept .room) }) in
         rw (from-12 o, g .on .kept .good, g .live, eq-eqb (seen .0) (s .revision .0) (g .current))
 
-    pub step-last : s .revision .0 ≡ lastRevision → (l : Literal) → stepRefusal s b m seen l ≡ 15
+    pub step-last : s .revision .0 ≡ lastRevision → (l : Literal) → stepRefusal L s b m seen l ≡ 15
     step-last e l = rw (step-from-15 l guard-passes, eq-eqb (s .revision .0) lastRevision e)
 
-    pub run-last : (budget : ℕ) → lastRevision < s .revision .0 + budget → runRefusal s b m seen budget ≡ 15
+    pub run-last : (budget : ℕ) → lastRevision < s .revision .0 + budget → runRefusal L s b m seen budget ≡ 15
     run-last budget h = rw (run-from-15 budget guard-passes, lt-ltb lastRevision (s .revision .0 + budget) h)
 
     pub step-passes : (s .revision .0 ≡ lastRevision → ⊥) → (l : Literal) → let r = recordIn (searchOf s m) in
-        (natAbs (l .0) ≡ 0) ⊎ (decides (due (formulaOf b) r) ≡ true) → Permitted (prefixOf b) (trueIn r) (l .0) → stepRefusal s b m seen l ≡ 0
+        (natAbs (l .0) ≡ 0) ⊎ (decides (due (formulaOf b) r) ≡ true) → Permitted (prefixOf b) (trueIn r) (l .0) → stepRefusal L s b m seen l ≡ 0
     unfolding formulaOf
     step-passes below l d a =
         let r = recordIn (searchOf s m) in

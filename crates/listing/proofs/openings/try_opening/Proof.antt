@@ -1,21 +1,24 @@
 -- The start is the opening's, and a record that passes row 12.
+use Rattle.words.specs.Outcomes.{same-answer, same-memory, both-same}
 use Rattle.listing.proofs.Groups.{searchable, searched}
 use borrow.Author.Needs.{needs}
 use Rattle.listing.proofs.openings.try_opening.Statement.{statement}
 use Rattle.listing.proofs.openings.try_opening.Tie as tie
 
+module _ (begun : tie.After-begin) where
+  abbrev start : tie.Start
+  start = begun .before .before .before .before
+
 search-requires : tie.Need-search-requires
 search-requires c κs =
-    let begun = c .before .before .before .before .before in
-    let start = begun .before .before .before .before in
-    searchable (start .pre) (start .args .n) (begun .begin .ensures)
+    let begun = c .before .before .before .before .before .before in
+    (searchable (start begun .pre .0) (start begun .args .n) (begun .begin .ensures), start begun .pre .1)
 
 returns : tie.Need-returns
 returns c =
     let found = c .before .before .before .before in
-    let begun = found .before .before .before .before .before .before in
-    let start = begun .before .before .before .before in
-    searched (start .pre) (start .args .n) (begun .begin .ensures) (start .args .preferred .now) (start .args .budget) (found .search .ensures)
+    let begun = found .before .before .before .before .before .before .before in
+    both-same (searched (start begun .pre .0) (start begun .args .n) (begun .begin .ensures) (start begun .args .preferred .now) (start begun .args .budget) (same-answer (found .search .ensures))) (same-memory (found .search .ensures))
 
 pub try-opening-spec : {M : Type 1} → statement M
 try-opening-spec =

@@ -2,6 +2,7 @@
 use mathlib.Core.Path.{_≡_, sym, _∙_}
 use borrow.Author.Needs.{needs}
 use Rattle.formula.specs.Formula.{prefixOf}
+use Rattle.rules.specs.Laws.Accepted.{prefix-few, accepted-bound}
 use Rattle.rules.specs.Apply.{moveOf, apply}
 use Rattle.rules.specs.Laws.Records.{kept-more}
 use Rattle.rules.proofs.Places.{cuttable, fitting}
@@ -17,7 +18,7 @@ module _ (c : tie.After-move-of) where
   made = sym (rw (← c .before .prefix .ensures) (c .move-of .ensures))
 
 move-of-requires : tie.Need-move-of-requires
-move-of-requires c κs = rw (c .prefix .ensures) (c .before .before .pre .0 .kept .prefix)
+move-of-requires c κs = rw (c .prefix .ensures) (accepted-bound _ (c .before .before .pre .0 .block))
 
 append-requires : tie.Need-append-requires
 append-requires c κs =
@@ -27,7 +28,7 @@ append-requires c κs =
 flip-requires : tie.Need-flip-requires
 flip-requires c κs =
     let m = c .before .before .before .before .before in
-    cuttable (start m .pre .0 .kept) (rw (made m ∙ c .before .before .before .at .given .1) at (fitting _ _ (start m .args .rule) (start m .args .proposal .0) (start m .pre .1)))
+    cuttable (start m .pre .0 .kept) (prefix-few _ _ (start m .pre .0 .block)) (rw (made m ∙ c .before .before .before .at .given .1) at (fitting _ _ (start m .args .rule) (start m .args .proposal .0) (start m .pre .1)))
 
 returns : tie.Need-returns
 unfolding apply

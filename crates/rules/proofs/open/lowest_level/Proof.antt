@@ -26,7 +26,7 @@ module _ (c : tie.After-size) where
   room : c .size .result < places
   room =
       let (q, i, e) = unassigned-in _ _ _ (sym (found .first-unassigned .ensures) ∙ c .before .before .before .first .given .1) in
-      let n = in-named (length (found .before .args .prefix .now)) _ (found .before .pre .named) i in
+      let n = in-named (length (found .before .args .prefix .now)) _ (found .before .pre .binds .named) i in
       omega (arith, sized, n .most, found .before .pre .room, variables-are)
 
 returns : tie.Need-returns

@@ -7,7 +7,7 @@ use lib.ListN.{length, getD, drop}
 use Rattle.formula.specs.Laws.Limits.{variables-are}
 use Rattle.formula.specs.Laws.Prefix.{change-few, fresh-at}
 use Rattle.rules.proofs.Filled.{placed, bound-named}
-use Rattle.rules.proofs.Levels.{Levelled, begin, turn, end}
+use Rattle.rules.proofs.Levelled.{Levelled, begin, turn, end}
 use Rattle.rules.proofs.tables.levels_of.Statement.{statement}
 use Rattle.rules.proofs.tables.levels_of.Tie as tie
 
@@ -41,7 +41,7 @@ loop-again c =
     let start = turned .before .before in
     turn _ _ _ _ (turned .before .loop .inv) (turned .loop-test .taken) _ (c .before .size-at .ensures)
     (placed _ _ _ (bound-named (start .pre)) (turned .loop-test .taken) (c .before .size-at .ensures))
-    (fresh-at _ (start .pre .once) _ (turned .loop-test .taken)) _ (c .change-at .ensures)
+    (fresh-at _ (start .pre .binds .once) _ (turned .loop-test .taken)) _ (c .change-at .ensures)
 
 returns : tie.Need-returns Inv-loop μ-loop
 returns c = end _ _ _ _ (c .before .loop .inv) (c .loop-test .left)

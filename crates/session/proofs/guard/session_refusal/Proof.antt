@@ -6,12 +6,13 @@ use mathlib.Core.Path.{sym, _∙_}
 use Rattle.session.specs.Laws.Accepted.{opened}
 use Rattle.session.proofs.guard.session_refusal.Statement.{statement}
 use Rattle.session.proofs.guard.session_refusal.Tie as tie
+use Rattle.formula.specs.Limits.{limits}
 
 returns : tie.Need-returns
 returns c = session-buffers _ _ _ _ (c .before .open-refusal .ensures) (c .if1 .taken)
 
 bad-record-requires : tie.Need-bad-record-requires
-bad-record-requires c κs = opened _ _ (sym (c .before .open-refusal .ensures) ∙ c .if1 .left)
+bad-record-requires c κs = opened limits _ _ (sym (c .before .open-refusal .ensures) ∙ c .if1 .left)
 
 returns-2 : tie.Need-returns-2
 returns-2 c =

@@ -16,16 +16,16 @@ abbrev pub CheckPromise : List ℤ → ℕ → Type 0
 CheckPromise b r = r ≡ refusal limits b
 
 abbrev pub OpenPromise : List ℤ → Memory → ℕ → List ℕ → ℕ → Lent Memory → Type 0
-OpenPromise b m first a r left = outcome r left ≡ openCall b m first a
+OpenPromise b m first a r left = outcome r left ≡ openCall limits b m first a
 
 abbrev pub StepPromise : Session → List ℤ → Memory → ℕ → ℤ → List ℕ → ℕ → Lent Memory → Type 0
-StepPromise s b m seen l a r left = outcome r left ≡ stepCall s b m seen l a
+StepPromise s b m seen l a r left = outcome r left ≡ stepCall limits s b m seen l a
 
 abbrev pub RunPromise : Session → List ℤ → Memory → ℕ → ℕ → List ℤ → List ℕ → ℕ → Lent Memory → Type 0
-RunPromise s b m seen budget preferred a r left = outcome r left ≡ runCall s b m seen budget preferred a
+RunPromise s b m seen budget preferred a r left = outcome r left ≡ runCall limits s b m seen budget preferred a
 
 abbrev pub PagePromise : List ℤ → PageMemory → ℕ → List ℤ → ℕ → List ℕ → ℕ → Lent PageMemory → Type 0
-PagePromise b m start preferred budget a r left = outcome r left ≡ pageCall b m start preferred budget a
+PagePromise b m start preferred budget a r left = outcome r left ≡ pageCall limits b m start preferred budget a
 
 -- ---- each leaves one result
 pub only-check : (b : List ℤ) (r r′ : ℕ) → CheckPromise b r → CheckPromise b r′ → r ≡ r′
