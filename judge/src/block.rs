@@ -7,8 +7,11 @@
 
 use std::collections::{BTreeSet, HashSet};
 
-/// "Limits: V 256, C 1,024, T 4,096."
-pub const LIMITS: [i64; 3] = [256, 1024, 4096];
+/// The most that V, C and T can be.
+pub const LIMITS: [i64; 3] = [1024, 4096, 8192];
+
+/// The most variables that a listing's first group can have.
+pub const FIRST_GROUP: usize = 20;
 
 /// The words before the prefix: V, C, T and the three offsets.
 pub const HEADER: usize = 6;

@@ -127,23 +127,23 @@ fn by_hand() -> Vec<Case> {
     ]
 }
 
-/// "V 256, C 1,024, T 4,096 pass check 2; one more of each gives 2."
+/// Each count at its limit is in range, and one more of any is refused with 2.
 fn at_the_limits() -> Vec<Case> {
     vec![
         case(
             "M: all three at their limits",
             0,
-            &of_counts(256, 1024, 4096),
+            &of_counts(1024, 4096, 8192),
         ),
-        case("M: V 257", 2, &of_counts(257, 1024, 4096)),
-        case("M: C 1025", 2, &of_counts(256, 1025, 4096)),
-        case("M: T 4097", 2, &of_counts(256, 1024, 4097)),
-        case("M: V 256 alone", 0, &of_counts(256, 1, 1)),
-        case("M: C 1024 alone", 0, &of_counts(1, 1024, 1)),
-        case("M: T 4096 in full clauses", 0, &of_counts(256, 16, 4096)),
-        case("M: V 257 alone", 2, &of_counts(257, 1, 1)),
-        case("M: C 1025 alone", 2, &of_counts(1, 1025, 1)),
-        case("M: T 4097 in full clauses", 2, &of_counts(256, 17, 4097)),
+        case("M: V 1025", 2, &of_counts(1025, 4096, 8192)),
+        case("M: C 4097", 2, &of_counts(1024, 4097, 8192)),
+        case("M: T 8193", 2, &of_counts(1024, 4096, 8193)),
+        case("M: V 1024 alone", 0, &of_counts(1024, 1, 1)),
+        case("M: C 4096 alone", 0, &of_counts(1, 4096, 1)),
+        case("M: T 8192 in full clauses", 0, &of_counts(1024, 8, 8192)),
+        case("M: V 1025 alone", 2, &of_counts(1025, 1, 1)),
+        case("M: C 4097 alone", 2, &of_counts(1, 4097, 1)),
+        case("M: T 8193 in full clauses", 2, &of_counts(1024, 9, 8193)),
     ]
 }
 
@@ -172,7 +172,7 @@ fn alone_in_header() -> Vec<(u8, Vec<i32>)> {
     vec![
         (1, vec![]),
         (1, vec![0, 0]),
-        (2, lay_out(&(1..=257).collect::<Vec<i32>>(), &[])),
+        (2, lay_out(&(1..=1025).collect::<Vec<i32>>(), &[])),
         (2, vec![-1, 1, 0, 6, 5, 6]),
         (2, vec![1, -1, 0, 6, 7, 6]),
         (2, vec![0, 1, -1, 6, 6, 7]),
@@ -182,7 +182,7 @@ fn alone_in_header() -> Vec<(u8, Vec<i32>)> {
         (3, vec![1, 1, 1, i32::MIN, i32::MIN, i32::MIN, 1, 1, 1]),
         (4, vec![0, 0, 0, 6, 6, 6, 0]),
         (4, vec![1, 1, 1, 6, 7, 8, 1, 1]),
-        (4, vec![256, 1024, 4096, 6, 262, 1286]),
+        (4, vec![1024, 4096, 8192, 6, 1030, 5126]),
     ]
 }
 
@@ -229,7 +229,7 @@ fn alone_in_clauses() -> Vec<(u8, Vec<i32>)> {
 pub fn neighbours() -> Vec<(u8, Vec<i32>)> {
     vec![
         (1, vec![-1]),
-        (2, vec![257, 0, 0, 6, 6, 6]),
+        (2, vec![1025, 0, 0, 6, 6, 6]),
         (3, vec![0, 0, 0, 6, 6, 7, 0]),
         (4, vec![1, 0, 0, 6, 7, 7, 0, 9]),
         (5, lay_out(&[1, 1, 0], &[])),
@@ -275,6 +275,9 @@ pub fn talks() -> Vec<Talk> {
     vec![
         least_word(),
         largest_first_group(),
+        first_group_too_large(),
+        largest_block(),
+        most_levels(),
         paused_after_entries(),
         repeated_on_short_buffers(),
     ]
@@ -293,22 +296,113 @@ fn least_word() -> Talk {
     talk
 }
 
-/// "k at most 16": G's clauses with sixteen variables in the first group, listed
-/// near its end. The openings win whose last two bits are not both 0.
+/// G's clauses with as many variables in the first group as there can be, listed
+/// near the end, 2^20 = 1048576. The openings win whose last two bits are not both
+/// 0. 1048568 is 1111 1111 1111 1111 1000 in bits, so it has 17 ones and loses, as
+/// does 1048572; the other six up to 1048575 win.
 fn largest_first_group() -> Talk {
-    let mut prefix: Vec<i32> = (1..=18).collect();
-    prefix[16] = -17;
-    let block = lay_out(&prefix, &[vec![15, 16], vec![-17, 18], vec![17, -18]]);
-    let mut talk = Talk::at("a first group of 16 variables", &block, 13);
+    let block = with_first_group(20);
+    let mut talk = Talk::at("a first group of 20 variables", &block, 13);
     talk.say(
-        "page 65528 100",
-        "page 0 65536 6 0 65529 14 65530 14 65531 15 65533 15 65534 15 65535 16",
+        "page 1048568 100",
+        "page 0 1048576 6 0 1048569 18 1048570 18 1048571 19 1048573 19 1048574 19 1048575 20",
     );
     talk.say("out 7 7 7 7 7", "out 5");
-    talk.say("page 65528 100", "page 0 65531 2 0 65529 14 65530 14");
-    talk.say("page 65536 0", "page 0 65536 0 0");
-    talk.say("page 65537 0", "page 20");
+    talk.say(
+        "page 1048568 100",
+        "page 0 1048571 2 0 1048569 18 1048570 18",
+    );
+    talk.say("page 1048571 4", "page 0 1048571 0 1");
+    talk.say("page 1048576 0", "page 0 1048576 0 0");
+    talk.say("page 1048577 0", "page 20");
     talk
+}
+
+/// One variable more in the first group: no page, but a session as ever.
+fn first_group_too_large() -> Talk {
+    let block = with_first_group(21);
+    let mut talk = Talk::at("a first group of 21 variables", &block, 2);
+    talk.say("page 0 100", "page 19");
+    talk.say("page 4294967295 0", "page 19");
+    talk.say("open 0", "open 0 0 0 0");
+    talk.say("page 0 100", "page 19");
+    talk
+}
+
+/// G with k variables in the first group: the clause of 1 and 2 is that of its
+/// last two, and the universal variable and its copy come after it.
+fn with_first_group(k: i32) -> Vec<i32> {
+    let (universal, copy) = (k + 1, k + 2);
+    let mut prefix: Vec<i32> = (1..=k).collect();
+    prefix.extend([-universal, copy]);
+    let copied = [vec![-universal, copy], vec![universal, -copy]];
+    lay_out(&prefix, &[vec![vec![k - 1, k]], copied.to_vec()].concat())
+}
+
+/// All counts at their limits: the clauses {1, 2}, {3, 4} and so on to {1023, 1024},
+/// eight times over. Monotone appends the odd variables, after which no clause
+/// counts; the even ones are decided, the last of them first and as false. Then
+/// Succeed.
+fn largest_block() -> Talk {
+    let mut talk = Talk::at("the largest block", &of_counts(1024, 4096, 8192), 2);
+    talk.say("open 0", "open 0 0 0 0");
+    talk.say("run 0 511", "run 0 511 511 0 511");
+    talk.say("step 511 1024", "step 16");
+    talk.say("step 511 0", "step 0 512 512 0");
+    talk.say("step 512 1025", "step 17");
+    talk.say("step 512 -1024", "step 0 513 513 0");
+    talk.say("step 513 1024", "step 17");
+    talk.say("run 513 4294967295", "run 0 1024 1025 1 512");
+    let odd = (1..1024).step_by(2);
+    let even = (2..1024).step_by(2);
+    let literals: Vec<i32> = odd.chain([-1024]).chain(even).collect();
+    let kinds = [[0; 512], [1; 512]].concat();
+    talk.say(
+        "show",
+        &shown("show 1024 1025 1", &literals, &kinds, " 7 7"),
+    );
+    talk.say("page 0 1", "page 19");
+    talk
+}
+
+/// As many levels as there can be, 0 to 1023: the odd variables are universal, and
+/// v has level v - 1. So {1023, 1024} is no unit, {-1023, 1022} is one, and so is
+/// {1024} after it. All others are decided then, in order, and 1023 is the first
+/// to be turned and 1021 the second.
+fn most_levels() -> Talk {
+    let prefix: Vec<i32> = (1..=1024)
+        .map(|v| if v % 2 == 1 { -v } else { v })
+        .collect();
+    let clauses = [vec![1023, 1024], vec![-1023, 1022], vec![1024]];
+    let mut talk = Talk::at(
+        "as many levels as there can be",
+        &lay_out(&prefix, &clauses),
+        0,
+    );
+    talk.say("open 0", "open 0 0 0 0");
+    talk.say("step 0 0", "step 0 1 1 0");
+    talk.say("step 1 0", "step 0 2 2 0");
+    talk.say("step 2 2", "step 17");
+    talk.say("run 2 1022", "run 0 1024 1024 0 1022");
+    let mut literals: Vec<i32> = [1022, 1024].into_iter().chain(1..=1021).collect();
+    literals.push(1023);
+    let decided = |literal: &i32| if literal % 2 == 1 { 2 } else { 1 };
+    let mut kinds: Vec<i32> = literals.iter().map(decided).collect();
+    kinds[..2].fill(0);
+    talk.say("show", &shown("show 1024 1024 0", &literals, &kinds, ""));
+    talk.say("step 1024 0", "step 0 1024 1025 0");
+    talk.say("step 1025 0", "step 0 1023 1026 0");
+    literals[1022..].copy_from_slice(&[-1021, 0]);
+    kinds[1022..].fill(0);
+    talk.say("show", &shown("show 1023 1026 0", &literals, &kinds, ""));
+    talk
+}
+
+/// What `show` answers.
+fn shown(session: &str, literals: &[i32], kinds: &[i32], output: &str) -> String {
+    let literals = line(" lits", literals);
+    let kinds = line(" kinds", kinds);
+    format!("{session}{literals}{kinds} out{output}")
 }
 
 /// G with two more variables: where 1 is true, the first choice for 5 leads to

@@ -2,7 +2,7 @@
 //! an accepted record. Not every try lands (a block may lack the part that it
 //! would break); the check says what came of it.
 
-use crate::block::ROWS;
+use crate::block::{LIMITS, ROWS};
 use crate::dice::Dice;
 use crate::record::Entry;
 
@@ -46,7 +46,8 @@ fn broken(dice: &mut Dice, block: &[i32], row: u8) -> Vec<i32> {
 /// The places of prefix, clause ends or literals (0, 1 or 2), as far as the
 /// block has them.
 fn part(words: &[i32], which: usize) -> std::ops::Range<usize> {
-    let count = |place: usize| words.get(place).map_or(0, |&n| n.clamp(0, 5000) as usize);
+    let most = words.len() as i32;
+    let count = |place: usize| words.get(place).map_or(0, |&n| n.clamp(0, most) as usize);
     let start = 6 + (0..which).map(count).sum::<usize>();
     let end = (start + count(which)).min(words.len());
     start.min(end)..end
@@ -55,7 +56,7 @@ fn part(words: &[i32], which: usize) -> std::ops::Range<usize> {
 /// A count over its limit or negative, its offsets often in keeping with it.
 fn break_count(dice: &mut Dice, words: &mut [i32]) {
     let which = dice.below(3);
-    let over = [257, 1025, 4097][which];
+    let over = LIMITS[which] as i32 + 1;
     words[which] = dice.pick(&[over, over, -1, i32::MIN, i32::MAX]);
     if dice.chance(1, 2) {
         words[4] = words[0].wrapping_add(6);

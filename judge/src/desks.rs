@@ -4,7 +4,7 @@
 
 use std::io::{self, Write};
 
-use crate::block::Formula;
+use crate::block::{Formula, FIRST_GROUP};
 use crate::console::{line, Desk};
 use crate::damage::{break_entry, damaged, EDGES};
 use crate::dice::Dice;
@@ -93,11 +93,12 @@ impl Play {
         }
     }
 
-    /// Mostly small formulas, with now and then a large or an edge count.
+    /// Mostly small formulas, with now and then a large count, or one at its limit
+    /// or over it.
     fn new_block(&mut self) -> Vec<i32> {
         let dice = &mut self.dice;
         let variables = 3 + dice.below(10);
-        let (shape, k) = match dice.weighted(&[160, 160, 340, 280, 100, 12, 4]) {
+        let (shape, k) = match dice.weighted(&[160, 160, 340, 280, 100, 12, 9, 5]) {
             0 => (shapes::small(dice, 4), None),
             1 => (shapes::small(dice, 8), None),
             2 => (shapes::harder(dice, variables), None),
@@ -107,7 +108,8 @@ impl Play {
             }
             4 => shapes::wide(dice),
             5 => (shapes::large(dice), None),
-            _ => return shapes::full(dice),
+            6 => return shapes::full(dice),
+            _ => return shapes::overfull(dice),
         };
         shapes::block(dice, shape, k)
     }
@@ -135,7 +137,7 @@ impl Play {
         let dice = &mut self.dice;
         let count = dice.pick(&[0, 1, 2, 3, 4, 5, 6, 8, 8, 9, 16]);
         let words: Vec<u32> = (0..count)
-            .map(|_| dice.pick(&[0, 7, 65536, u32::MAX]))
+            .map(|_| dice.pick(&[0, 7, 1 << FIRST_GROUP, u32::MAX]))
             .collect();
         self.say(line("out", &words));
     }
@@ -324,7 +326,7 @@ impl Play {
             self.say_output();
         }
         let k = self.formula.as_ref().map_or(0, Formula::first_group);
-        let end = 1u64 << k.min(20);
+        let end = 1u64 << k.min(FIRST_GROUP + 4);
         let first = if k > 6 {
             end.saturating_sub(self.dice.below(30) as u64)
         } else {

@@ -1,6 +1,6 @@
 //! The listing of openings by pages, with refusals 1 to 10, 23, 11 and 18 to 21.
 
-use crate::block::Formula;
+use crate::block::{Formula, FIRST_GROUP};
 use crate::hits::Hits;
 use crate::record::{self, Entry, FORCED};
 use crate::session::{Lent, Search, State};
@@ -43,7 +43,7 @@ fn guard(block: &[i32], work: &Lent, start: u32, output: &[u32]) -> Result<Formu
     if formula.first_group_universal() {
         return Err(18);
     }
-    if formula.first_group() > 16 {
+    if formula.first_group() > FIRST_GROUP {
         return Err(19);
     }
     if start > 1 << formula.first_group() {

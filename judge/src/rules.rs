@@ -1,6 +1,8 @@
 //! The due rule and what it does to a record. A yardstick of correctness, not
 //! of speed: each question is asked of the record anew.
 
+use std::collections::HashSet;
+
 use crate::block::Formula;
 use crate::record::{Entry, EXISTENTIAL_DECISION, FORCED, UNIVERSAL_DECISION};
 
@@ -192,8 +194,9 @@ impl<'a> Values<'a> {
     fn monotone(&self) -> Option<i32> {
         let is_true = |literal: &i32| self.is_true(*literal);
         let clauses = self.formula.clauses.iter();
-        let counting: Vec<_> = clauses.filter(|clause| !clause.iter().any(is_true)).collect();
-        let occurs = |literal| counting.iter().any(|clause| clause.contains(&literal));
+        let counting = clauses.filter(|clause| !clause.iter().any(is_true));
+        let occurring: HashSet<i32> = counting.flatten().copied().collect();
+        let occurs = |literal| occurring.contains(&literal);
         let free = self.formula.order().filter(|&v| !self.assigned(v));
         free.filter_map(|variable| match (occurs(variable), occurs(-variable)) {
             (true, false) => Some(variable),

@@ -1,6 +1,6 @@
 //! Random formulas of several shapes, and random records of a formula.
 
-use crate::block::{lay_out, Formula};
+use crate::block::{lay_out, Formula, FIRST_GROUP, LIMITS};
 use crate::dice::Dice;
 use crate::record::Entry;
 
@@ -51,11 +51,17 @@ fn clause(dice: &mut Dice, shape: Shape, prefix: &[i32]) -> Vec<i32> {
     }
     let (least, most) = shape.widths;
     let wanted = (least + dice.below(most + 1 - least)).min(prefix.len());
+    literals(dice, prefix, wanted, shape.existential)
+}
+
+/// That many literals of different variables, most times with some existential
+/// ones.
+fn literals(dice: &mut Dice, prefix: &[i32], wanted: usize, existential: usize) -> Vec<i32> {
     let mut variables: Vec<i32> = prefix.iter().map(|word| word.abs()).collect();
     dice.shuffle(&mut variables);
     if dice.chance(29, 30) {
         let mut first = prefix.iter().copied().filter(|&word| word > 0).collect();
-        bring_forward(dice, &mut variables, &mut first, shape.existential);
+        bring_forward(dice, &mut variables, &mut first, existential);
     }
     variables.truncate(wanted);
     let mut literals: Vec<i32> = variables.iter().map(|&v| v * dice.pick(&[1, -1])).collect();
@@ -106,7 +112,7 @@ pub fn harder(dice: &mut Dice, variables: usize) -> Shape {
 
 /// A first group of about the size where a listing is refused.
 pub fn wide(dice: &mut Dice) -> (Shape, Option<usize>) {
-    let k = dice.pick(&[14, 15, 16, 16, 17, 17, 19]);
+    let k = FIRST_GROUP + 3 - dice.pick(&[0, 2, 2, 3, 3, 4, 5, 7]);
     let shape = Shape {
         variables: k + dice.below(4),
         clauses: dice.below(30),
@@ -118,8 +124,9 @@ pub fn wide(dice: &mut Dice) -> (Shape, Option<usize>) {
 }
 
 pub fn large(dice: &mut Dice) -> Shape {
+    let most = LIMITS[0] as usize;
     Shape {
-        variables: dice.pick(&[30, 60, 128, 255, 256]),
+        variables: dice.pick(&[30, 60, 128, 257, most - 1, most]),
         clauses: dice.below(120),
         widths: (2, 4),
         existential: 2,
@@ -129,27 +136,37 @@ pub fn large(dice: &mut Dice) -> Shape {
 
 /// A block with one count, or all of them, at the limit.
 pub fn full(dice: &mut Dice) -> Vec<i32> {
-    let (variables, count, words) = dice.pick(&[
-        (256, 3, 9),
-        (3, 1024, 2048),
-        (256, 17, 4096),
-        (256, 1024, 4096),
-    ]);
+    let [v, c, t] = LIMITS.map(|most| most as usize);
+    let counts = dice.pick(&[(v, 3, 9), (3, c, t), (v, 17, t), (v, c, t)]);
+    of_counts(dice, counts)
+}
+
+/// A block with one count, or all of them, one over the limit, and right in all
+/// else.
+pub fn overfull(dice: &mut Dice) -> Vec<i32> {
+    let [v, c, t] = LIMITS.map(|most| most as usize + 1);
+    let counts = dice.pick(&[(v, 3, 9), (3, c, t - 1), (v - 1, 17, t), (v, c, t)]);
+    of_counts(dice, counts)
+}
+
+/// A block with that many variables, clauses and literal words, these spread
+/// evenly over the clauses; its first group is whole, or about the largest that
+/// is listed, or any.
+fn of_counts(dice: &mut Dice, (variables, count, words): (usize, usize, usize)) -> Vec<i32> {
     let shape = Shape {
         variables,
         clauses: count,
         widths: (0, 0),
         existential: 0,
-        changes: 10,
+        changes: dice.pick(&[1, 10]),
     };
-    let prefix = prefix(dice, shape, None);
-    let mut variables: Vec<i32> = prefix.iter().map(|word| word.abs()).collect();
+    let listed = FIRST_GROUP;
+    let k = dice.pick(&[Some(variables), Some(listed), Some(listed + 1), None]);
+    let prefix = prefix(dice, shape, k);
     let clauses: Vec<Vec<i32>> = (0..count)
         .map(|clause| {
-            dice.shuffle(&mut variables);
             let width = (clause + 1) * words / count - clause * words / count;
-            let literal = |&variable: &i32| variable * dice.pick(&[1, -1]);
-            variables[..width].iter().map(literal).collect()
+            literals(dice, &prefix, width, 1)
         })
         .collect();
     lay_out(&prefix, &clauses)

@@ -8,10 +8,10 @@
 //! and then, if there is none, for the lowest unit clause.
 
 /// The limits of V, C and T.
-const LIMITS: [i64; 3] = [256, 1024, 4096];
+const LIMITS: [i64; 3] = [1024, 4096, 8192];
 
 /// One place for each variable, place 0 unused.
-const PLACES: usize = 257;
+const PLACES: usize = LIMITS[0] as usize + 1;
 
 const OPEN: u8 = 0;
 const VALID: u8 = 1;

@@ -40,10 +40,10 @@ fn of_two_neighbouring_rows_the_lower_one_answers() {
 #[test]
 fn limits_alone_break_row_2_alone() {
     for counts in [
-        (257, 1, 1),
-        (1, 1025, 1),
-        (256, 17, 4097),
-        (257, 1025, 4097),
+        (1025, 1, 1),
+        (1, 4097, 1),
+        (1024, 9, 8193),
+        (1025, 4097, 8193),
     ] {
         let block = cases::of_counts(counts.0, counts.1, counts.2);
         assert_eq!(rows_broken(&block), [2]);

@@ -210,34 +210,34 @@ fn refusals_18_to_21_in_order() {
         prefix.insert(0, if universal { -1 } else { 1 });
         judge::block::lay_out(&prefix, &[])
     };
-    let record = vec![0; 20];
+    let record = vec![0; 22];
     let record = [line("lits", &record), line("kinds", &record)];
     let refused = |block: &[i32], call: &str, out: &str| {
         asked(block, &[&record[0], &record[1], out, call])[3].clone()
     };
-    assert_eq!(asked(&block(16, true), &["page 9 0"]), ["page 11"]);
+    assert_eq!(asked(&block(20, true), &["page 9 0"]), ["page 11"]);
     assert_eq!(
-        refused(&block(17, true), "page 4294967295 0", "out"),
+        refused(&block(21, true), "page 4294967295 0", "out"),
         "page 18"
     );
     assert_eq!(
-        refused(&block(16, false), "page 4294967295 0", "out"),
+        refused(&block(20, false), "page 4294967295 0", "out"),
         "page 19"
     );
     assert_eq!(
-        refused(&block(15, false), "page 65537 0", "out 1"),
+        refused(&block(19, false), "page 1048577 0", "out 1"),
         "page 20"
     );
     assert_eq!(
-        refused(&block(15, false), "page 65536 0", "out 1"),
+        refused(&block(19, false), "page 1048576 0", "out 1"),
         "page 21"
     );
     assert_eq!(
-        refused(&block(15, false), "page 65536 0", "out 1 1"),
-        "page 0 65536 0 0"
+        refused(&block(19, false), "page 1048576 0", "out 1 1"),
+        "page 0 1048576 0 0"
     );
     assert_eq!(
-        refused(&block(15, false), "page 65535 2", "out 1 1"),
-        "page 0 65536 1 0 65535 16"
+        refused(&block(19, false), "page 1048575 2", "out 1 1"),
+        "page 0 1048576 1 0 1048575 20"
     );
 }

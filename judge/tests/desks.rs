@@ -1,5 +1,6 @@
 //! The generated lines try everything that there is to try.
 
+use judge::block::{breaks, LIMITS, ROWS};
 use judge::desks;
 use judge::tally::Tally;
 
@@ -15,6 +16,32 @@ fn the_same_seed_gives_the_same_lines() {
     assert_eq!(once.iter().filter(|&&byte| byte == b'\n').count(), 2000);
     assert_eq!(once, lines(7, 2000));
     assert_ne!(once, lines(8, 2000));
+}
+
+/// Each count is at its limit in blocks that are accepted, and one over it in
+/// blocks that are right in all else.
+#[test]
+fn every_limit_is_met_and_passed() {
+    let mut met = [0; 3];
+    let mut passed = [0; 3];
+    for line in String::from_utf8(lines(1, 60_000)).unwrap().lines() {
+        let words = line.strip_prefix("block ").unwrap_or("").split(' ');
+        let block: Vec<i32> = words.filter_map(|word| word.parse().ok()).collect();
+        if block.len() < 1000 {
+            continue;
+        }
+        let broken: Vec<u8> = ROWS
+            .into_iter()
+            .filter(|&row| breaks(&block, row))
+            .collect();
+        for count in 0..3 {
+            let over = i64::from(block[count]) - LIMITS[count];
+            met[count] += usize::from(over == 0 && broken.is_empty());
+            passed[count] += usize::from(over == 1 && broken == [2]);
+        }
+    }
+    assert!(met.iter().all(|&count| count > 3), "{met:?}");
+    assert!(passed.iter().all(|&count| count > 1), "{passed:?}");
 }
 
 /// Every refusal number, 1 to 21 and 23, and every rule is hit often.

@@ -8,6 +8,8 @@ ghost use Rattle.listing.specs.Page.{pageMemory, paged, sheetOf};
 ghost use Rattle.listing.specs.Inner.Pages.{OnPage, wipedOutcome};
 use crate::Paged;
 use crate::openings;
+use formula::LITERAL_PLACES;
+use formula::MAX_VARIABLES;
 use rules::State;
 
 // An answer.
@@ -45,6 +47,9 @@ pub(crate) fn fill(
     requires { ⌜ OnPage (now block) (pageMemory (now lits) (now kinds) (now output)) k start ⌝ }
     ensures { λ r. ⌜ wipedOutcome (formulaOf (now (block .entry))) r (pageMemory (now (lits .exit)) (now (kinds .exit)) (now (output .exit))) ≡ paged (formulaOf (now (block .entry))) (pageMemory (now (lits .entry)) (now (kinds .entry)) (now (output .entry)) .work) (sheetOf (formulaOf (now (block .entry))) (pageMemory (now (lits .entry)) (now (kinds .entry)) (now (output .entry))) start (now (preferred .entry)) budget) ⌝ }
 {
+    let levels = rules::levels(block);
+    let mut statuses = [0u8; LITERAL_PLACES];
+    let mut reasons = [0u32; MAX_VARIABLES];
     let total = openings::count(k);
     let mut n = start;
     let mut entries = 0;
@@ -52,7 +57,18 @@ pub(crate) fn fill(
         if output.len() < 2 * (entries as usize) + 2 {
             return answer(n, entries, false);
         }
-        let reached = openings::try_opening(block, lits, kinds, k, n, preferred, budget);
+        let reached = openings::try_opening(
+            block,
+            lits,
+            kinds,
+            k,
+            n,
+            preferred,
+            budget,
+            &levels,
+            &mut statuses,
+            &mut reasons,
+        );
         let next = n + 1;
         let state = reached.state;
         match state {

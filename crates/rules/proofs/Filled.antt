@@ -1,6 +1,6 @@
--- A table filled by one pass says at every place what the words passed say: a store changes what is said at its own place only. The tables
--- of values and of statuses.
-use mathlib.Core.Path.{_≡_, sym, _∙_, refl}
+-- A table filled by one pass says at every place what the words passed say: a store changes what is said at its own place only. The table of
+-- values.
+use mathlib.Core.Path.{_≡_, sym, _∙_, refl, ap}
 use mathlib.Core.List.{List, [], _∷_, _++_}
 use Prim.Native.Nat.{ℕ, _+_, _≤_, _<_, zero, suc, _-_}
 use native.Mathlib.Decide.{ℕ-discrete}
@@ -8,7 +8,7 @@ use native.Mathlib.Omega.{arith}
 use lib.IntN.{ℤ, pos, natAbs, negsuc, negℤ}
 use lib.ListN.{length, getD, take, set, replicate, length-set, length-replicate}
 use lib.Seq.{getD-set-same, getD-set-other, take-length, getD-take, take-take, length-take-le}
-use Rattle.words.specs.Laws.Lists.{take-more, blank}
+use Rattle.words.specs.Laws.Lists.{take-more, any-append, blank}
 use Rattle.words.specs.Lists.{any}
 use Rattle.formula.specs.Limits.{limits}
 use Rattle.formula.specs.Laws.Limits.{variables-are}
@@ -17,7 +17,8 @@ use Rattle.formula.specs.Inner.Named.{Named}
 use Rattle.theory.specs.Record.{among}
 use Rattle.rules.specs.Inner.Ready.{Bound}
 use Rattle.rules.specs.Inner.Tables.{places, Known, Written, Values, Quantifiers, signOf, valueIn}
-use mathlib.Core.Bool.{true, false}
+use mathlib.Core.Bool.{true, false, _||_, or-false}
+use lib.Dec.{eqb}
 use Rattle.words.specs.Laws.Bools.{clash}
 use Rattle.words.specs.Words.{negative, eqZ, mem}
 use Rattle.words.specs.Laws.Words.{mem-here, mem-other, plus-other, minus-other}
@@ -29,6 +30,13 @@ use Rattle.rules.specs.Inner.ByLiteral.{statusOf, statusBy, statusIn, St
 -- a variable's number is a place of a table
 pub enough : limits .variables < places
 enough = omega (arith, variables-are)
+
+-- which variables one word more names
+pub named-more : (p : List ℤ) (i : ℕ) → i < length p → (v : ℕ) → any (names v) (take (i + 1) p) ≡ (any (names v) (take i p) || eqb v (natAbs (getD p i (pos 0))))
+unfolding any
+named-more p i h v =
+    rw (take-more p i (pos 0) h, any-append (names v) (take i p) (getD p i (pos 0) ∷ []))
+    (ap (λ b. any (names v) (take i p) || b) (or-false (eqb v (natAbs (getD p i (pos 0))))))
 
 -- one store, between what the table said before and what it says after
 pub stored : (t : List ℕ) (s a : ℕ) (f g : ℕ → ℕ) → s < length t → ((v : ℕ) → getD t v 0 ≡ f v) → a ≡ g s → ((v : ℕ) → (v ≡ s → ⊥) → g v ≡ f v) → (v : ℕ) → getD (set t s a) v 0 ≡ g v
@@ -144,53 +152,3 @@ plus-true (negsuc n) h = clash refl h
 -- a word names a variable for which a table has a place
 pub word-small : (ws : List ℤ) → Known ws → (i : ℕ) → i < length ws → natAbs (getD ws i (pos 0)) ≤ limits .variables
 word-small ws named i h = all-named (limits .variables) ws named .at i h .most
-
--- the variables below v are written
-pub record Stated (n : ℕ) (values quantifiers : List ℕ) (t : List ℕ) (v : ℕ) : Type 0 where
-  pub from : 1 ≤ v
-  pub at : v ≤ n + 1
-  pub long : length t ≡ literalPlaces
-  pub said : (x : ℤ) → 0 < natAbs x → natAbs x < v → statusIn t x ≡ statusBy values quantifiers x
-
-module _ (n : ℕ) (values quantifiers : List ℕ) where
-  pub stated-begin : Stated n values quantifiers (replicate literalPlaces 0) 1
-  stated-begin = record { from = omega arith; at = omega arith; long = length-replicate {A = ℕ} literalPlaces 0; said = λ x l h. absurd (omega arith) }
-
-  module _ (t : List ℕ) (v : ℕ) (s : Stated n values quantifiers t v) where
-    pub stated-end : n < v → Statuses n values quantifiers t
-    stated-end h x l m = s .said x l (omega arith)
-
-    module _ (h : v ≤ n) (few : n ≤ limits .variables) (m : ℕ) (mid : m ≡ limits .variables) (a b : ℕ) (is-plus : a ≡ statusOf (getD values v 0) (getD quantifiers v 0) 1) (is-minus : b ≡ statusOf (getD values v 0) (getD quantifiers v 0) 2) where
-      abbrev up : ℕ
-      up = m + v
-
-      abbrev down : ℕ
-      down = m - v
-
-      abbrev after : List ℕ
-      after = set (set t up a) down b
-
-      after-up : getD after up 0 ≡ a
-      after-up = getD-set-other (set t up a) down up b 0 (λ e. omega (arith, s .from)) ∙ getD-set-same t up a 0 (omega (arith, s .long, variables-are))
-
-      after-down : getD after down 0 ≡ b
-      after-down = let l : down < length (set t up a) = simp length-set (omega (arith, s .long, variables-are)) in getD-set-same (set t up a) down b 0 l
-
-      after-other : (at : ℕ) → (at ≡ up → ⊥) → (at ≡ down → ⊥) → getD after at 0 ≡ getD t at 0
-      after-other at f g = getD-set-other (set t up a) down at b 0 g ∙ getD-set-other t up at a 0 f
-
-      said-after : (x : ℤ) → 0 < natAbs x → natAbs x < v + 1 → statusIn after x ≡ statusBy values quantifiers x
-      unfolding placeOf statusBy
-      said-after (pos k) l m = by (ℕ-discrete k v)
-        where
-          by : Dec (k ≡ v) → statusIn after (pos k) ≡ statusBy values quantifiers (pos k)
-          by (yes e) = rw (← mid, e) (after-up ∙ is-plus)
-          by (no f) = after-other (limits .variables + k) (λ e. f (omega arith)) (λ e. omega (arith, s .from)) ∙ s .said (pos k) l (omega arith)
-      said-after (negsuc k) l m = by (ℕ-discrete (suc k) v)
-        where
-          by : Dec (suc k ≡ v) → statusIn after (negsuc k) ≡ statusBy values quantifiers (negsuc k)
-          by (yes e) = rw (← mid, e) (after-down ∙ is-minus)
-          by (no f) = after-other (limits .variables - suc k) (λ e. omega (arith, s .from)) (λ e. f (omega arith)) ∙ s .said (negsuc k) l (omega arith)
-
-      pub stated-turn : Stated n values quantifiers after (v + 1)
-      stated-turn = record { from = omega arith; at = omega arith; long = length-set (set t up a) down b ∙ length-set t up a ∙ s .long; said = said-after }

@@ -77,7 +77,7 @@ module _ (ρ : Assignment) (es ls : List ℤ) where
     pub long : length t ≡ literalPlaces
     pub said : (at : ℕ) → markedBy ρ t (clausesFrom ls from (drop c es)) at ≡ cond (occurs (untrueOf ρ (clausesFrom ls 0 es)) (wordAt at)) 1 0
 
-  pub count-begin : Clauses es ls → Counting (replicate literalPlaces 0) 0 0
+  pub count-begin : Clauses es ls 0 → Counting (replicate literalPlaces 0) 0 0
   count-begin k = record { ends = k .ends; long = length-replicate {A = ℕ} literalPlaces 0; said = λ at. ap (λ n. cond (occurs (untrueOf ρ (clausesFrom ls 0 es)) (wordAt at)) 1 n) (blank {A = ℕ} 0 literalPlaces at) }
 
   module _ (t : List ℕ) (from c : ℕ) (k : Counting t from c) where

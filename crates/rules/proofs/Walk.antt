@@ -1,6 +1,6 @@
 -- The walk over the clauses of the literal words: each turn takes the clause from the end before it to its own, and what is left of the
 -- ends is still in order.
-use Prim.Native.Nat.{ℕ, suc, _+_, _-_, _≤_, _<_, zero-le}
+use Prim.Native.Nat.{ℕ, _+_, _-_, _≤_, _<_, zero-le}
 use mathlib.Core.Path.{_≡_, refl, sym, _∙_, ap}
 use mathlib.Core.Logic.{_⊎_, inl, inr}
 use mathlib.Core.Bool.{Bool, true, false}
@@ -13,14 +13,13 @@ use lib.ListN.{length, getD, take, drop, length-take, List·getD-eq-default}
 use lib.Seq.{getD-take, getD-drop}
 use borrow.Author.Tests.{ltb-true, ltb-false, ne-eqb}
 use Rattle.words.specs.Laws.Bools.{look}
-use Rattle.words.specs.Laws.Lists.{next}
 use Rattle.formula.specs.Limits.{limits}
 use Rattle.formula.specs.Formula.{clausesFrom}
 use Rattle.formula.specs.Block.{badEnds}
 use Rattle.formula.specs.Laws.Ends.{good-end}
 use Rattle.formula.specs.Laws.Clauses.{clauses-at, clauses-ended}
 use Rattle.rules.specs.Due.{lowest}
-use Rattle.rules.specs.Inner.Clauses.{Placed, Clauses, keepsBy}
+use Rattle.rules.specs.Inner.Clauses.{Placed, keepsBy}
 use Rattle.rules.specs.declared.found.Found.the-variants.{At, Nothing}
 
 -- the clause that begins at `from` and is number c, when it ends at e
@@ -51,38 +50,25 @@ placed-part ls k j p i = go (look (ltb i k))
         let m : length (take k (drop j ls)) ≤ i = simp length-take (omega arith) in
         rw (List·getD-eq-default (take k (drop j ls)) (pos 0) m) zero-le
 
--- what is left of a clause: its next literal and the rest, or nothing
-pub part-next : (ls : List ℤ) (j e : ℕ) → j < e → e ≤ length ls → take (e - j) (drop j ls) ≡ getD ls j (pos 0) ∷ take (e - (j + 1)) (drop (j + 1) ls)
-part-next ls j e h l =
-    let m : j < length ls = omega arith in
-    let n : e - j ≡ suc (e - (j + 1)) = omega arith in
-    rw (next ls j (pos 0) m, n)
-
-pub part-ended : (ls : List ℤ) (j e : ℕ) → e ≤ j → take (e - j) (drop j ls) ≡ []
-part-ended ls j e h = let n : e - j ≡ 0 = omega arith in rw n
-
--- the walk so far: f of the clauses left, the first of them being number c, is f of all
-module _ {A : Type 0} (f : ℕ → List (List ℤ) → A) (es ls : List ℤ) where
+-- the walk so far: f of the clauses left, the first of them being number c, is the whole
+module _ {A : Type 0} (f : ℕ → List (List ℤ) → A) (es ls : List ℤ) (whole : A) where
   pub record Walk (from c : ℕ) : Type 0 where
     pub ends : badEnds (length ls) from (drop c es) ≡ false
-    pub same : f c (clausesFrom ls from (drop c es)) ≡ f 0 (clausesFrom ls 0 es)
-
-  pub walk-start : Clauses es ls → Walk 0 0
-  walk-start k = record { ends = k .ends; same = refl }
+    pub same : f c (clausesFrom ls from (drop c es)) ≡ whole
 
   module _ (from c e : ℕ) (w : Walk from c) (t : Turn es ls from c e) where
     pub walk-on : f (c + 1) (clausesFrom ls e (drop (c + 1) es)) ≡ f c (take (e - from) (drop from ls) ∷ clausesFrom ls e (drop (c + 1) es)) → Walk e (c + 1)
     walk-on h = record { ends = t .ends; same = h ∙ sym (ap (f c) (t .clauses)) ∙ w .same }
 
-    pub walk-stop : f c (take (e - from) (drop from ls) ∷ clausesFrom ls e (drop (c + 1) es)) ≡ f 0 (clausesFrom ls 0 es)
-    walk-stop = sym (ap (f c) (t .clauses)) ∙ w .same
+    pub walk-stop : {r : A} → r ≡ f c (take (e - from) (drop from ls) ∷ clausesFrom ls e (drop (c + 1) es)) → r ≡ whole
+    walk-stop h = h ∙ sym (ap (f c) (t .clauses)) ∙ w .same
 
-  pub walk-end : (from c : ℕ) → length es ≤ c → Walk from c → f c [] ≡ f 0 (clausesFrom ls 0 es)
+  pub walk-end : (from c : ℕ) → length es ≤ c → Walk from c → f c [] ≡ whole
   walk-end from c h w = rw (clauses-ended ls from es c h) at (w .same)
 
 -- one clause more
 module _ {A : Type 0} (f : A → Bool) (c : ℕ) (x : A) (m : List A) where
-  pub lowest-hit : f x ≡ true → lowest f c (x ∷ m) ≡ At c
+  pub lowest-hit : f x ≡ true → At c ≡ lowest f c (x ∷ m)
   unfolding lowest
   lowest-hit h = rw h
 

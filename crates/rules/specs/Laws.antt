@@ -12,6 +12,7 @@ pub mod Steps
 -- which places a rule writes
 pub mod Untouched
 -- the searches and the tests of a clause over the tables
+pub mod Blanks
 pub mod VariablesMean
 pub mod ClausesMean
 pub mod ClausesReady

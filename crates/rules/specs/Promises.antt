@@ -5,8 +5,9 @@ use mathlib.Core.Bool.{Bool}
 use mathlib.Core.List.{List}
 use Prim.Native.Nat.{ℕ}
 use lib.IntN.{ℤ}
-use lib.ListN.{take}
-use Rattle.words.specs.Outcomes.{only-one, Same}
+use lib.ListN.{length, take}
+use lib.Seq.{ext-getD}
+use Rattle.words.specs.Outcomes.{only-one, outcome, Same, same}
 use Rattle.words.specs.declared.Literal.{Literal}
 use Rattle.formula.specs.Formula.{formulaOf, prefixOf}
 use Rattle.theory.specs.Record.{among}
@@ -20,10 +21,20 @@ use Rattle.rules.specs.Due.{due, literal}
 use Rattle.rules.specs.Preferred.{firstOpen}
 use Rattle.rules.specs.Apply.{apply}
 use Rattle.rules.specs.Check.{badRecord}
+use Rattle.rules.specs.Inner.Tables.{Levels}
+
+-- ---- what is asked of a block
+-- the levels of the variables that its prefix binds
+abbrev pub LevelsPromise : List ℤ → List ℕ → Type 0
+LevelsPromise b r = Levels (prefixOf b) r
+
+pub only-levels : {r r′ : List ℕ} (b : List ℤ) → length r ≡ length r′ → LevelsPromise b r → LevelsPromise b r′ → r ≡ r′
+only-levels {r} {r′} b e p q = ext-getD 0 r r′ e (λ v h. only-one (p v) (q v))
 
 -- ---- what is asked of a block and a record, of n entries
-abbrev pub DuePromise : List ℤ → Trail → ℕ → Rule → Type 0
-DuePromise b t n r = r ≡ due (formulaOf b) (recordOf t n)
+-- s is the table that is lent blank: it is left as it was
+abbrev pub DuePromise : List ℤ → Trail → ℕ → List ℕ → Rule → List ℕ → Type 0
+DuePromise b t n s r s′ = outcome r s′ ≡ outcome (due (formulaOf b) (recordOf t n)) s
 
 abbrev pub BadRecordPromise : List ℤ → Trail → ℕ → Bool → Type 0
 BadRecordPromise b t n r = r ≡ badRecord (prefixOf b) t n
@@ -35,8 +46,8 @@ IsOpenPromise b ls n l r = r ≡ isOpen (prefixOf b) (among (take n ls)) (l .0)
 abbrev pub FirstOpenPromise : List ℤ → List ℤ → ℕ → List ℤ → Literal → Type 0
 FirstOpenPromise b ls n list r = r ≡ literal (firstOpen (prefixOf b) (among (take n ls)) list)
 
-pub only-due : {r r′ : Rule} (b : List ℤ) (t : Trail) (n : ℕ) → DuePromise b t n r → DuePromise b t n r′ → r ≡ r′
-only-due b t n = only-one
+pub only-due : {r r′ : Rule} {s′ s″ : List ℕ} (b : List ℤ) (t : Trail) (n : ℕ) (s : List ℕ) → DuePromise b t n s r s′ → DuePromise b t n s r′ s″ → Same r r′ s′ s″
+only-due b t n s = same
 
 pub only-bad-record : {r r′ : Bool} (b : List ℤ) (t : Trail) (n : ℕ) → BadRecordPromise b t n r → BadRecordPromise b t n r′ → r ≡ r′
 only-bad-record b t n = only-one

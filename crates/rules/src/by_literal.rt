@@ -3,8 +3,10 @@ ghost use mathlib.Core.Path.{_≡_};
 ghost use Prim.Native.Nat.{_≤_};
 ghost use Rattle.formula.specs.Limits.{limits};
 ghost use Rattle.rules.specs.Inner.Variables.{signsIn};
-ghost use Rattle.rules.specs.Inner.ByLiteral.{statusOf, Statuses};
+ghost use Rattle.rules.specs.Inner.Ready.{Bound};
+ghost use Rattle.rules.specs.Inner.ByLiteral.{statusOf, Blank, BlankBeyond, Statuses};
 use crate::tables::PLACES;
+use crate::tables::sign_at;
 pub(crate) use formula::LITERAL_PLACES;
 use formula::MIDDLE;
 
@@ -35,23 +37,33 @@ fn status_of(value: u8, quantifier: u8, sign: u8) -> u8
     if value == sign { 1 } else { 0 }
 }
 
-// What each literal of the variables 1 to n is to its clause.
-pub(crate) fn statuses_of(
-    n: usize,
-    values: &[u8; PLACES],
-    quantifiers: &[u8; PLACES],
-) -> [u8; LITERAL_PLACES]
-    requires { ⌜ n ≤ limits .variables ⌝ }
-    ensures { λ r. ⌜ Statuses n (now (values .entry)) (now (quantifiers .entry)) r ⌝ }
+// Writes what each literal of the prefix's variables is to its clause.
+pub(crate) fn fill(prefix: &[i32], values: &[u8; PLACES], statuses: &mut [u8; LITERAL_PLACES])
+    requires { ⌜ Bound (now prefix) ⌝ }
+    requires { ⌜ Blank (now statuses) ⌝ }
+    ensures { λ r. ⌜ Statuses (now (prefix .entry)) (now (values .entry)) (now (statuses .exit)) ⌝ }
 {
-    let mut statuses = [0u8; LITERAL_PLACES];
-    let mut v = 1;
-    while v <= n {
+    let mut i = 0;
+    while i < prefix.len() {
+        let v = words::size_at(prefix, i);
+        let quantifier = sign_at(prefix, i);
         let value = values[v];
-        let quantifier = quantifiers[v];
         statuses[MIDDLE + v] = status_of(value, quantifier, 1);
         statuses[MIDDLE - v] = status_of(value, quantifier, 2);
+        i += 1;
+    }
+}
+
+// Wipes what was written of the variables 1 to n: clearing the whole table would cost a small formula as much as a large one.
+pub(crate) fn wipe(n: usize, statuses: &mut [u8; LITERAL_PLACES])
+    requires { ⌜ n ≤ limits .variables ⌝ }
+    requires { ⌜ BlankBeyond n (now statuses) ⌝ }
+    ensures { λ r. ⌜ Blank (now (statuses .exit)) ⌝ }
+{
+    let mut v = 1;
+    while v <= n {
+        statuses[MIDDLE + v] = 0;
+        statuses[MIDDLE - v] = 0;
         v += 1;
     }
-    statuses
 }

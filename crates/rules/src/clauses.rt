@@ -1,4 +1,5 @@
 // The clauses in conflict, and the unit clauses. Clause c has the literal words from the end before it to its own.
+use crate::found::Deciding;
 use crate::found::Found;
 use crate::found::UnitFound;
 use crate::tables::NO_LEVEL;
@@ -7,14 +8,14 @@ use crate::variables::literal_at;
 use formula::LITERAL_PLACES;
 use formula::place_at;
 ghost use mathlib.Core.Path.{_≡_};
-ghost use Prim.Native.Nat.{_≤_, _<_};
+ghost use Prim.Native.Nat.{_+_, _≤_, _<_};
 ghost use lib.IntN.{pos, natAbs};
-ghost use lib.ListN.{getD};
+ghost use lib.ListN.{length, getD, drop};
 ghost use Rattle.formula.specs.Limits.{limits};
 ghost use Rattle.formula.specs.Formula.{clausesFrom};
 ghost use Rattle.rules.specs.Due.{lowest};
 ghost use Rattle.rules.specs.Inner.ByLiteral.{statusIn};
-ghost use Rattle.rules.specs.Inner.Clauses.{Placed, Clauses, levelBy, conflictBy, Shown, decidedBy, lowestUnitBy};
+ghost use Rattle.rules.specs.Inner.Clauses.{Placed, Clauses, levelBy, conflictBy, Shown, decidesBy, sightOf, decidedBy, decidingBy};
 
 // What the literal at an index is to its clause: 0 false, 1 true, 2 unassigned existential, 3 unassigned universal.
 pub(crate) fn status_at(ws: &[i32], i: usize, statuses: &[u8; LITERAL_PLACES]) -> u8
@@ -44,17 +45,19 @@ fn in_conflict(clause: &[i32], statuses: &[u8; LITERAL_PLACES]) -> bool
     true
 }
 
-// The lowest clause in conflict.
-pub(crate) fn lowest_conflict(
+// The lowest clause in conflict from number `first` on, whose literal words begin at `start`.
+fn lowest_conflict(
     ends: &[i32],
     literals: &[i32],
+    first: usize,
+    start: usize,
     statuses: &[u8; LITERAL_PLACES],
 ) -> Found
-    requires { ⌜ Clauses (now ends) (now literals) ⌝ }
-    ensures { λ r. ⌜ r ≡ lowest (conflictBy (statusIn (now (statuses .entry)))) 0 (clausesFrom (now (literals .entry)) 0 (now (ends .entry))) ⌝ }
+    requires { ⌜ Clauses (drop first (now ends)) (now literals) start ⌝ }
+    ensures { λ r. ⌜ r ≡ lowest (conflictBy (statusIn (now (statuses .entry)))) first (clausesFrom (now (literals .entry)) start (drop first (now (ends .entry)))) ⌝ }
 {
-    let mut from = 0;
-    let mut c = 0;
+    let mut from = start;
+    let mut c = first;
     while c < ends.len() {
         let end = words::size_at(ends, c);
         if in_conflict(&literals[from..end], statuses) {
@@ -68,26 +71,25 @@ pub(crate) fn lowest_conflict(
 
 // What the literals of a clause have shown so far.
 struct Look {
-    place: usize, // of its unassigned existential literal, or the clause's end while it has none
+    place: usize, // of its unassigned existential literal, or the clause's length while it has none
     above: u16, // the lowest level of its unassigned universal literals, or NO_LEVEL while it has none
-    over: bool, // it has a true literal, or two unassigned existential ones: it is no unit clause
+    over: bool, // it has a true literal, or two unassigned existential ones: it is neither in conflict nor a unit clause
 }
 
 impl Look {
     // One literal more.
     fn with(
         mut self,
-        literals: &[i32],
+        clause: &[i32],
         j: usize,
-        end: usize,
         statuses: &[u8; LITERAL_PLACES],
         levels: &[u16; PLACES],
     ) -> Look
-        requires { ⌜ Placed (now literals) ⌝ }
-        requires { ⌜ j < end ⌝ }
-        ensures { λ r. ⌜ Shown (statusIn (now (statuses .entry))) (levelBy (now (levels .entry))) (now (literals .entry)) end self (getD (now (literals .entry)) j (pos 0)) r ⌝ }
+        requires { ⌜ Placed (now clause) ⌝ }
+        requires { ⌜ j < length (now clause) ⌝ }
+        ensures { λ r. ⌜ Shown (statusIn (now (statuses .entry))) (levelBy (now (levels .entry))) (now (clause .entry)) self (getD (now (clause .entry)) j (pos 0)) r ⌝ }
     {
-        let status = status_at(literals, j, statuses);
+        let status = status_at(clause, j, statuses);
         if status == 0 {
             return self;
         }
@@ -96,69 +98,94 @@ impl Look {
             return self;
         }
         if status == 2 {
-            if end <= self.place {
+            if clause.len() <= self.place {
                 self.place = j;
             } else {
                 self.over = true;
             }
             return self;
         }
-        let level = levels[words::size_at(literals, j)];
+        let level = levels[words::size_at(clause, j)];
         if level < self.above {
             self.above = level;
         }
         self
     }
 
-    // Whether all the literals up to the clause's end were seen and it is a unit clause.
-    fn is_unit(self, literals: &[i32], j: usize, end: usize, levels: &[u16; PLACES]) -> bool
-        requires { ⌜ Placed (now literals) ⌝ }
-        ensures { λ r. ⌜ r ≡ decidedBy (now (levels .entry)) (now (literals .entry)) j end self ⌝ }
+    // Whether all the clause's literals were seen, and it is in conflict or a unit clause.
+    fn decides(self, clause: &[i32], j: usize, levels: &[u16; PLACES]) -> bool
+        requires { ⌜ Placed (now clause) ⌝ }
+        ensures { λ r. ⌜ r ≡ decidesBy (now (levels .entry)) (now (clause .entry)) j self ⌝ }
     {
-        if j < end {
+        if j < clause.len() {
             return false;
         }
-        if end <= self.place {
-            return false;
+        if clause.len() <= self.place {
+            return true;
         }
-        levels[words::size_at(literals, self.place)] < self.above
+        levels[words::size_at(clause, self.place)] < self.above
+    }
+
+    // What a clause that decides makes due, as number c: in conflict, itself; as a unit clause, a conflict after it, or else itself. The
+    // clauses after it begin at the literal word `next`.
+    fn decided(
+        self,
+        clause: &[i32],
+        c: usize,
+        ends: &[i32],
+        literals: &[i32],
+        next: usize,
+        statuses: &[u8; LITERAL_PLACES],
+    ) -> Deciding
+        requires { ⌜ c < length (now ends) ⌝ }
+        requires { ⌜ Clauses (drop (c + 1) (now ends)) (now literals) next ⌝ }
+        ensures { λ r. ⌜ ((rest : Deciding) → r ≡ decidedBy (statusIn (now (statuses .entry))) c (sightOf (now (clause .entry)) self) (clausesFrom (now (literals .entry)) next (drop (c + 1) (now (ends .entry)))) rest) ⌝ }
+    {
+        if clause.len() <= self.place {
+            return Deciding::Conflict(c);
+        }
+        match lowest_conflict(ends, literals, c + 1, next, statuses) {
+            Found::At(later) => Deciding::Conflict(later),
+            Found::Nothing => Deciding::Quiet(UnitFound::On {
+                literal: literal_at(clause, self.place),
+                clause: c,
+            }),
+        }
     }
 }
 
-// The lowest unit clause and its literal.
-pub(crate) fn lowest_unit(
+// The lowest clause in conflict, or with none the lowest unit clause and its literal. Each clause's literals are read once.
+pub(crate) fn deciding(
     ends: &[i32],
     literals: &[i32],
     statuses: &[u8; LITERAL_PLACES],
     levels: &[u16; PLACES],
-) -> UnitFound
-    requires { ⌜ Clauses (now ends) (now literals) ⌝ }
-    ensures { λ r. ⌜ r ≡ lowestUnitBy (statusIn (now (statuses .entry))) (levelBy (now (levels .entry))) 0 (clausesFrom (now (literals .entry)) 0 (now (ends .entry))) ⌝ }
+) -> Deciding
+    requires { ⌜ Clauses (now ends) (now literals) 0 ⌝ }
+    ensures { λ r. ⌜ r ≡ decidingBy (statusIn (now (statuses .entry))) (levelBy (now (levels .entry))) 0 (clausesFrom (now (literals .entry)) 0 (now (ends .entry))) ⌝ }
 {
-    let mut found = UnitFound::NoUnit;
+    let mut found = Deciding::Quiet(UnitFound::NoUnit);
     let mut from = 0;
     let mut c = 0;
-    // [unit.search] Upwards, and no further than the clause that is found.
+    // [unit.search] Upwards, and no further than the first clause that decides.
     'search: while c < ends.len() {
         let end = words::size_at(ends, c);
+        let clause = &literals[from..end];
         let mut look = Look {
-            place: end,
+            place: clause.len(),
             above: NO_LEVEL,
             over: false,
         };
-        let mut j = from;
+        let mut j = 0;
         loop {
-            if look.is_unit(literals, j, end, levels) {
-                found = UnitFound::On {
-                    literal: literal_at(literals, look.place),
-                    clause: c,
-                };
+            if look.decides(clause, j, levels) {
+                found = look.decided(clause, c, ends, literals, end, statuses);
                 break 'search;
             }
-            if end <= j {
+            if clause.len() <= j {
                 break;
             }
-            look = look.with(literals, j, end, statuses, levels);
+            look = look.with(clause, j, statuses, levels);
             if look.over {
                 break;
             }

@@ -21,3 +21,5 @@ pub use record::bad_record;
 pub use rule::Reached;
 pub use rule::Rule;
 pub use rule::State;
+pub use tables::PLACES;
+pub use tables::levels;

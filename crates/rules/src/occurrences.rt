@@ -58,7 +58,7 @@ pub(crate) fn occurring(
     literals: &[i32],
     statuses: &[u8; LITERAL_PLACES],
 ) -> [u8; LITERAL_PLACES]
-    requires { ⌜ Clauses (now ends) (now literals) ⌝ }
+    requires { ⌜ Clauses (now ends) (now literals) 0 ⌝ }
     ensures { λ r. ⌜ Occurring (untrueOf (trueBy (statusIn (now (statuses .entry)))) (clausesFrom (now (literals .entry)) 0 (now (ends .entry)))) r ⌝ }
 {
     let mut occurs = [0u8; LITERAL_PLACES];

@@ -3,6 +3,8 @@ ghost use mathlib.Core.Path.{_≡_};
 ghost use Prim.Native.Nat.{_≤_};
 ghost use lib.IntN.{pos};
 ghost use Rattle.formula.specs.Limits.{limits};
+ghost use Rattle.formula.specs.Formula.{prefixOf};
+ghost use Rattle.rules.specs.Inner.Tables.{Levels};
 ghost use Rattle.rules.specs.Promises.{IsOpenPromise, FirstOpenPromise};
 ghost use Rattle.rules.specs.Inner.Ready.{Bound, HeldOn};
 ghost use Rattle.rules.specs.Inner.Variables.{lowestIn, openIn, preferredIn};
@@ -50,16 +52,22 @@ fn open_variable(
 }
 
 // Whether a literal is open over the first entries of a record.
-pub fn is_open(block: &[i32], lits: &[i32], count: usize, literal: Literal) -> bool
+pub fn is_open(
+    block: &[i32],
+    lits: &[i32],
+    count: usize,
+    literal: Literal,
+    levels: &[u16; PLACES],
+) -> bool
     requires { ⌜ HeldOn (now block) (now lits) count ⌝ }
+    requires { ⌜ Levels (prefixOf (now block)) (now levels) ⌝ }
     ensures { λ r. ⌜ IsOpenPromise (now (block .entry)) (now (lits .entry)) count literal r ⌝ }
 {
     let prefix = formula::prefix(block);
     let values = tables::values_of(lits, count);
-    let levels = tables::levels_of(prefix);
-    let lowest = lowest_level(prefix, &values, &levels);
+    let lowest = lowest_level(prefix, &values, levels);
     let v = words::size(literal.0);
-    open_variable(v, prefix.len(), &values, &levels, lowest)
+    open_variable(v, prefix.len(), &values, levels, lowest)
 }
 
 // The first open literal of a list, 0 if it has none: n variables, and the lowest level of an unassigned one.
@@ -85,13 +93,19 @@ fn first_in(
 }
 
 // The first open literal of a list of any content, 0 if it has none.
-pub fn first_open(block: &[i32], lits: &[i32], count: usize, list: &[i32]) -> Literal
+pub fn first_open(
+    block: &[i32],
+    lits: &[i32],
+    count: usize,
+    list: &[i32],
+    levels: &[u16; PLACES],
+) -> Literal
     requires { ⌜ HeldOn (now block) (now lits) count ⌝ }
+    requires { ⌜ Levels (prefixOf (now block)) (now levels) ⌝ }
     ensures { λ r. ⌜ FirstOpenPromise (now (block .entry)) (now (lits .entry)) count (now (list .entry)) r ⌝ }
 {
     let prefix = formula::prefix(block);
     let values = tables::values_of(lits, count);
-    let levels = tables::levels_of(prefix);
-    let lowest = lowest_level(prefix, &values, &levels);
-    first_in(list, prefix.len(), &values, &levels, lowest)
+    let lowest = lowest_level(prefix, &values, levels);
+    first_in(list, prefix.len(), &values, levels, lowest)
 }

@@ -5,11 +5,14 @@ ghost use lib.IntN.{pos};
 ghost use lib.ListN.{length, getD, take, drop};
 ghost use Rattle.formula.specs.Formula.{change};
 ghost use Rattle.theory.specs.Record.{among};
+ghost use Rattle.formula.specs.Limits.{limits};
+ghost use Rattle.formula.specs.Block.{refusal};
+ghost use Rattle.rules.specs.Promises.{LevelsPromise};
 ghost use Rattle.rules.specs.Inner.Ready.{Bound};
 ghost use Rattle.rules.specs.Inner.Tables.{signOf, Values, Levels, Written};
 
 // A place for each variable, and place 0, which is no variable's.
-pub(crate) const PLACES: usize = formula::MAX_VARIABLES + 1;
+pub const PLACES: usize = formula::MAX_VARIABLES + 1;
 
 // More than any level: with n variables there are at most n levels.
 pub(crate) const NO_LEVEL: u16 = (formula::MAX_VARIABLES + 1) as u16;
@@ -52,8 +55,8 @@ fn change_at(prefix: &[i32], i: usize) -> u16
     }
 }
 
-// The level of each variable of the prefix.
-pub(crate) fn levels_of(prefix: &[i32]) -> [u16; PLACES]
+// The level of each variable of the prefix, and 0 at the other places.
+fn levels_of(prefix: &[i32]) -> [u16; PLACES]
     requires { ⌜ Bound (now prefix) ⌝ }
     ensures { λ r. ⌜ Levels (now (prefix .entry)) r ⌝ }
 {
@@ -67,4 +70,12 @@ pub(crate) fn levels_of(prefix: &[i32]) -> [u16; PLACES]
         i += 1;
     }
     levels
+}
+
+// The table of levels that a search is lent: they are the block's, whatever the record.
+pub fn levels(block: &[i32]) -> [u16; PLACES]
+    requires { ⌜ refusal limits (now block) ≡ 0 ⌝ }
+    ensures { λ r. ⌜ LevelsPromise (now (block .entry)) r ⌝ }
+{
+    levels_of(formula::prefix(block))
 }

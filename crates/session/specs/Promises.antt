@@ -4,7 +4,7 @@ use mathlib.Core.Path.{_≡_, ap₂}
 use mathlib.Core.List.{List}
 use Prim.Native.Nat.{ℕ}
 use lib.IntN.{ℤ}
-use Rattle.words.specs.Outcomes.{only-one, outcome, Same, same}
+use Rattle.words.specs.Outcomes.{only-one, outcome, Same, same, same-answer, same-memory, both-same}
 use Rattle.words.specs.declared.Literal.{Literal}
 use Rattle.formula.specs.Formula.{formulaOf}
 use Rattle.rules.specs.declared.rule.State.{State}
@@ -64,12 +64,12 @@ RecordPlacesPromise t r = r ≡ recordPlaces t
 abbrev pub OpenRefusalPromise : List ℤ → ℕ → ℕ → Type 0
 OpenRefusalPromise b n r = r ≡ openRefusal limits b n
 
--- two equations: where the search leads, which the reasons have no part in, and the reasons
-abbrev pub SearchPromise : List ℤ → Memory → ℕ → ℕ → List ℤ → Searched → Memory → Type 0
-SearchPromise b m n budget preferred r m′ =
+-- two equations: where the search leads, which the reasons have no part in, and the reasons. s is the table that is lent blank: it is left as it was
+abbrev pub SearchPromise : List ℤ → Memory → ℕ → ℕ → List ℤ → List ℕ → Searched → Memory → List ℕ → Type 0
+SearchPromise b m n budget preferred s r m′ s′ =
     let F = formulaOf b in
     let t = search (m .trail) n Open in
-    (trip (reached (r .reached) (m′ .trail)) (r .steps) ≡ runFrom F preferred budget t 0)
+    (outcome (trip (reached (r .reached) (m′ .trail)) (r .steps)) s′ ≡ outcome (runFrom F preferred budget t 0) s)
     × (why (m′ .reasons) (r .reason) ≡ whyFrom F preferred budget t (why (m .reasons) 0))
 
 pub only-record-places : {r r′ : ℕ} (t : Trail) → RecordPlacesPromise t r → RecordPlacesPromise t r′ → r ≡ r′
@@ -78,11 +78,12 @@ only-record-places t = only-one
 pub only-open-refusal : {r r′ : ℕ} (b : List ℤ) (n : ℕ) → OpenRefusalPromise b n r → OpenRefusalPromise b n r′ → r ≡ r′
 only-open-refusal b n = only-one
 
-pub only-search : {r r′ : Searched} {m′ m″ : Memory} (b : List ℤ) (m : Memory) (n budget : ℕ) (preferred : List ℤ)
-    → SearchPromise b m n budget preferred r m′ → SearchPromise b m n budget preferred r′ m″ → (r ≡ r′) × (m′ ≡ m″)
-only-search b m n budget preferred (p, x) (q, y) =
-    let e = only-one p q in
-    let f = only-one x y in (
-      ap₂ (λ (u : Trip) (w : Why). record { reached = record { count = u .reached .count; state = u .reached .state }; steps = u .steps; reason = w .last }) e f,
-      ap₂ (λ (u : Trip) (w : Why). record { trail = u .reached .trail; reasons = w .reasons }) e f,
-    )
+pub only-search : {r r′ : Searched} {m′ m″ : Memory} {s′ s″ : List ℕ} (b : List ℤ) (m : Memory) (n budget : ℕ) (preferred : List ℤ) (s : List ℕ)
+    → SearchPromise b m n budget preferred s r m′ s′ → SearchPromise b m n budget preferred s r′ m″ s″ → Same r r′ (outcome m′ s′) (outcome m″ s″)
+only-search b m n budget preferred s (p, x) (q, y) =
+    let e = same-answer (only-one p q) in
+    let f = only-one x y in
+    record {
+      answer = ap₂ (λ (u : Trip) (w : Why). record { reached = record { count = u .reached .count; state = u .reached .state }; steps = u .steps; reason = w .last }) e f;
+      memory = both-same (ap₂ (λ (u : Trip) (w : Why). record { trail = u .reached .trail; reasons = w .reasons }) e f) (same-memory (only-one p q));
+    }

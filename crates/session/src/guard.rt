@@ -8,6 +8,7 @@ ghost use Rattle.session.specs.Memory.{memory, places};
 ghost use Rattle.rules.specs.Trail.{trail};
 ghost use Rattle.rules.specs.Preferred.{decides};
 ghost use Rattle.rules.specs.Inner.Ready.{HeldOn};
+ghost use Rattle.rules.specs.Inner.Tables.{Levels};
 ghost use Rattle.session.specs.Refusals.{over};
 ghost use Rattle.session.specs.Promises.{RecordPlacesPromise, OpenRefusalPromise};
 ghost use Rattle.session.specs.Inner.Guards.{sessionRefusal, proposalRefusal};
@@ -15,6 +16,7 @@ use crate::Revision;
 use crate::Session;
 use crate::reasons;
 use formula::Checked;
+use rules::PLACES;
 use rules::Rule;
 use rules::State;
 use words::Literal;
@@ -122,8 +124,10 @@ pub(crate) fn proposal_refusal(
     count: usize,
     rule: Rule,
     proposal: Literal,
+    levels: &[u16; PLACES],
 ) -> u32
     requires { ⌜ HeldOn (now block) (now lits) count ⌝ }
+    requires { ⌜ Levels (prefixOf (now block)) (now levels) ⌝ }
     ensures { λ r. ⌜ r ≡ proposalRefusal (prefixOf (now (block .entry))) (among (take count (now (lits .entry)))) rule proposal ⌝ }
 {
     if words::size(proposal.0) == 0 {
@@ -132,7 +136,7 @@ pub(crate) fn proposal_refusal(
     if !is_decide(rule) {
         return 16;
     }
-    if !rules::is_open(block, lits, count, proposal) {
+    if !rules::is_open(block, lits, count, proposal, levels) {
         return 17;
     }
     0

@@ -10,6 +10,7 @@ mod reasons; // why an entry was made
 mod searches; // rule after rule
 mod states; // a state as a number
 
+use formula::LITERAL_PLACES;
 pub use guard::open_refusal;
 pub use guard::record_places;
 use rules::Reached;
@@ -101,8 +102,10 @@ impl Session {
             return Stepped::Not(15);
         }
         let count = self.length;
-        let rule = rules::due(block, lits, kinds, count);
-        let improper = guard::proposal_refusal(block, lits, count, rule, proposal);
+        let levels = rules::levels(block);
+        let mut statuses = [0u8; LITERAL_PLACES];
+        let rule = rules::due(block, lits, kinds, count, &levels, &mut statuses);
+        let improper = guard::proposal_refusal(block, lits, count, rule, proposal, &levels);
         if improper != 0 {
             return Stepped::Not(improper);
         }
@@ -137,7 +140,19 @@ impl Session {
             return Ran::Stopped(15);
         }
         let count = self.length;
-        let found = search(block, lits, kinds, reasons, count, budget, preferred);
+        let levels = rules::levels(block);
+        let mut statuses = [0u8; LITERAL_PLACES];
+        let found = search(
+            block,
+            lits,
+            kinds,
+            reasons,
+            count,
+            budget,
+            preferred,
+            &levels,
+            &mut statuses,
+        );
         let reached = found.reached;
         let steps = found.steps;
         let reason = found.reason;

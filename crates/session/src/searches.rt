@@ -7,7 +7,9 @@ ghost use Rattle.rules.specs.Due.{literal, due};
 ghost use Rattle.rules.specs.Trail.{trail, recordOf};
 ghost use Rattle.rules.specs.Search as rules;
 ghost use Rattle.rules.specs.Preferred.{proposalOf};
-ghost use Rattle.rules.specs.Inner.Ready.{HeldOn};
+ghost use Rattle.words.specs.Outcomes.{outcome};
+ghost use Rattle.rules.specs.Inner.Tables.{Levels};
+ghost use Rattle.rules.specs.Inner.Ready.{HeldOn, LentTables};
 ghost use Rattle.rules.specs.declared.rule.State.the-variants.{Open};
 ghost use Rattle.session.specs.Memory.{memory};
 ghost use Rattle.session.specs.Reasons.{why, told};
@@ -16,6 +18,8 @@ ghost use Rattle.session.specs.Inner.Reasons.{OnMemory};
 ghost use Rattle.session.specs.Promises.{SearchPromise};
 use crate::guard;
 use crate::reasons;
+use formula::LITERAL_PLACES;
+use rules::PLACES;
 use rules::Reached;
 use rules::Rule;
 use rules::State;
@@ -35,12 +39,20 @@ pub(crate) struct Advanced {
 }
 
 // What is proposed to a rule: at Decide the first open preferred literal, else 0.
-fn proposal(block: &[i32], lits: &[i32], count: usize, rule: Rule, preferred: &[i32]) -> Literal
+fn proposal(
+    block: &[i32],
+    lits: &[i32],
+    count: usize,
+    rule: Rule,
+    preferred: &[i32],
+    levels: &[u16; PLACES],
+) -> Literal
     requires { ⌜ HeldOn (now block) (now lits) count ⌝ }
+    requires { ⌜ Levels (prefixOf (now block)) (now levels) ⌝ }
     ensures { λ r. ⌜ r ≡ literal (proposalOf (prefixOf (now (block .entry))) (among (take count (now (lits .entry)))) (now (preferred .entry)) rule) ⌝ }
 {
     if guard::is_decide(rule) {
-        rules::first_open(block, lits, count, preferred)
+        rules::first_open(block, lits, count, preferred, levels)
     } else {
         Literal(0)
     }
@@ -54,12 +66,15 @@ fn advance(
     reasons: &mut [u32],
     count: usize,
     preferred: &[i32],
+    levels: &[u16; PLACES],
+    statuses: &mut [u8; LITERAL_PLACES],
 ) -> Advanced
     requires { ⌜ OnMemory (now block) (memory (now lits) (now kinds) (now reasons)) count ⌝ }
-    ensures { λ r. ⌜ (rules.reached (r .reached) (trail (now (lits .exit)) (now (kinds .exit))) ≡ advance (formulaOf (now (block .entry))) (now (preferred .entry)) (rules.search (trail (now (lits .entry)) (now (kinds .entry))) count Open)) × (why (now (reasons .exit)) (r .reason) ≡ told (due (formulaOf (now (block .entry))) (recordOf (trail (now (lits .entry)) (now (kinds .entry))) count)) count (now (reasons .entry))) ⌝ }
+    requires { ⌜ LentTables (now block) (now levels) (now statuses) ⌝ }
+    ensures { λ r. ⌜ (outcome (rules.reached (r .reached) (trail (now (lits .exit)) (now (kinds .exit)))) (now (statuses .exit)) ≡ outcome (advance (formulaOf (now (block .entry))) (now (preferred .entry)) (rules.search (trail (now (lits .entry)) (now (kinds .entry))) count Open)) (now (statuses .entry))) × (why (now (reasons .exit)) (r .reason) ≡ told (due (formulaOf (now (block .entry))) (recordOf (trail (now (lits .entry)) (now (kinds .entry))) count)) count (now (reasons .entry))) ⌝ }
 {
-    let rule = rules::due(block, lits, kinds, count);
-    let literal = proposal(block, lits, count, rule, preferred);
+    let rule = rules::due(block, lits, kinds, count, levels, statuses);
+    let literal = proposal(block, lits, count, rule, preferred, levels);
     let reason = reasons::tell(reasons, rule, count);
     let reached = rules::apply(block, lits, kinds, count, rule, literal);
     Advanced {
@@ -68,7 +83,7 @@ fn advance(
     }
 }
 
-// At most `budget` steps from an open search. A page asks it for each opening.
+// At most `budget` steps from an open search, on tables that are lent as `rules::due` asks. A page asks it for each opening.
 pub fn search(
     block: &[i32],
     lits: &mut [i32],
@@ -77,9 +92,12 @@ pub fn search(
     count: usize,
     budget: u32,
     preferred: &[i32],
+    levels: &[u16; PLACES],
+    statuses: &mut [u8; LITERAL_PLACES],
 ) -> Searched
     requires { ⌜ OnMemory (now block) (memory (now lits) (now kinds) (now reasons)) count ⌝ }
-    ensures { λ r. ⌜ SearchPromise (now (block .entry)) (memory (now (lits .entry)) (now (kinds .entry)) (now (reasons .entry))) count budget (now (preferred .entry)) r (memory (now (lits .exit)) (now (kinds .exit)) (now (reasons .exit))) ⌝ }
+    requires { ⌜ LentTables (now block) (now levels) (now statuses) ⌝ }
+    ensures { λ r. ⌜ SearchPromise (now (block .entry)) (memory (now (lits .entry)) (now (kinds .entry)) (now (reasons .entry))) count budget (now (preferred .entry)) (now (statuses .entry)) r (memory (now (lits .exit)) (now (kinds .exit)) (now (reasons .exit))) (now (statuses .exit)) ⌝ }
 {
     let mut at = Reached {
         count: count,
@@ -97,7 +115,9 @@ pub fn search(
             };
         }
         let here = at.count;
-        let next = advance(block, lits, kinds, reasons, here, preferred);
+        let next = advance(
+            block, lits, kinds, reasons, here, preferred, levels, statuses,
+        );
         at = next.reached;
         reason = next.reason;
         steps += 1;

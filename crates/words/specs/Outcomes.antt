@@ -35,9 +35,20 @@ module _ {M A : Type 0} (number : ℕ → A) where
 pub only-one {ℓ} : {A : Type ℓ} {r r′ promised : A} → r ≡ promised → r′ ≡ promised → r ≡ r′
 only-one p q = p ∙ sym q
 
+-- an equation of outcomes is one of answers, and one of what is left
+module _ {M A : Type 0} {a a′ : A} {m m′ : M} (e : outcome a m ≡ outcome a′ m′) where
+  pub same-answer : a ≡ a′
+  same-answer = ap (λ (o : Outcome M A). o .answer) e
+
+  pub same-memory : m ≡ m′
+  same-memory = ap (λ (o : Outcome M A). o .memory) e
+
+pub both-same : {M A : Type 0} {a a′ : A} {m m′ : M} → a ≡ a′ → m ≡ m′ → outcome a m ≡ outcome a′ m′
+both-same e f = rw (e, f)
+
 pub record Same {M A : Type 0} (a a′ : A) (m m′ : M) : Type 0 where
   pub answer : a ≡ a′
   pub memory : m ≡ m′
 
 pub same : {M A : Type 0} {a a′ : A} {m m′ : M} {o : Outcome M A} → outcome a m ≡ o → outcome a′ m′ ≡ o → Same a a′ m m′
-same {M} {A} p q = let e = only-one p q in record { answer = ap (λ (o : Outcome M A). o .answer) e; memory = ap (λ (o : Outcome M A). o .memory) e }
+same p q = let e = only-one p q in record { answer = same-answer e; memory = same-memory e }

@@ -1,12 +1,16 @@
 -- Tables by literal: what each place of a table says. A literal's place is formula's.
-use Prim.Native.Nat.{ℕ, _≤_, _<_}
-use mathlib.Core.Bool.{Bool, cond}
+use Prim.Native.Nat.{ℕ, _+_, _≤_, _<_}
+use mathlib.Core.Bool.{Bool, true, cond}
 use mathlib.Core.Path.{_≡_}
 use mathlib.Core.List.{List, _∷_}
 use lib.Dec.{eqb}
 use lib.IntN.{ℤ, natAbs}
 use lib.ListN.{length, getD}
+use Rattle.words.specs.Lists.{any}
 use Rattle.words.specs.Words.{mem}
+use Rattle.formula.specs.Formula.{universal}
+use Rattle.formula.specs.Block.{names}
+use Rattle.formula.specs.Limits.{maxVariables}
 use Rattle.formula.specs.Inner.Places.{literalPlaces, placeOf, wordAt}
 use Rattle.theory.specs.Record.{Assignment}
 use Rattle.theory.specs.Tests.{occurs, untrueOf}
@@ -34,9 +38,9 @@ pub record Counted (ρ : Assignment) (C : List ℤ) (t t′ : List ℕ) : Type 0
 abbrev pub statusOf : ℕ → ℕ → ℕ → ℕ
 statusOf value quantifier sign = cond (eqb value 0) (cond (eqb quantifier 2) 3 2) (cond (eqb value sign) 1 0)
 
--- by the tables of values and of quantifiers
-unfoldable pub statusBy : List ℕ → List ℕ → ℤ → ℕ
-statusBy values quantifiers x = statusOf (getD values (natAbs x) 0) (getD quantifiers (natAbs x) 0) (signOf x)
+-- by the table of values, and by the prefix
+unfoldable pub statusBy : List ℤ → List ℕ → ℤ → ℕ
+statusBy p values x = statusOf (getD values (natAbs x) 0) (cond (universal p x) 2 1) (signOf x)
 
 -- by a table of its own
 abbrev pub statusIn : List ℕ → ℤ → ℕ
@@ -46,6 +50,18 @@ statusIn statuses x = getD statuses (placeOf x) 0
 abbrev pub trueBy : (ℤ → ℕ) → ℤ → Bool
 trueBy st x = eqb (st x) 1
 
--- the two say the same of the literals of the variables 1 to n
-abbrev pub Statuses : ℕ → List ℕ → List ℕ → List ℕ → Type 0
-Statuses n values quantifiers statuses = (x : ℤ) → 0 < natAbs x → natAbs x ≤ n → statusIn statuses x ≡ statusBy values quantifiers x
+-- a table that says nothing, and one that says nothing of the literals of other variables than 1 to n
+pub record Blank (t : List ℕ) : Type 0 where
+  pub long : length t ≡ literalPlaces
+  pub none : (at : ℕ) → getD t at 0 ≡ 0
+
+pub record BlankBeyond (n : ℕ) (t : List ℕ) : Type 0 where
+  pub long : length t ≡ literalPlaces
+  pub low : (at : ℕ) → at + n < maxVariables → getD t at 0 ≡ 0
+  pub high : (at : ℕ) → maxVariables + n < at → getD t at 0 ≡ 0
+  pub middle : getD t maxVariables 0 ≡ 0
+
+-- the statuses of the prefix's variables are written on a blank table
+pub record Statuses (p : List ℤ) (values statuses : List ℕ) : Type 0 where
+  pub said : (x : ℤ) → natAbs x ≤ length p → any (names (natAbs x)) p ≡ true → statusIn statuses x ≡ statusBy p values x
+  pub beyond : BlankBeyond (length p) statuses

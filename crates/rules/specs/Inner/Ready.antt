@@ -17,7 +17,8 @@ use Rattle.rules.specs.Trail.{Trail}
 use Rattle.rules.specs.Search.{Search}
 use Rattle.rules.specs.Apply.{moveOf}
 use Rattle.rules.specs.Check.{badRecord}
-use Rattle.rules.specs.Inner.Tables.{Written}
+use Rattle.rules.specs.Inner.Tables.{Written, Levels}
+use Rattle.rules.specs.Inner.ByLiteral.{Blank}
 use Rattle.rules.specs.declared.rule.Rule.{Rule}
 use Rattle.rules.specs.declared.rule.Move.{Move}
 use Rattle.rules.specs.declared.rule.Move.the-variants.{Append, Flip, End}
@@ -69,6 +70,11 @@ pub record OnBlock (L : Limits) (b : List ℤ) (t : Trail) (n : ℕ) : Type 0 wh
 pub record HeldOn (b ls : List ℤ) (n : ℕ) : Type 0 where
   pub block : refusal limits b ≡ 0
   pub written : Written ls n
+
+-- the tables that are lent: the block's levels, and one that is blank
+pub record LentTables (b : List ℤ) (levels statuses : List ℕ) : Type 0 where
+  pub told : Levels (prefixOf b) levels
+  pub blank : Blank statuses
 
 -- a move has a place to write to: a cut is inside the record, and an entry more is inside the buffers
 abbrev pub MoveFits : List ℤ → ℕ → Move → Type 0

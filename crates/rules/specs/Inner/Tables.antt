@@ -33,8 +33,12 @@ Values ρ t = (v : ℕ) → getD t v 0 ≡ valueIn ρ v
 abbrev pub Quantifiers : List ℤ → List ℕ → Type 0
 Quantifiers p t = Values (among p) t
 
+-- 0 for what the prefix doesn't bind
+abbrev pub levelAt : List ℤ → ℕ → ℕ
+levelAt p v = cond (any (names v) p) (levelOf p v) 0
+
 abbrev pub Levels : List ℤ → List ℕ → Type 0
-Levels p t = (v : ℕ) → any (names v) p ≡ true → getD t v 0 ≡ levelOf p v
+Levels p t = (v : ℕ) → getD t v 0 ≡ levelAt p v
 
 -- every word names a variable for which a table has a place
 abbrev pub Known : List ℤ → Type 0

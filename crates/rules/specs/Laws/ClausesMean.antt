@@ -22,7 +22,7 @@ use Rattle.theory.specs.Tests.{unassignedE, unassignedU, inConflict, unitOn, un
 use Rattle.rules.specs.Due.{onFound, onPicked, literal, lowest, candidate, isUnit, lowestUnit}
 use Rattle.rules.specs.Inner.Tabled.{Sorted, as-false, as-true, as-existential, as-universal}
 use Rattle.rules.specs.Inner.ByLiteral.{trueBy}
-use Rattle.rules.specs.Inner.Clauses.{keepsBy, conflictBy, staysUnit, unitFrom, lowestUnitBy}
+use Rattle.rules.specs.Inner.Clauses.{keepsBy, conflictBy, unit, neither, unitLiteral, staysUnit, sightFrom, lowestUnitBy}
 use Rattle.rules.specs.declared.found.Picked.{Picked}
 use Rattle.rules.specs.declared.found.Picked.the-variants.{Is, NoLiteral}
 use Rattle.rules.specs.declared.found.Found.the-variants.{At}
@@ -123,18 +123,22 @@ module _ (p : List ℤ) (ρ : Assignment) (st lev : ℤ → ℕ) where
   abbrev taken : Bool → ℤ → Picked
   taken b l = cond b (Is (literal l)) NoLiteral
 
-  from-means : (above : ℕ) (C : List ℤ) → repeats C ≡ false → AllMeant C → unitFrom st lev above C ≡ taken (unitIn above C (candidate p ρ C)) (candidate p ρ C)
-  unfolding unitFrom candidate any all repeats
+  pick : (b : Bool) (l : ℤ) → unitLiteral (cond b (unit l) neither) ≡ taken b l
+  pick true l = refl
+  pick false l = refl
+
+  from-means : (above : ℕ) (C : List ℤ) → repeats C ≡ false → AllMeant C → unitLiteral (sightFrom st lev above C) ≡ taken (unitIn above C (candidate p ρ C)) (candidate p ρ C)
+  unfolding sightFrom candidate any all repeats
   from-means above [] o h = refl
   from-means above (x ∷ C) o h = go (h x (here refl) .sorted) (h x (here refl) .at) (λ n. from-means n C (or-fr (mem x C) (repeats C) o) (λ y i. h y (there i)))
     where
       l : ℤ
       l = candidate p ρ C
 
-      go : Sorted p ρ st x → lev x ≡ level p x → ((n : ℕ) → unitFrom st lev n C ≡ taken (unitIn n C l) l) → unitFrom st lev above (x ∷ C) ≡ taken (unitIn above (x ∷ C) (candidate p ρ (x ∷ C))) (candidate p ρ (x ∷ C))
+      go : Sorted p ρ st x → lev x ≡ level p x → ((n : ℕ) → unitLiteral (sightFrom st lev n C) ≡ taken (unitIn n C l) l) → unitLiteral (sightFrom st lev above (x ∷ C)) ≡ taken (unitIn above (x ∷ C) (candidate p ρ (x ∷ C))) (candidate p ρ (x ∷ C))
       go (as-false s t e u) v ih = rw (s, t, e, u) (ih above)
       go (as-true s t) v ih = rw (s, t)
-      go (as-existential s t e u) v ih = rw (s, t, e, u, eqZ-refl x, stays-means x v above C (or-fl (mem x C) (repeats C) o) (λ y i. h y (there i))) (ap (λ b. taken (b && onlyE x C && (ltb (level p x) above && higherU x C)) x) (sym (and-true (not (any ρ C)))))
+      go (as-existential s t e u) v ih = rw (s, t, e, u, eqZ-refl x, stays-means x v above C (or-fl (mem x C) (repeats C) o) (λ y i. h y (there i))) (pick (not (any ρ C) && onlyE x C && (ltb (level p x) above && higherU x C)) x ∙ ap (λ b. taken (b && onlyE x C && (ltb (level p x) above && higherU x C)) x) (sym (and-true (not (any ρ C)))))
       go (as-universal s t e u) v ih = rw (s, t, e, u, v, ih (min above (level p x)), ltb-min (level p l) above (level p x)) (ap (λ b. taken (not (any ρ C) && any (unassignedE p ρ) C && onlyE l C && b) l) (and-assoc (ltb (level p l) above) (ltb (level p l) (level p x)) (higherU l C)))
 
   -- the candidate is the clause's, if it has an unassigned existential literal
@@ -160,7 +164,7 @@ module _ (p : List ℤ) (ρ : Assignment) (st lev : ℤ → ℕ) where
           let none = to-false (mem l C && unassignedE p ρ l) (λ b. clash (any-i (unassignedE p ρ) (mem-e l C (and-l (mem l C) (unassignedE p ρ l) b)) (and-r (mem l C) (unassignedE p ρ l) b)) e) in
           rw (e, none, and-false (not (any ρ C)))
 
-  unit-means : (C : List ℤ) → repeats C ≡ false → AllMeant C → unitFrom st lev places C ≡ taken (isUnit p ρ C) (candidate p ρ C)
+  unit-means : (C : List ℤ) → repeats C ≡ false → AllMeant C → unitLiteral (sightFrom st lev places C) ≡ taken (isUnit p ρ C) (candidate p ρ C)
   unit-means C o h = from-means places C o h ∙ ap (λ b. taken b (candidate p ρ C)) (unit-in C h)
 
   -- the lowest unit clause. G is the candidate by the clause's number

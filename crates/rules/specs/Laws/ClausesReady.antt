@@ -16,7 +16,7 @@ use Rattle.words.specs.Laws.Words.{mem-e}
 use Rattle.formula.specs.Formula.{clausesFrom, existential, universal, level}
 use Rattle.formula.specs.Block.{twice}
 use Rattle.theory.specs.Tests.{untrueOf, unassignedE, unassignedU, inConflict}
-use Rattle.rules.specs.Inner.Tables.{signOf, valueIn, Values, Quantifiers, Levels}
+use Rattle.rules.specs.Inner.Tables.{signOf, valueIn, Values, Levels}
 use Rattle.rules.specs.Inner.Ready.{Ready, Bound}
 use Rattle.formula.specs.Limits.{limits}
 use Rattle.formula.specs.Laws.Limits.{variables-are}
@@ -27,19 +27,28 @@ use Rattle.formula.specs.Laws.Prefix.{once-in, level-few}
 use Rattle.formula.specs.Laws.Permuted.{all-bound, quantifier}
 use Rattle.formula.specs.Laws.Clauses.{clauses-in}
 use Rattle.theory.specs.Record.{Assignment, among, assigned}
-use Rattle.rules.specs.Due.{lowest, lowestUnit}
-use Rattle.rules.specs.Inner.Clauses.{Placed, Clauses, levelBy, conflictBy, lowestUnitBy}
+use Rattle.rules.specs.Due.{onFound, lowest, lowestUnit}
+use Rattle.rules.specs.Inner.Clauses.{Placed, Clauses, levelBy, conflictBy, onDeciding, lowestUnitBy, decidingBy}
 use Rattle.rules.specs.Inner.ByLiteral.{statusBy, statusIn, trueBy, Statuses}
 use Rattle.rules.specs.Inner.Tabled.{Consistent, Sorted, as-false, as-true, as-existential, as-universal, Sorts}
-use Rattle.rules.specs.Laws.VariablesMean.{quantifier-in}
+use Rattle.rules.specs.Laws.VariablesMean.{level-at}
 use Rattle.rules.specs.Laws.ClausesMean.{Meant, untrue-means, lowest-conflict-means, lowest-unit-means}
+use Rattle.rules.specs.declared.found.Deciding.{Deciding}
+use Rattle.rules.specs.declared.found.Deciding.the-variants.{Conflict, Quiet}
+use Rattle.rules.specs.declared.found.Found.{Found}
+use Rattle.rules.specs.declared.found.Found.the-variants.{At, Nothing}
+use Rattle.rules.specs.declared.found.UnitFound.{UnitFound}
 
-module _ (p : List ℤ) (b : Bound p) (ρ : Assignment) (values quantifiers : List ℕ) (vals : Values ρ values) (quants : Quantifiers p quantifiers) (con : Consistent ρ) where
+module _ (p : List ℤ) (b : Bound p) (ρ : Assignment) (values : List ℕ) (vals : Values ρ values) (con : Consistent ρ) where
   -- a literal is true, or false by its opposite, or unassigned and of its variable's quantifier
-  status-is : (x : ℤ) → 0 < natAbs x → statusBy values quantifiers x ≡ cond (ρ x) 1 (cond (ρ (negℤ x)) 0 (cond (universal p x) 3 2))
+  status-is : (x : ℤ) → 0 < natAbs x → statusBy p values x ≡ cond (ρ x) 1 (cond (ρ (negℤ x)) 0 (cond (universal p x) 3 2))
   unfolding statusBy
-  status-is x z = rw (vals (natAbs x), quantifier-in p b quantifiers quants x) (by x z)
+  status-is x z = rw (vals (natAbs x), two (universal p x)) (by x z)
     where
+      two : (u : Bool) → eqb (cond u 2 1) 2 ≡ u
+      two true = refl
+      two false = refl
+
       plus : (s t u : Bool) → _≡_ {A = ℕ} (cond (eqb (cond s 1 (cond t 2 0)) 0) (cond u 3 2) (cond (eqb (cond s 1 (cond t 2 0)) 1) 1 0)) (cond s 1 (cond t 0 (cond u 3 2)))
       plus true t u = refl
       plus false true u = refl
@@ -56,12 +65,12 @@ module _ (p : List ℤ) (b : Bound p) (ρ : Assignment) (values quantifiers : Li
       by (negsuc n) z = minus (ρ (negsuc n)) (ρ (pos (suc n))) (universal p (negsuc n)) (con (suc n) z)
 
   -- so a table of statuses says of each literal of the prefix's variables what it is
-  pub sorts : (statuses : List ℕ) → Statuses (length p) values quantifiers statuses → Sorts p ρ statuses
+  pub sorts : (statuses : List ℕ) → Statuses p values statuses → Sorts p ρ statuses
   unfolding assigned unassignedE unassignedU
   sorts statuses said x n = go (look (ρ x)) (look (ρ (negℤ x))) (look (existential p x))
     where
       is : statusIn statuses x ≡ cond (ρ x) 1 (cond (ρ (negℤ x)) 0 (cond (universal p x) 3 2))
-      is = said x (n .some) (n .most) ∙ status-is x (n .some)
+      is = said .said x (n .most) (all-bound (length p) p (b .binds .named) (b .binds .once) refl (natAbs x) (n .some) (n .most)) ∙ status-is x (n .some)
 
       other : universal p x ≡ not (existential p x)
       other = quantifier (length p) p (b .binds .named) (b .binds .once) refl x n
@@ -86,7 +95,7 @@ module _ (p es ls : List ℤ) (ready : Ready p es ls) where
   literal-named : {x : ℤ} → In x ls → Named (length p) x
   literal-named i = in-named (length p) ls (ready .named) i
 
-  pub ready-clauses : Clauses es ls
+  pub ready-clauses : Clauses es ls 0
   ready-clauses = record { ends = ready .ends; placed = placed }
     where
       room : length p ≤ limits .variables
@@ -101,7 +110,7 @@ module _ (p es ls : List ℤ) (ready : Ready p es ls) where
 
   module _ (ρ : Assignment) (statuses : List ℕ) (sorting : Sorts p ρ statuses) where
     -- 1: the lowest clause in conflict
-    pub conflict-ready : lowest (conflictBy (statusIn statuses)) 0 (clausesFrom ls 0 es) ≡ lowest (inConflict p ρ) 0 (clausesFrom ls 0 es)
+    conflict-ready : lowest (conflictBy (statusIn statuses)) 0 (clausesFrom ls 0 es) ≡ lowest (inConflict p ρ) 0 (clausesFrom ls 0 es)
     conflict-ready = lowest-conflict-means p ρ _ _ (λ C i x j. sorting x (literal-named (clauses-in ls 0 es i j)))
 
     -- the clauses with no true literal
@@ -109,13 +118,23 @@ module _ (p es ls : List ℤ) (ready : Ready p es ls) where
     untrue-ready = untrue-means p ρ _ _ (λ C i x j. sorting x (literal-named (clauses-in ls 0 es i j)))
 
     -- 2: the lowest unit clause
-    pub unit-ready : (levels : List ℕ) → Levels p levels → lowestUnitBy (statusIn statuses) (levelBy levels) 0 (clausesFrom ls 0 es) ≡ lowestUnit p ρ (clausesFrom ls 0 es)
+    unit-ready : (levels : List ℕ) → Levels p levels → lowestUnitBy (statusIn statuses) (levelBy levels) 0 (clausesFrom ls 0 es) ≡ lowestUnit p ρ (clausesFrom ls 0 es)
     unfolding level
     unit-ready levels lvls = lowest-unit-means p ρ _ _ _ (ready .single) (λ C i x j. meant x (clauses-in ls 0 es i j))
       where
         meant : (x : ℤ) → In x ls → Meant p ρ (statusIn statuses) (levelBy levels) x
         meant x i = let n = literal-named i in record {
           sorted = sorting x n;
-          at = lvls (natAbs x) (all-bound (length p) p (ready .prefix .binds .named) (ready .prefix .binds .once) refl (natAbs x) (n .some) (n .most));
+          at = level-at p levels lvls (natAbs x) (all-bound (length p) p (ready .prefix .binds .named) (ready .prefix .binds .once) refl (natAbs x) (n .some) (n .most));
           low = omega (arith, level-few p (natAbs x), ready .prefix .room, variables-are);
         }
+
+    -- and what the search for both finds: by the rules' order, conflict first
+    pub deciding-ready : (levels : List ℕ) → Levels p levels → {d : Deciding} → d ≡ decidingBy (statusIn statuses) (levelBy levels) 0 (clausesFrom ls 0 es) → {A : Type 0} (f : ℕ → A) (g : UnitFound → A)
+        → onDeciding d f g ≡ onFound (lowest (inConflict p ρ) 0 (clausesFrom ls 0 es)) f (g (lowestUnit p ρ (clausesFrom ls 0 es)))
+    unfolding decidingBy
+    deciding-ready levels lvls e f g = rw (e, conflict-ready, unit-ready levels lvls) (by (lowest (inConflict p ρ) 0 (clausesFrom ls 0 es)) (lowestUnit p ρ (clausesFrom ls 0 es)))
+      where
+        by : (o : Found) (u : UnitFound) → onDeciding (onFound o Conflict (Quiet u)) f g ≡ onFound o f (g u)
+        by (At c) u = refl
+        by Nothing u = refl

@@ -2,7 +2,7 @@
 use Prim.Native.Nat.{ℕ, suc, _+_}
 use mathlib.Core.Path.{_≡_, refl, sym, ap, _∙_}
 use mathlib.Core.Logic.{_⊎_, inl, inr}
-use mathlib.Core.Bool.{Bool, true, false, _||_, cond}
+use mathlib.Core.Bool.{Bool, true, false, _||_, cond, and-false}
 use mathlib.Core.List.{List, [], _∷_, _++_}
 use native.Mathlib.Omega.{arith}
 use lib.IntN.{ℤ, pos, negℤ, natAbs}
@@ -10,9 +10,11 @@ use lib.ListN.{getD}
 use Rattle.words.specs.Lists.{In, here, there, any}
 use Rattle.words.specs.Laws.Lists.{all-i}
 use Rattle.words.specs.declared.Literal.{Literal}
+use Rattle.formula.specs.Formula.{existential, universal}
 use Rattle.theory.specs.Record.{Assignment, assigned}
-use Rattle.theory.specs.Tests.{unitOn, monotone, isOpen, allAssigned}
+use Rattle.theory.specs.Tests.{unassignedE, unassignedU, unitOn, monotone, isOpen, allAssigned}
 use Rattle.theory.specs.Laws.First.{First}
+use Rattle.theory.specs.Laws.Assignment.{assigned-neg}
 use Rattle.rules.specs.Due.{literal, onFound, onPicked, firstOf, lowest, candidate, isUnit, lowestUnit, firstMonotone, firstUnassigned}
 use Rattle.rules.specs.Preferred.{firstOpen}
 use Rattle.rules.specs.declared.found.Found.{Found}
@@ -97,6 +99,11 @@ module _ (f : ℤ → Picked) where
           none w y (here q) = rw q p
           none w y (there i) = w .none y i
 
+  pub none-picked : (xs : List ℤ) → ((x : ℤ) → In x xs → f x ≡ NoLiteral) → firstOf f xs ≡ NoLiteral
+  unfolding firstOf
+  none-picked [] h = refl
+  none-picked (x ∷ xs) h = rw (h x (here refl)) (none-picked xs (λ y i. h y (there i)))
+
   -- tests that agree on a list's words pick the same
   pub first-same : (g : ℤ → Picked) (xs : List ℤ) → ((x : ℤ) → In x xs → f x ≡ g x) → firstOf f xs ≡ firstOf g xs
   unfolding firstOf
@@ -144,6 +151,15 @@ module _ (ρ : Assignment) where
       let w = first-found _ p l e in
       let (u, v) = picked (w .word) l (w .is) in
       (record { before = w .before; word = w .word; after = w .after; whole = w .whole; set = all-i (assigned ρ) (w .before) (λ q i. passed q (w .none q i)); unset = u }, v)
+
+  -- and with none unassigned none is monotone
+  set-not : (p : List ℤ) (m : List (List ℤ)) (q : ℤ) → assigned ρ q ≡ true → monotone p m ρ q ≡ false
+  unfolding monotone unassignedE unassignedU
+  set-not p m q a = rw (a, and-false (existential p q), and-false (universal p q))
+
+  pub monotone-unassigned : (p : List ℤ) (m : List (List ℤ)) → firstUnassigned ρ p ≡ NoLiteral → firstMonotone p m ρ ≡ NoLiteral
+  unfolding firstUnassigned firstMonotone
+  monotone-unassigned p m e = none-picked _ p (λ q i. let a = passed q (first-none _ p e q i) in rw (set-not p m q a, set-not p m (negℤ q) (assigned-neg ρ q ∙ a)))
 
 -- ---- a preferred literal: 0 or open
 pub first-open : (p : List ℤ) (ρ : Assignment) (ls : List ℤ) → (natAbs (firstOpen p ρ ls) ≡ 0) ⊎ (isOpen p ρ (firstOpen p ρ ls) ≡ true)

@@ -149,6 +149,9 @@ module _ (p : List ℤ) (b : Bound p) (m : List (List ℤ)) (ρ : Assignment) wh
           (go (assigned ρ q) _ _ (Is (literal q)) (Is (literal (negℤ q))))
 
 -- ---- levels and open literals
+pub level-at : (p : List ℤ) (t : List ℕ) → Levels p t → (v : ℕ) → any (names v) p ≡ true → getD t v 0 ≡ levelOf p v
+level-at p t said v h = said v ∙ rw h
+
 both-under : (a b c : Bool) → ((a && c) || (b && c)) ≡ ((a || b) && c)
 both-under true true true = refl
 both-under true true false = refl
@@ -170,7 +173,7 @@ module _ (p : List ℤ) (b : Bound p) (ρ : Assignment) (values : List ℕ) (val
   lowest-first l e k room =
       let (w, v) = unassigned-found ρ p l e in
       let inside = subst (λ (xs : List ℤ). In (w .word) xs) (sym (w .whole)) (in-middle (w .before) (w .word) (w .after)) in
-      let at : getD levels (natAbs (l .0)) 0 ≡ levelOf p (natAbs (w .word)) = lvls (natAbs (l .0)) (any-i (names (natAbs (l .0))) inside (eq-eqb _ _ v)) ∙ ap (levelOf p) v in
+      let at : getD levels (natAbs (l .0)) 0 ≡ levelOf p (natAbs (w .word)) = level-at p levels lvls (natAbs (l .0)) (any-i (names (natAbs (l .0))) inside (eq-eqb _ _ v)) ∙ ap (levelOf p) v in
       let least = and-r (unassignedE p ρ (w .word) || unassignedU p ρ (w .word)) (all (λ q. assigned ρ q || leb (level p (w .word)) (level p q)) p) (first-open (bare p) (bare-proper p (b .binds)) ρ w (w .word) refl) in
       rw at (bool-eq _ _
       (λ h. all-i (λ q. assigned ρ q || leb k (level p q)) p (λ q i. higher (assigned ρ q) (level p (w .word)) (level p q) h (or-e (assigned ρ q) (leb (level p (w .word)) (level p q)) (all-e (λ q. assigned ρ q || leb (level p (w .word)) (level p q)) p least i))))
@@ -206,7 +209,7 @@ module _ (p : List ℤ) (b : Bound p) (ρ : Assignment) (values : List ℕ) (val
   open-means low lowest l = rw (named-is (natAbs l), free-in ρ values vals l, both-under (existential p l) (universal p l) (not (assigned ρ l)), binds p l) (go (look (any (names (natAbs l)) p)))
     where
       go : (any (names (natAbs l)) p ≡ true) ⊎ (any (names (natAbs l)) p ≡ false) → (any (names (natAbs l)) p && (not (assigned ρ l) && leb (getD levels (natAbs l) 0) low)) ≡ (any (names (natAbs l)) p && not (assigned ρ l) && all (λ q. assigned ρ q || leb (levelOf p (natAbs l)) (levelOf p (natAbs q))) p)
-      go (inl e) = rw (e, lvls (natAbs l) e, lowest (levelOf p (natAbs l)) (le-trans (level-few p (natAbs l)) (b .room)))
+      go (inl e) = rw (e, level-at p levels lvls (natAbs l) e, lowest (levelOf p (natAbs l)) (le-trans (level-few p (natAbs l)) (b .room)))
       go (inr e) = rw e
 
   pub preferred-means : (low : ℕ) → Lowest p ρ low → (ls : List ℤ) → onPicked (firstOf (preferredIn (length p) values levels low) ls) (λ l. l .0) (pos 0) ≡ firstOpen p ρ ls

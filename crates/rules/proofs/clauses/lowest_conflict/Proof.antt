@@ -1,22 +1,23 @@
 -- The walk over the clauses; none of those passed is in conflict.
 use Prim.Native.Nat.{_-_}
-use mathlib.Core.Path.{sym, _∙_}
+use mathlib.Core.Path.{refl, sym, _∙_}
 use native.Mathlib.Omega.{arith}
-use lib.ListN.{length}
+use lib.ListN.{length, drop}
 use borrow.Author.Needs.{needs}
+use Rattle.formula.specs.Formula.{clausesFrom}
 use Rattle.rules.specs.Due.{lowest}
 use Rattle.rules.specs.Inner.ByLiteral.{statusIn}
 use Rattle.rules.specs.Inner.Clauses.{conflictBy}
-use Rattle.rules.proofs.Walk.{Turn, turn, placed-part, Walk, walk-start, walk-on, walk-stop, walk-end, lowest-hit, lowest-miss, lowest-none}
+use Rattle.rules.proofs.Walk.{Turn, turn, placed-part, Walk, walk-on, walk-stop, walk-end, lowest-hit, lowest-miss, lowest-none}
 use Rattle.rules.proofs.clauses.lowest_conflict.Statement.{statement}
 use Rattle.rules.proofs.clauses.lowest_conflict.Tie as tie
 
 abbrev Inv-loop : tie.InvT-loop
-Inv-loop ends literals statuses from₀ c₀ from c =
-    Walk (lowest (conflictBy (statusIn statuses))) ends literals from c
+Inv-loop ends literals first start statuses from₀ c₀ from c =
+    Walk (lowest (conflictBy (statusIn statuses))) ends literals (lowest (conflictBy (statusIn statuses)) first (clausesFrom literals start (drop first ends))) from c
 
 abbrev μ-loop : tie.MeasureT-loop
-μ-loop ends literals statuses from₀ c₀ from c = length ends - c
+μ-loop ends literals first start statuses from₀ c₀ from c = length ends - c
 
 -- the clause of this turn
 module _ (c : tie.After-size-at Inv-loop μ-loop) where
@@ -33,19 +34,19 @@ returns : tie.Need-returns Inv-loop μ-loop
 returns c =
     let t = this (c .before .before .before) in
     let l = c .before .before .before .before .before .loop in
-    sym (lowest-hit _ _ _ _ (sym (c .before .in-conflict .ensures) ∙ c .if1 .taken)) ∙ walk-stop _ _ _ _ _ _ (l .inv) t
+    walk-stop _ _ _ _ _ _ _ (l .inv) t (lowest-hit _ _ _ _ (sym (c .before .in-conflict .ensures) ∙ c .if1 .taken))
 
 loop-again : tie.Need-loop-again Inv-loop μ-loop
 loop-again c =
     let t = this (c .before .before .before) in
     let l = c .before .before .before .before .before .loop in
-    walk-on _ _ _ _ _ _ (l .inv) t (lowest-miss _ _ _ _ (sym (c .before .in-conflict .ensures) ∙ c .if1 .left))
+    walk-on _ _ _ _ _ _ _ (l .inv) t (lowest-miss _ _ _ _ (sym (c .before .in-conflict .ensures) ∙ c .if1 .left))
 
 returns-2 : tie.Need-returns-2 Inv-loop μ-loop
-returns-2 c = lowest-none _ _ ∙ walk-end _ _ _ _ _ (c .loop-test .left) (c .before .loop .inv)
+returns-2 c = lowest-none _ _ ∙ walk-end _ _ _ _ _ _ (c .loop-test .left) (c .before .loop .inv)
 
 pub lowest-conflict-spec : {M : Type 1} → statement M
 lowest-conflict-spec =
     tie.close
-    (tie.spec Inv-loop μ-loop (λ c. walk-start _ _ _ (c .pre)) (λ c κs. search needs) (λ c. let t = this c in omega arith) (λ c. this c .starts)
+    (tie.spec Inv-loop μ-loop (λ c. record { ends = c .pre .ends; same = refl }) (λ c κs. search needs) (λ c. let t = this c in omega arith) (λ c. this c .starts)
     (λ c. this c .starts) (λ c. this c .stops) in-conflict-requires returns (λ c. search needs) (λ c. search needs) loop-again returns-2)

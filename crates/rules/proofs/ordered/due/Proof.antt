@@ -1,80 +1,60 @@
--- The lowest clause in conflict, or none, picks the case; the parts are those of an accepted block, and the tables those of a checked record.
-use mathlib.Core.Path.{_≡_, _∙_}
+-- The tables are those of a checked record, and what was written of them is wiped.
+use mathlib.Core.Path.{_≡_, sym, _∙_}
 use denote.Ref.{now}
-use Rattle.formula.specs.Formula.{clausesFrom, formulaOf}
-use Rattle.theory.specs.Tests.{inConflict}
-use Rattle.theory.specs.Record.{Record, trueIn}
-use Rattle.rules.specs.Trail.{trail, recordOf}
-use Rattle.rules.specs.Due.{lowest, due}
-use Rattle.rules.specs.Inner.Ready.{formula, Ready}
-use Rattle.rules.specs.Inner.Tabled.{Tabled, Sorts}
-use Rattle.rules.specs.Laws.Records.{kept-room}
-use Rattle.rules.specs.Laws.ClausesReady.{ready-clauses, conflict-ready, sorts}
-use Rattle.rules.specs.Laws.Accepted.{held-on, kept-tabled, accepted-ready, formula-is}
 use borrow.Author.Needs.{needs}
-use Rattle.rules.proofs.Filled.{bound-written, quantifiers-of}
+use Rattle.words.specs.Outcomes.{both-same}
+use Rattle.theory.specs.Record.{Record}
+use Rattle.rules.specs.Trail.{trail, recordOf}
+use Rattle.rules.specs.Inner.Ready.{Bound}
+use Rattle.rules.specs.Inner.Tabled.{Tabled}
+use Rattle.rules.specs.Laws.Records.{kept-room}
+use Rattle.rules.specs.Laws.Blanks.{same-blank}
+use Rattle.rules.specs.Laws.ClausesReady.{sorts}
+use Rattle.rules.specs.Laws.Accepted.{held-on, kept-tabled, accepted-bound}
 use Rattle.rules.proofs.ordered.due.Statement.{statement}
 use Rattle.rules.proofs.ordered.due.Tie as tie
 
--- the parts
-module _ (c : tie.After-literals) where
+module _ (c : tie.After-prefix) where
   abbrev start : tie.Start
-  start = c .before .before .before .before
+  start = c .before .before
 
-  parts : Ready (now (c .before .before .prefix .result)) (now (c .before .ends .result)) (now (c .literals .result))
-  parts = rw (c .before .before .prefix .ensures, c .before .ends .ensures, c .literals .ensures) (accepted-ready _ (start .pre .block))
-
-  whole : formulaOf (start .args .block .now) ≡ formula (now (c .before .before .prefix .result)) (now (c .before .ends .result)) (now (c .literals .result))
-  whole = formula-is (start .args .block .now) (c .before .before .prefix .ensures) (c .before .ends .ensures) (c .literals .ensures)
-
-statuses-of-requires : tie.Need-statuses-of-requires
-statuses-of-requires c κs = parts (c .before .before .before .before) .prefix .room
-
-lowest-conflict-requires : tie.Need-lowest-conflict-requires
-lowest-conflict-requires c κs = ready-clauses _ _ _ (parts (c .before .before .before .before .before .before))
+  bound : Bound (now (c .prefix .result))
+  bound = rw (c .prefix .ensures) (accepted-bound _ (start .pre .0 .block))
 
 -- what the tables are told of the record
-module _ (c : tie.After-statuses) where
-  abbrev cut : tie.After-literals
-  cut = c .before .before .before .before .before .before
+module _ (c : tie.After-values-of) where
+  abbrev cut : tie.After-prefix
+  cut = c .before
 
   abbrev record·of : Record
   record·of = recordOf (trail (start cut .args .lits .now) (start cut .args .kinds .now)) (start cut .args .count)
 
-  told : Tabled record·of (c .before .before .before .before .before .values-of .result) (start cut .args .kinds .now) (start cut .args .count)
-  told = kept-tabled _ _ _ (start cut .pre .kept) _ (c .before .before .before .before .before .values-of .ensures)
+  told : Tabled record·of (c .values-of .result) (start cut .args .kinds .now) (start cut .args .count)
+  told = kept-tabled _ _ _ (start cut .pre .0 .kept) _ (c .values-of .ensures)
 
-  sorting : Sorts (now (cut .before .before .prefix .result)) (trueIn record·of) (c .before .statuses-of .result)
-  sorting = sorts _ (parts cut .prefix) _ _ (c .before .before .before .before .values-of2 .result) (told .values) (quantifiers-of _ (c .before .before .before .before .values-of2 .result) (c .before .before .before .before .values-of2 .ensures)) (told .consistent) (c .before .statuses-of .result) (c .before .statuses-of .ensures)
+fill-requires : tie.Need-fill-requires
+fill-requires c κs = let cut = c .before .before .before in (bound cut, start cut .pre .1 .blank)
 
-due-conflict-requires : tie.Need-due-conflict-requires
-due-conflict-requires c κs = kept-room (start (cut (c .before .before .before .before)) .pre .kept) .kinds
+due-by-requires : tie.Need-due-by-requires
+due-by-requires c κs =
+    let s = start (cut (c .before .before .before .before .before)) in
+    (s .pre .0 .block, (s .pre .1 .told, kept-room (s .pre .0 .kept) .kinds))
 
-due-unit-requires : tie.Need-due-unit-requires
-due-unit-requires c κs =
-    let parted = cut (c .before .before .before .before .before) in
-    (parts parted, kept-room (start parted .pre .kept) .kinds)
-
--- the search is the definition's
-module _ (c : tie.After-lowest-conflict) where
-  conflict-is : c .lowest-conflict .result ≡ lowest (inConflict (now (cut (c .before) .before .before .prefix .result)) (trueIn (record·of (c .before)))) 0 (clausesFrom (now (cut (c .before) .literals .result)) 0 (now (cut (c .before) .before .ends .result)))
-  conflict-is = c .lowest-conflict .ensures ∙ conflict-ready _ _ _ (parts (cut (c .before))) _ (c .before .before .statuses-of .result) (sorting (c .before))
+wipe-requires : tie.Need-wipe-requires
+wipe-requires c κs =
+    let filled = c .before .before .before .before in
+    (bound (cut (filled .before .before .before)) .room, filled .fill .ensures .beyond)
 
 returns : tie.Need-returns
-unfolding due
 returns c =
-    let found = c .before .before .before .before in
-    rw (whole (cut (found .before)), ← conflict-is found, c .before .before .clause .given .1) (c .due-conflict .ensures _ _ (told (found .before)))
-
-returns-2 : tie.Need-returns-2
-unfolding due
-returns-2 c =
-    let found = c .before .before .before .before .before in
-    rw (whole (cut (found .before)), ← conflict-is found, c .before .before .before .enum-told .given .1) (c .due-unit .ensures _ (told (found .before)) (sorting (found .before)))
+    let by = c .before .before in
+    let filled = by .before .before .before in
+    let tabled = filled .before .before .before in
+    let sorting = sorts _ (bound (cut tabled)) _ _ (told tabled .values) (told tabled .consistent) _ (filled .fill .ensures) in
+    both-same (by .due-by .ensures _ (told tabled) (rw (← cut tabled .prefix .ensures) sorting)) (same-blank (c .wipe .ensures) (start (cut tabled) .pre .1 .blank))
 
 pub due-spec : {M : Type 1} → statement M
 due-spec =
     tie.close
-    (tie.spec (λ c κs. search needs) (λ c κs. search needs) (λ c κs. search needs) (λ c κs. held-on _ _ _ (start c .pre) .written)
-    (λ c κs. bound-written (parts (c .before) .prefix)) statuses-of-requires lowest-conflict-requires (λ c. search needs) due-conflict-requires
-    (λ c. search needs) due-unit-requires returns returns-2)
+    (tie.spec (λ c κs. search needs) (λ c κs. held-on _ _ _ (start c .pre .0) .written)
+    fill-requires due-by-requires wipe-requires returns)

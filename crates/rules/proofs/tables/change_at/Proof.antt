@@ -6,7 +6,7 @@ use lib.IntN.{pos}
 use lib.ListN.{getD, drop}
 use borrow.Author.Needs.{needs}
 use Rattle.formula.specs.Formula.{change}
-use Rattle.rules.proofs.Levels.{change-last, change-next}
+use Rattle.rules.proofs.Levelled.{change-last, change-next}
 use Rattle.rules.proofs.tables.change_at.Statement.{statement}
 use Rattle.rules.proofs.tables.change_at.Tie as tie
 

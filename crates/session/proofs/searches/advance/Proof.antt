@@ -1,5 +1,6 @@
 -- The due rule, with the proposal that the preferences give it, and what it leaves beside the record.
 use borrow.Author.Needs.{needs}
+use Rattle.words.specs.Outcomes.{same-answer, same-memory, both-same}
 use Rattle.rules.specs.Laws.Accepted.{held-on}
 use Rattle.session.specs.Laws.Accepted.{fitting}
 use Rattle.session.specs.Laws.Reasons.{tellable}
@@ -8,21 +9,24 @@ use Rattle.session.proofs.searches.advance.Statement.{statement}
 use Rattle.session.proofs.searches.advance.Tie as tie
 
 due-requires : tie.Need-due-requires
-due-requires c κs = c .before .before .before .before .pre .on
+due-requires c κs = let s = c .before .before .before .before .before in (s .pre .0 .on, s .pre .1)
+
+module _ (d : tie.After-due) where
+  abbrev start : tie.Start
+  start = d .before .before .before .before .before .before
 
 proposal-requires : tie.Need-proposal-requires
-proposal-requires c κs = held-on _ _ _ (c .before .before .before .before .before .before .pre .on)
+proposal-requires c κs = let s = start (c .before) in (held-on _ _ _ (s .pre .0 .on), s .pre .1 .told)
 
 tell-requires : tie.Need-tell-requires
 tell-requires c κs =
     let d = c .before .before .before in
-    rw (d .due .ensures) (tellable (d .before .before .before .before .before .pre))
+    rw (same-answer (d .due .ensures)) (tellable (start d .pre .0))
 
 apply-requires : tie.Need-apply-requires
 apply-requires c κs =
     let d = c .before .before .before .before .before .before .before .before in
-    let on = d .before .before .before .before .before .pre .on in
-    (on, rw (d .due .ensures) (fitting on))
+    (start d .pre .0 .on, rw (same-answer (d .due .ensures)) (fitting (start d .pre .0 .on)))
 
 returns : tie.Need-returns
 returns c =
@@ -30,8 +34,8 @@ returns c =
     let w = a .before .before .before .before .before in
     let q = w .before .before in
     let d = q .before .before in
-    let start = d .before .before .before .before .before in
-    (advanced (start .pre .on) _ (d .due .ensures) (q .proposal .ensures) (a .apply .ensures), rw (← d .due .ensures) (w .tell .ensures))
+    let is = same-answer (d .due .ensures) in
+    (both-same (advanced (start d .pre .0 .on) _ is (q .proposal .ensures) (a .apply .ensures)) (same-memory (d .due .ensures)), rw (← is) (w .tell .ensures))
 
 pub advance-spec : {M : Type 1} → statement M
 advance-spec =

@@ -15,22 +15,22 @@ use Rattle.rules.proofs.clauses.Look.with.Tie as tie
 returns : tie.Need-returns
 returns c =
     let a = c .before .before .args in
-    λ C. with-false _ _ _ _ (a .self .place) (a .self .above) _ C (a .self .over) (sym (c .before .status-at .ensures) ∙ c .if1 .taken)
+    λ C. with-false _ _ _ (a .self .place) (a .self .above) _ C (a .self .over) (sym (c .before .status-at .ensures) ∙ c .if1 .taken)
 
 returns-2 : tie.Need-returns-2
 returns-2 c =
     let a = c .before .before .before .args in
-    λ C. with-true _ _ _ _ (a .self .place) (a .self .above) _ C (a .self .over) (sym (c .before .before .status-at .ensures) ∙ c .if2 .taken)
+    λ C. with-true _ _ _ (a .self .place) (a .self .above) _ C (a .self .over) (sym (c .before .before .status-at .ensures) ∙ c .if2 .taken)
 
 returns-3 : tie.Need-returns-3
 returns-3 c =
     let a = c .before .before .before .before .before .before .args in
-    λ C. with-first _ _ _ _ (a .self .place) (a .self .above) _ C (sym (c .before .before .before .before .before .status-at .ensures) ∙ c .before .before .if3 .taken) (a .self .over) (a .j) refl (c .before .before .before .before .before .before .pre .1) (c .if4 .taken)
+    λ C. with-first _ _ _ (a .self .place) (a .self .above) _ C (sym (c .before .before .before .before .before .status-at .ensures) ∙ c .before .before .if3 .taken) (a .self .over) (a .j) refl (c .before .before .before .before .before .before .pre .1) (c .if4 .taken)
 
 returns-4 : tie.Need-returns-4
 returns-4 c =
     let a = c .before .before .before .before .before .before .args in
-    λ C. with-second _ _ _ _ (a .self .place) (a .self .above) _ C (sym (c .before .before .before .before .before .status-at .ensures) ∙ c .before .before .if3 .taken) (a .self .over) (c .if4 .left)
+    λ C. with-second _ _ _ (a .self .place) (a .self .above) _ C (sym (c .before .before .before .before .before .status-at .ensures) ∙ c .before .before .if3 .taken) (a .self .over) (c .if4 .left)
 
 mul-level : tie.Need-mul-level
 mul-level c = omega (arith, variables-are, c .size-at .ensures, c .before .before .before .before .before .pre .0 (c .before .before .before .before .before .args .j))
@@ -42,12 +42,12 @@ element-copy-out-level c = omega (arith, variables-are, c .size-at .ensures, c .
 module _ (c : tie.After-struct-known2) where
   lowered :
       let a = c .before .before .before .before .before .before .before .args in
-      let x = getD (a .literals .now) (a .j) (pos 0) in
-      (n : ℕ) → n ≡ min (a .self .above) (getD (a .levels .now) (c .before .before .size-at .result) 0) → Shown (statusIn (a .statuses .now)) (levelBy (a .levels .now)) (a .literals .now) (a .end) (a .self) x (record { place = a .self .place; above = n; over = a .self .over })
+      let x = getD (a .clause .now) (a .j) (pos 0) in
+      (n : ℕ) → n ≡ min (a .self .above) (getD (a .levels .now) (c .before .before .size-at .result) 0) → Shown (statusIn (a .statuses .now)) (levelBy (a .levels .now)) (a .clause .now) (a .self) x (record { place = a .self .place; above = n; over = a .self .over })
   lowered n m =
       let a = c .before .before .before .before .before .before .before .args in
       let k = c .before .before .before .before .before .before .status-at .ensures in
-      λ C. with-universal _ _ _ _ (a .self .place) (a .self .above) _ C (λ z. c .before .before .before .before .before .if1 .left (k ∙ z)) (λ z. c .before .before .before .before .if2 .left (k ∙ z)) (λ z. c .before .before .before .if3 .left (k ∙ z)) (a .self .over) n (m ∙ ap (λ v. min (a .self .above) (getD (a .levels .now) v 0)) (c .before .before .size-at .ensures))
+      λ C. with-universal _ _ _ (a .self .place) (a .self .above) _ C (λ z. c .before .before .before .before .before .if1 .left (k ∙ z)) (λ z. c .before .before .before .before .if2 .left (k ∙ z)) (λ z. c .before .before .before .if3 .left (k ∙ z)) (a .self .over) n (m ∙ ap (λ v. min (a .self .above) (getD (a .levels .now) v 0)) (c .before .before .size-at .ensures))
 
 returns-5 : tie.Need-returns-5
 returns-5 c = lowered (c .before) _ (omega (arith, c .if5 .taken))

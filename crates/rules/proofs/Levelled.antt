@@ -1,5 +1,6 @@
 -- The table of levels: the words left begin at the level reached, and no word passed stands again.
 use mathlib.Core.Path.{_≡_, refl, sym, _∙_, ap}
+use mathlib.Core.Logic.{_⊎_, inl, inr}
 use mathlib.Core.Bool.{Bool, true, false, cond, Bool·beq, _||_, or-false}
 use mathlib.Core.List.{List, [], _∷_}
 use Prim.Native.Nat.{ℕ, _+_, _≤_, _<_}
@@ -10,14 +11,15 @@ use lib.IntN.{ℤ, pos, natAbs}
 use lib.ListN.{length, getD, take, drop, set, replicate, length-set, length-replicate}
 use lib.Seq.{getD-set-same, getD-set-other, take-length}
 use borrow.Author.Tests.{eq-eqb, ne-eqb, eqb-false}
-use Rattle.words.specs.Laws.Bools.{clash, or-fl, or-fr}
+use Rattle.words.specs.Laws.Bools.{clash, look, or-fl, or-fr}
 use Rattle.words.specs.Lists.{any}
-use Rattle.words.specs.Laws.Lists.{next, ended, take-more, any-append}
+use Rattle.words.specs.Laws.Lists.{next, ended, blank}
 use Rattle.words.specs.Words.{negative}
 use Rattle.formula.specs.Formula.{change, levelOf}
 use Rattle.formula.specs.Block.{names}
 use Rattle.formula.specs.Laws.Prefix.{change-few}
-use Rattle.rules.specs.Inner.Tables.{places}
+use Rattle.rules.specs.Inner.Tables.{places, levelAt, Levels}
+use Rattle.rules.proofs.Filled.{named-more}
 
 -- ---- the change after a word
 pub change-last : (q : ℤ) (p : List ℤ) (i : ℕ) → length p ≤ i + 1 → change q (drop (i + 1) p) ≡ 0
@@ -34,27 +36,29 @@ pub record Levelled (p : List ℤ) (t : List ℕ) (level i : ℕ) : Type 0 where
   pub long : length t ≡ places
   pub few : level ≤ i
   pub done : (v : ℕ) → any (names v) (take i p) ≡ true → getD t v 0 ≡ levelOf p v
+  pub rest : (v : ℕ) → any (names v) (take i p) ≡ false → getD t v 0 ≡ 0
   pub left : (v : ℕ) → any (names v) (take i p) ≡ false → level + levelOf (drop i p) v ≡ levelOf p v
 
 pub begin : (p : List ℤ) → Levelled p (replicate places 0) 0 0
 unfolding any
-begin p = record { at = omega arith; long = length-replicate {A = ℕ} places 0; few = omega arith; done = λ v h. clash h refl; left = λ v h. omega arith }
+begin p = record { at = omega arith; long = length-replicate {A = ℕ} places 0; few = omega arith; done = λ v h. clash h refl; rest = λ v h. blank {A = ℕ} 0 places v; left = λ v h. omega arith }
 
 -- one word passed: its variable is new
 module _ (p : List ℤ) (t : List ℕ) (level i : ℕ) (l : Levelled p t level i) where
-  pub end : length p ≤ i → (v : ℕ) → any (names v) p ≡ true → getD t v 0 ≡ levelOf p v
-  end h v m = let e : i ≡ length p = omega arith in l .done v (rw (e, take-length p) m)
+  pub end : length p ≤ i → Levels p t
+  end h v = go (look (any (names v) p))
+    where
+      all : take i p ≡ p
+      all = let e : i ≡ length p = omega arith in rw (e, take-length p)
+
+      go : (any (names v) p ≡ true) ⊎ (any (names v) p ≡ false) → getD t v 0 ≡ levelAt p v
+      go (inl m) = l .done v (rw all m) ∙ rw m
+      go (inr m) = l .rest v (rw all m) ∙ rw m
 
   module _ (h : i < length p) where
     -- the word at i, and those after it
     word : ℤ
     word = getD p i (pos 0)
-
-    named-more : (v : ℕ) → any (names v) (take (i + 1) p) ≡ (any (names v) (take i p) || eqb v (natAbs word))
-    unfolding any word
-    named-more v =
-        rw (take-more p i (pos 0) h, any-append (names v) (take i p) (getD p i (pos 0) ∷ []))
-        (ap (λ b. any (names v) (take i p) || b) (or-false (eqb v (natAbs (getD p i (pos 0))))))
 
     level-here : (v : ℕ) → v ≡ natAbs word → levelOf (drop i p) v ≡ 0
     unfolding levelOf word
@@ -76,12 +80,19 @@ module _ (p : List ℤ) (t : List ℕ) (level i : ℕ) (l : Levelled p t level i
               rw (e, getD-set-same t s level 0 (omega arith)) (omega arith)
           by (no k) =
               let z : eqb v (natAbs (getD p i (pos 0))) ≡ false = ne-eqb v _ (λ e. k (e ∙ sym is)) in
-              getD-set-other t s v level 0 k ∙ l .done v (rw (named-more v, z, or-false (any (names v) (take i p))) at m)
+              getD-set-other t s v level 0 k ∙ l .done v (rw (named-more p i h v, z, or-false (any (names v) (take i p))) at m)
+
+      rest-more : (v : ℕ) → any (names v) (take (i + 1) p) ≡ false → getD (set t s level) v 0 ≡ 0
+      unfolding word
+      rest-more v m =
+          let both = rw (named-more p i h v) at m in
+          let other = eqb-false v (natAbs (getD p i (pos 0))) (or-fr (any (names v) (take i p)) (eqb v (natAbs (getD p i (pos 0)))) both) in
+          getD-set-other t s v level 0 (λ e. other (e ∙ is)) ∙ l .rest v (or-fl (any (names v) (take i p)) (eqb v (natAbs (getD p i (pos 0)))) both)
 
       left-more : (v d : ℕ) → d ≡ change (getD p i (pos 0)) (drop (i + 1) p) → any (names v) (take (i + 1) p) ≡ false → level + d + levelOf (drop (i + 1) p) v ≡ levelOf p v
       unfolding word
       left-more v d e m =
-          let both = rw (named-more v) at m in
+          let both = rw (named-more p i h v) at m in
           let old = or-fl (any (names v) (take i p)) (eqb v (natAbs (getD p i (pos 0)))) both in
           let other = eqb-false v (natAbs (getD p i (pos 0))) (or-fr (any (names v) (take i p)) (eqb v (natAbs (getD p i (pos 0)))) both) in
           omega (arith, l .left v old, level-past v other)
@@ -93,5 +104,6 @@ module _ (p : List ℤ) (t : List ℕ) (level i : ℕ) (l : Levelled p t level i
             long = length-set t s level ∙ l .long;
             few = omega (arith, change-few (getD p i (pos 0)) (drop (i + 1) p));
             done = done-more;
+            rest = rest-more;
             left = λ v. left-more v d e;
           }
