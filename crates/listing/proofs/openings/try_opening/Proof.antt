@@ -1,4 +1,5 @@
 -- The start is the opening's, and a record that passes row 12; a table of reasons has a place for each variable.
+use mathlib.Core.Path.{_∙_}
 use native.Mathlib.Omega.{arith}
 use Rattle.words.specs.Outcomes.{same-answer, same-memory, both-same}
 use Rattle.listing.proofs.Groups.{in-table, searchable, searched}
@@ -22,7 +23,7 @@ returns c =
     let begun = found .before .before .before .before .before .before .before .before in
     let pre = start begun .pre in
     let led = found .search .ensures .0 in
-    (both-same (searched (pre .0) (start begun .args .n) (begun .begin .ensures) (start begun .args .preferred .now) (start begun .args .budget) (same-answer led)) (same-memory led), ?)
+    (both-same (searched (pre .0) (start begun .args .n) (begun .begin .ensures) (start begun .args .preferred .now) (start begun .args .budget) (same-answer led)) (same-memory led), found .search .kept .1 .1 .1 .0 ∙ pre .1 .1)
 
 pub try-opening-spec : {M : Type 1} → statement M
 try-opening-spec =
