@@ -40,7 +40,7 @@ use Rattle.session.specs.Refusals.{lastRevision, openRefusal}
 use Rattle.session.specs.Outcome.{session, openOutcome}
 use Rattle.session.specs.Calls.{Desk, desk, Call, step, run, afterStep, stepAt, runAt, call, play}
 use Rattle.session.specs.Laws.Accepted.{opened, buffers-room, reasons-room, Sound, Guarded, step-last, run-last, step-passes}
-use Rattle.session.specs.Laws.Reasons.{Each}
+use Rattle.session.specs.Laws.Each.{Each}
 use Rattle.session.specs.Refused.{unless-to, step-refused, run-refused, step-refused-leaves}
 use Rattle.session.specs.Stepped.{accepted-is, accepted-step}
 use Rattle.session.specs.RunSteps.{searchAt, handed, byHand, hand-used, run-is-steps, run-pauses}

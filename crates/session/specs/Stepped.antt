@@ -26,7 +26,9 @@ use Rattle.session.specs.Refusals.{stepRefusal}
 use Rattle.session.specs.Reasons.{reasonOf, noted}
 use Rattle.session.specs.Laws.Accepted.{Sound, step-guarded}
 use Rattle.session.specs.Forced.{Explained}
-use Rattle.session.specs.Laws.Reasons.{noted-length, noted-untouched, noted-zeros, Each, sound-after}
+use Rattle.session.specs.Laws.Noted.{noted-length, noted-untouched, noted-zeros}
+use Rattle.session.specs.Laws.Each.{Each}
+use Rattle.session.specs.Laws.Sound.{sound-after}
 use Rattle.session.specs.Laws.Forced.{explained-after}
 use Rattle.session.specs.Refused.{unless-next}
 use Rattle.session.specs.Outcome.{moved, searchOf, stepped, stepOutcome}
