@@ -54,7 +54,7 @@ pub record Ruled (b : List ℤ) (l : ℤ) (s s′ : Session) (w : ℕ) (m m′ :
   -- rows 11 and 12 would pass again
   pub kept : KeptIn (prefixOf b) (searchOf s′ m′)
   pub sound : Sound b m′ (s′ .length)
-  -- [reasons.forced] and reasons that explain their entries do so still
+  -- [demand.2.reasons] and reasons that explain their entries do so still
   pub explained : Each (Explained (formulaOf b)) (searchOf s m) (m .reasons) → Each (Explained (formulaOf b)) (searchOf s′ m′) (m′ .reasons)
 
 module _ (L : Limits) (s : Session) (b : List ℤ) (m : Memory) (seen : Revision) (l : Literal) where
