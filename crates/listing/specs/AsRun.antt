@@ -25,7 +25,7 @@ use Rattle.session.specs.Refusals.{lastRevision, openRows, openRefusal, ofSessi
 use Rattle.session.specs.Outcome.{session}
 use Rattle.session.specs.Run.{runFrom, whyFrom, runOf}
 use Rattle.session.specs.Laws.Accepted.{Sound, open-passes, room-buffers}
-use Rattle.session.specs.Laws.Reasons.{none-sound}
+use Rattle.session.specs.Laws.Sound.{none-sound}
 use Rattle.listing.specs.Opening.{openingStart, openingSearch}
 use Rattle.listing.specs.Page.{PageMemory}
 use Rattle.listing.specs.Rows.{PageGuarded, page-binds}

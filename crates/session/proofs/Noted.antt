@@ -15,7 +15,7 @@ use Rattle.rules.specs.declared.rule.Rule.the-variants.{BacktrackExists, Fail, 
 use Rattle.rules.specs.Trail.{wiped}
 use Rattle.session.specs.Reasons.{why, told, badReason, badReasons}
 use Rattle.session.specs.Inner.Reasons.{Tellable}
-use Rattle.session.specs.Laws.Reasons.{zero-right}
+use Rattle.session.specs.Laws.Sound.{zero-right}
 
 -- ---- what a rule leaves and answers, rule by rule
 pub asked-of : {k n : ℕ} {rule x : Rule} → Tellable k n rule → rule ≡ x → Tellable k n x

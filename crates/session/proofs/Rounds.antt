@@ -28,7 +28,7 @@ use Rattle.session.specs.Reasons.{Why, why, noted, told}
 use Rattle.session.specs.Run.{trip, advance, runFrom, whyFrom}
 use Rattle.session.specs.Inner.Reasons.{OnMemory}
 use Rattle.session.specs.Laws.Accepted.{over-open}
-use Rattle.session.specs.Laws.Reasons.{noted-length}
+use Rattle.session.specs.Laws.Noted.{noted-length}
 use Rattle.session.specs.Laws.Runs.{advance-keeps, run-ended, loop-more, loop-last, why-ended, why-loop, why-none}
 use Rattle.formula.specs.Limits.{limits}
 

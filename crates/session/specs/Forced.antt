@@ -1,4 +1,4 @@
--- [reasons.forced] What a reason says: the clause that it names did force the entry's literal, given the entries before it.
+-- [demand.2.reasons] What a reason says: the clause that it names did force the entry's literal, given the entries before it.
 use Prim.Native.Nat.{ℕ, suc, _<_}
 use mathlib.Core.Path.{_≡_}
 use mathlib.Core.Logic.{_⊎_}

@@ -40,7 +40,7 @@ use Rattle.session.specs.Refusals.{lastRevision, openRefusal}
 use Rattle.session.specs.Outcome.{session, openOutcome}
 use Rattle.session.specs.Calls.{Desk, desk, Call, step, run, afterStep, stepAt, runAt, call, play}
 use Rattle.session.specs.Laws.Accepted.{opened, buffers-room, reasons-room, Sound, Guarded, step-last, run-last, step-passes}
-use Rattle.session.specs.Laws.Reasons.{Each}
+use Rattle.session.specs.Laws.Each.{Each}
 use Rattle.session.specs.Refused.{unless-to, step-refused, run-refused, step-refused-leaves}
 use Rattle.session.specs.Stepped.{accepted-is, accepted-step}
 use Rattle.session.specs.RunSteps.{searchAt, handed, byHand, hand-used, run-is-steps, run-pauses}
@@ -185,7 +185,7 @@ module _ (L : Limits) (b : List ℤ) (m : Memory) (rev : Revision) (s : Session)
   pub history-path : (calls : List Call) → let d = play L b (freshDesk L b m rev s) calls in Path (formulaOf b) (d .steps) (going []) (standingOf (searchAt d))
   history-path calls = kept-after calls .path
 
-  -- [reasons.forced] each reason that is not 0 names a clause that did force its entry's literal, given the entries before it
+  -- [demand.2.reasons] each reason that is not 0 names a clause that did force its entry's literal, given the entries before it
   pub reasons-forced : (calls : List Call) → let d = play L b (freshDesk L b m rev s) calls in
       (j c : ℕ) → j < d .latest .length → getD (d .memory .reasons) j 0 ≡ suc c
       → Forced (formulaOf b) (recordOf (d .memory .trail) j) (getD (d .memory .trail .lits) j (pos 0)) c

@@ -26,7 +26,7 @@ use Rattle.session.specs.Memory.{memoryOf}
 use Rattle.session.specs.Refusals.{lastRevision, over, runRefusal}
 use Rattle.session.specs.Reasons.{Why, why, told}
 use Rattle.session.specs.Laws.Accepted.{over-open, Sound, Guarded, run-guarded, step-passes}
-use Rattle.session.specs.Laws.Reasons.{sound-after}
+use Rattle.session.specs.Laws.Sound.{sound-after}
 use Rattle.session.specs.Outcome.{moved, searchOf}
 use Rattle.session.specs.Run.{Trip, trip, advance, runFrom, whyFrom, ran, runOf}
 use Rattle.session.specs.Laws.Runs.{proposal-passes, advance-keeps, run-ended, loop-last, run-further, run-counted, why-more, why-ended, why-none, why-counted, why-latest, why-silent, Travelled, travelled}

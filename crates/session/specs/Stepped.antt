@@ -26,7 +26,9 @@ use Rattle.session.specs.Refusals.{stepRefusal}
 use Rattle.session.specs.Reasons.{reasonOf, noted}
 use Rattle.session.specs.Laws.Accepted.{Sound, step-guarded}
 use Rattle.session.specs.Forced.{Explained}
-use Rattle.session.specs.Laws.Reasons.{noted-length, noted-untouched, noted-zeros, Each, sound-after}
+use Rattle.session.specs.Laws.Noted.{noted-length, noted-untouched, noted-zeros}
+use Rattle.session.specs.Laws.Each.{Each}
+use Rattle.session.specs.Laws.Sound.{sound-after}
 use Rattle.session.specs.Laws.Forced.{explained-after}
 use Rattle.session.specs.Refused.{unless-next}
 use Rattle.session.specs.Outcome.{moved, searchOf, stepped, stepOutcome}
@@ -52,7 +54,7 @@ pub record Ruled (b : List ℤ) (l : ℤ) (s s′ : Session) (w : ℕ) (m m′ :
   -- rows 11 and 12 would pass again
   pub kept : KeptIn (prefixOf b) (searchOf s′ m′)
   pub sound : Sound b m′ (s′ .length)
-  -- [reasons.forced] and reasons that explain their entries do so still
+  -- [demand.2.reasons] and reasons that explain their entries do so still
   pub explained : Each (Explained (formulaOf b)) (searchOf s m) (m .reasons) → Each (Explained (formulaOf b)) (searchOf s′ m′) (m′ .reasons)
 
 module _ (L : Limits) (s : Session) (b : List ℤ) (m : Memory) (seen : Revision) (l : Literal) where

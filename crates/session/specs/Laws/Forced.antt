@@ -29,7 +29,8 @@ use Rattle.rules.specs.Laws.Accepted.{prefix-length, accepted-binds}
 use Rattle.session.specs.Reasons.{noted}
 use Rattle.session.specs.Forced.{Aside, Forced, Explained}
 use Rattle.session.specs.Laws.Accepted.{fitting}
-use Rattle.session.specs.Laws.Reasons.{Names, due-names, Each, each-after}
+use Rattle.session.specs.Laws.Named.{Names, due-names}
+use Rattle.session.specs.Laws.Each.{Each, each-after}
 
 module _ (L : Limits) (b : List ℤ) (block : refusal L b ≡ 0) where
   -- a literal of a clause names a variable of the prefix

@@ -7,7 +7,7 @@ use Rattle.words.specs.Outcomes.{same-answer}
 use Rattle.rules.specs.Laws.Accepted.{held-on}
 use Rattle.rules.specs.Laws.Blanks.{new-blank}
 use Rattle.session.specs.Laws.Accepted.{fitting, guarded}
-use Rattle.session.specs.Laws.Reasons.{tellable}
+use Rattle.session.specs.Laws.Named.{tellable}
 use Rattle.session.proofs.Exits.{on-memory, step-stops, step-last, step-improper, step-moves}
 use Rattle.session.proofs.Session.step.Statement.{statement}
 use Rattle.session.proofs.Session.step.Tie as tie
