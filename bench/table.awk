@@ -19,5 +19,5 @@ NR == 1 {
 }
 END {
     row("all", "", steps, proved, plain, time, plain_time)
-    print NR " formulas: verdicts, counts and records agree"
+    print NR " formulas: verdicts, counts, records and reasons agree"
 }
