@@ -1,7 +1,7 @@
 /* Runs each formula of the standard input on the proved solver and on the
    yardstick, with the same budget, and checks that they agree.
 
-   A line of input is NAME BUDGET COUNT W.., a line of output
+   The input is as bench/formula.h says, a line of output is
    NAME STATE STEPS LENGTH, then the best time of each side in microseconds.
    Before and after each first run it calls getppid, which bench/count.c waits
    for; the word `once` asks for these runs alone. */
@@ -13,21 +13,15 @@
 #include <time.h>
 #include <unistd.h>
 
+#include "formula.h"
 #include "mokihazureo.h"
 
-enum { BLOCK = 16384, PLACES = 256, REPEATS = 5 };
+enum { REPEATS = 5 };
 
 /* bench/door.rs: the yardstick, with the same answer. */
 uint32_t yardstick_run(uint64_t length, uint64_t revision, uint32_t state, const int32_t *block, size_t block_length, int32_t *lits, size_t lits_length, uint8_t *kinds, size_t kinds_length, uint32_t *reasons, size_t reasons_length, uint64_t seen, uint32_t budget, const int32_t *preferred, size_t preferred_length, uint64_t answer[MOKI_RUN_WORDS]);
 
 typedef uint32_t (*solver)(uint64_t, uint64_t, uint32_t, const int32_t *, size_t, int32_t *, size_t, uint8_t *, size_t, uint32_t *, size_t, uint64_t, uint32_t, const int32_t *, size_t, uint64_t *);
-
-struct formula {
-    char name[64];
-    uint32_t budget;
-    size_t length;
-    int32_t block[BLOCK];
-};
 
 /* A run, and all that it leaves. */
 struct outcome {
@@ -74,18 +68,6 @@ static void measure(const struct formula *f, double best[2])
                 best[side] = took;
         }
     }
-}
-
-static int read_formula(struct formula *f)
-{
-    if (scanf("%63s %" SCNu32 " %zu", f->name, &f->budget, &f->length) != 3)
-        return 0;
-    if (f->length > BLOCK)
-        return 0;
-    for (size_t i = 0; i < f->length; i++)
-        if (scanf("%" SCNd32, &f->block[i]) != 1)
-            return 0;
-    return 1;
 }
 
 static int agree(const struct outcome *a, const struct outcome *b)

@@ -1,7 +1,7 @@
-//! Twenty formulas of 1,000 clauses from fixed seeds, of several shapes, to
-//! measure runs on.
+//! Formulas from fixed seeds, of several shapes, to measure runs on: twenty of
+//! 1,000 clauses, and four with every count at its limit.
 
-use crate::block::lay_out;
+use crate::block::{lay_out, LIMITS};
 use crate::dice::Dice;
 
 pub const CLAUSES: usize = 1000;
@@ -14,12 +14,14 @@ pub struct Trial {
 }
 
 pub fn trials() -> Vec<Trial> {
-    let shapes: [(&str, usize, u32, Make); 5] = [
+    let shapes: [(&str, usize, u32, Make); 7] = [
         ("hard-ratio", 5, 4000, |dice| three_clauses(dice, 235)),
         ("over-ratio", 2, 8000, |dice| three_clauses(dice, 95)),
         ("small-groups", 5, 4000, |dice| groups(dice, 4)),
         ("few-groups", 2, 8000, |dice| groups(dice, 22)),
         ("failover", 6, 4000, failover),
+        ("limit-pinned", 2, 4000, pinned),
+        ("limit-copies", 2, 4000, copies),
     ];
     let mut trials = Vec::new();
     for (name, count, budget, make) in shapes {
@@ -143,4 +145,71 @@ fn plan(placed: &[i32], failed: &[i32], recovered: &[i32], clauses: &mut Vec<Vec
             clauses.push([other_than(failed, host), other_than(after, host)].concat());
         }
     }
+}
+
+/// V, C and T of the formulas at the limits. T is twice C, so as many clauses have
+/// three literals as have one, and all others two.
+fn at_the_limits() -> (i32, usize) {
+    let [v, c, t] = LIMITS;
+    assert_eq!(t, 2 * c);
+    (v as i32, c as usize)
+}
+
+/// A hard search among much that is settled: most variables are pinned by a clause
+/// of one literal each, and as many clauses of three literals are over the others,
+/// at the hardest ratio. Each clause of two has a literal that is pinned true.
+fn pinned(dice: &mut Dice) -> Parts {
+    let (v, count) = at_the_limits();
+    let core = v * 100 / (100 + HARDEST);
+    let mut prefix: Vec<i32> = (1..=v).collect();
+    let pins: Vec<i32> = (core + 1..=v)
+        .map(|pin| pin * dice.pick(&[1, -1]))
+        .collect();
+    let mut clauses: Vec<Vec<i32>> = pins.iter().map(|&pin| vec![pin]).collect();
+    let hard = |_| three(dice, &prefix[..core as usize]);
+    let hard: Vec<Vec<i32>> = (0..pins.len()).map(hard).collect();
+    clauses.extend(hard);
+    while clauses.len() < count {
+        let pin = dice.pick(&pins);
+        let other = dice.pick(&prefix);
+        if other != pin.abs() {
+            clauses.push(vec![pin, other * dice.pick(&[1, -1])]);
+        }
+    }
+    dice.shuffle(&mut clauses);
+    dice.shuffle(&mut prefix);
+    (prefix, clauses)
+}
+
+/// Clauses of three literals for a hundred variables, where they are hardest.
+const HARDEST: i32 = 426;
+
+/// A true formula of many groups, four existential variables and a universal one
+/// by turns, whose search goes on and on: each existential variable after the
+/// first group has to be what some universal one before it is, or the opposite.
+/// A clause has two literals of one such family, of which always one is true.
+fn copies(dice: &mut Dice) -> Parts {
+    let (v, count) = at_the_limits();
+    let mut prefix: Vec<i32> = (1..=v).collect();
+    dice.shuffle(&mut prefix);
+    let mut families: Vec<Vec<i32>> = Vec::new();
+    for (place, word) in prefix.iter_mut().enumerate() {
+        if place % 5 == 4 {
+            families.push(vec![*word]);
+            *word = -*word;
+        } else if let Some(last) = families.len().checked_sub(1) {
+            let family = dice.between(0, last as i64) as usize;
+            families[family].push(*word * dice.pick(&[1, -1]));
+        }
+    }
+    families.retain(|family| family.len() > 1);
+    let mut clauses = Vec::new();
+    while clauses.len() < count {
+        let family = &families[dice.below(families.len())];
+        let (one, other) = (dice.pick(family), dice.pick(family));
+        if one != other {
+            clauses.push(vec![one, -other]);
+        }
+    }
+    (prefix, clauses)
 }
