@@ -24,9 +24,9 @@ enum { MOKI_OPEN = 0, MOKI_VALID = 1, MOKI_UNSAT = 2 };
    it comes as a pointer alone, so no call can see how many there are. */
 enum { MOKI_SESSION_WORDS = 3, MOKI_STEP_WORDS = 4, MOKI_RUN_WORDS = 5, MOKI_PAGE_WORDS = 3 };
 
-/* The record is three buffers of V places or more: literals, kinds and reasons. A
-   reason is the number of the clause that forced the entry, counted from 0, plus one;
-   0 is none. */
+/* The record is two buffers, literals and kinds; open, step and run are lent a third
+   beside them, the reasons. Each has V places or more. A reason is the number of the
+   clause that forced the entry, counted from 0, plus one; 0 is none. */
 
 /* Refusals 1 to 10 and 23. */
 uint32_t moki_check(const int32_t *block, size_t block_length);

@@ -2,8 +2,8 @@
 //!
 //! docs/SPEC.md has the rules, the formula block and the table of refusals. Any
 //! words may be handed in; a refused call changes nothing. The caller lends all
-//! memory: the record is three buffers of at least V places, for literals, kinds and
-//! reasons.
+//! memory: the record is two buffers, literals and kinds, and the reasons are a third
+//! beside it, each of at least V places.
 
 mod door;
 
