@@ -24,7 +24,7 @@ pub struct Ask<'a> {
     pub preferred: &'a [i32],
 }
 
-/// The work record: "a page answers as before", so it has no reasons.
+/// The work record. A page is lent no reasons.
 pub struct Work<'a> {
     pub literals: &'a mut [i32],
     pub kinds: &'a mut [u8],

@@ -9,8 +9,8 @@ pub const FORCED: u8 = 0;
 pub const EXISTENTIAL_DECISION: u8 = 1;
 pub const UNIVERSAL_DECISION: u8 = 2;
 
-/// One place of the record: a literal that is true, and how it came there; "for a
-/// Unit entry the clause's number plus one, else 0".
+/// One place of the record: a literal that is true, and how it came there.
+/// [reasons]: and the clause that forced it, by its number plus one, or 0.
 #[derive(Clone, Copy, Debug, PartialEq, Eq)]
 pub struct Entry {
     pub literal: i32,
@@ -51,17 +51,17 @@ pub fn read(
     Ok(record)
 }
 
-/// Row 12, of one entry's reason.
+/// Row 12, of one entry's reason: [row.12.reason].
 fn reason_wrong(formula: &Formula, entry: &Entry) -> bool {
     reason_over(formula, entry) || reason_beside(entry)
 }
 
-/// "a reason over C".
+/// It names no clause.
 pub fn reason_over(formula: &Formula, entry: &Entry) -> bool {
     entry.reason as usize > formula.clauses.len()
 }
 
-/// "a reason beside a kind that isn't 0".
+/// A decision has one.
 pub fn reason_beside(entry: &Entry) -> bool {
     entry.reason != 0 && entry.kind != FORCED
 }

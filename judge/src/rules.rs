@@ -6,7 +6,7 @@ use std::collections::HashSet;
 use crate::block::Formula;
 use crate::record::{Entry, EXISTENTIAL_DECISION, FORCED, UNIVERSAL_DECISION};
 
-/// A clause by its number: "Clauses count from 0".
+/// A clause by its number, which is 0 for the first.
 #[derive(Clone, Copy, Debug, PartialEq, Eq)]
 pub struct Clause(pub usize);
 
@@ -30,8 +30,8 @@ pub enum Rule {
 }
 
 impl Rule {
-    /// What a step by this rule answers: at Unit "the clause's number plus one",
-    /// "at Fail and Backtrack-exists for the lowest clause in conflict", else 0.
+    /// [step.reason]: that of the unit clause or of the lowest clause in conflict,
+    /// else 0.
     pub fn reason(self) -> u32 {
         match self {
             Rule::BacktrackExists(clause, _) | Rule::Fail(clause) | Rule::Unit(clause, _) => {
@@ -67,8 +67,8 @@ pub fn due(formula: &Formula, record: &[Entry]) -> Rule {
 }
 
 /// The record after the rule. "Fail and Succeed leave the record." The
-/// proposal matters at Decide only: 0, or an open literal. An entry has a reason
-/// if Unit made it, else 0.
+/// proposal matters at Decide only: 0, or an open literal. [reasons.unit]: an
+/// entry that Unit made has its reason, every other one 0.
 pub fn apply(formula: &Formula, record: &[Entry], rule: Rule, proposal: i32) -> Vec<Entry> {
     match rule {
         Rule::BacktrackExists(_, place) | Rule::BacktrackForall(place) => turned(record, place),

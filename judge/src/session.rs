@@ -26,7 +26,7 @@ pub struct Session {
 }
 
 /// The record as it is lent: "two lent buffers, signed words for literals and
-/// bytes for kinds", and "A third lent buffer of unsigned words", the reasons.
+/// bytes for kinds"; and the [reasons], a third one beside them.
 pub struct Lent<'a> {
     pub literals: &'a mut [i32],
     pub kinds: &'a mut [u8],
@@ -42,8 +42,8 @@ pub struct Stepped {
     pub hits: Hits,
 }
 
-/// An accepted run: "It answers the session and the count of accepted steps", and
-/// of the reasons "its last step's, or 0".
+/// An accepted run: "It answers the session and the count of accepted steps".
+/// [run.reason]: and the last one's reason, 0 if there was none.
 #[derive(Clone, Copy, Debug, PartialEq, Eq)]
 pub struct Ran {
     pub session: Session,
@@ -195,7 +195,7 @@ impl<'a> Search<'a> {
 
     /// Writes the next record over the last one. "A cut sets the places from
     /// the new to the old length to 0 in both buffers. [...] No other place is
-    /// written." The reasons are "wiped as the others are".
+    /// written." [reasons.cut]: the same holds of the reasons.
     fn show(&mut self, next: &[Entry]) {
         for (place, entry) in next.iter().enumerate() {
             self.lent.literals[place] = entry.literal;
