@@ -1,0 +1,5 @@
+-- Laws for the proofs of this room.
+pub mod Left
+pub mod Taken
+pub mod Viable
+pub mod Capped

@@ -1,0 +1,96 @@
+// The text of a formula, read into a block: whole or in pieces.
+
+mod bytes; // which bytes are blanks, digits, and bytes of a comment
+mod places; // what a word may begin with
+mod machine; // where a byte leads from a state
+
+// Where the next word stands.
+pub enum Place {
+    // the first of a line before the problem line; `cnf`; its two numbers
+    AtHead,
+    AtCnf,
+    AtFirst,
+    AtSecond,
+    // the first of a line after it: may it be a quantifier?
+    AtLine(bool),
+    // a quantifier's first number; a further one, or 0; a literal, or 0
+    AtNumber,
+    AtNumbers,
+    AtLiterals,
+    // no word: the line ends here; may a quantifier's line come next?
+    AtEnd(bool),
+}
+
+// Which number it is that is being read; a literal is negative or not.
+pub enum Slot {
+    OfVariables,
+    OfCount,
+    OfGroup,
+    OfClause(bool),
+}
+
+pub enum State {
+    // no text goes on so
+    Dead,
+    // at a line's start, where the text may end
+    Fresh(bool),
+    // before a word: where blanks may stand, and where one must
+    Before(Place),
+    Parted(Place),
+    // in a number
+    InNumber(Slot),
+    // in a comment; in `cnf`; behind a minus
+    Remark,
+    AfterC,
+    AfterCn,
+    AfterMinus,
+}
+
+// What a byte says: nothing; that the number 0 stands, or the one whose digits were read; a quantifier; a clause's end.
+pub enum Says {
+    Nothing,
+    Zero(Slot),
+    Value(Slot),
+    Forall,
+    Exists,
+    Ends,
+}
+
+pub struct Move {
+    pub to: State,
+    pub says: Says,
+}
+
+// What is kept of a text so far, beside the words that stand in the output. Counts go up to CAP and no further.
+pub struct Kept {
+    // the announced counts
+    pub variables: u32,
+    pub count: u32,
+    // whether the group that is being read is universal
+    pub universal: bool,
+    // bound words, clause lines and literals seen
+    pub bound: u32,
+    pub clauses: u32,
+    pub literals: u32,
+    // whether some number was beyond 32 signed bits, and whether some bound number was over the announced count
+    pub large: bool,
+    pub over: bool,
+}
+
+// The reader's state between two bytes. Any words may be handed in.
+pub struct Reader {
+    pub state: State,
+    // the value of the digits so far, up to CAP
+    pub number: u32,
+    // how many bytes were taken, up to 2^64 - 1
+    pub at: u64,
+    pub kept: Kept,
+}
+
+// What reading answers: the block's length; 27 with a byte's place; 28, 29 or 30; 31 with the row.
+pub enum Answer {
+    Accepted(usize),
+    Misfit(u64),
+    Refused(u32),
+    Row(u32),
+}
