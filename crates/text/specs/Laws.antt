@@ -3,3 +3,11 @@ pub mod Left
 pub mod Taken
 pub mod Viable
 pub mod Capped
+pub mod Followed
+pub mod Kept
+pub mod Stores
+pub mod Laid
+pub mod Completed
+pub mod Block
+pub mod Rows
+pub mod Settled

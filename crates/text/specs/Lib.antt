@@ -13,5 +13,8 @@ pub mod Examples
 pub mod Tree
 -- the reader in pieces
 pub mod Pieces
+pub mod Whole
+-- an accepted text: its block, and its meaning
+pub mod Meaning
 -- what is proved for use in proofs
 pub mod Laws

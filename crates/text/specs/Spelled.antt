@@ -18,23 +18,11 @@ use Rattle.text.specs.Events.{heard, say, hear-say}
 use Rattle.text.specs.Reads.{taken, Read, spelled, misfit, reads}
 use Rattle.text.specs.Laws.Left.{sound}
 use Rattle.text.specs.Laws.Taken.{complete}
-use Rattle.text.specs.Laws.Viable.{last-is, reach-append, reach-dead, viable}
+use Rattle.text.specs.Laws.Viable.{last-is, fresh-state, dead-is, reach-append, reach-dead, viable}
 
 -- ---- the answer by the state
 no-misfit {ℓ} : {A : Type ℓ} {i : ℕ} {t : Text} → misfit i ≡ spelled t → A
 no-misfit e = let z : _≡_ {A = ℕ} 0 1 = cc in absurd (omega arith)
-
-fresh-state : (s : State) → fresh s ≡ true → (more : Bool) × (s ≡ Fresh more)
-unfolding fresh
-fresh-state Dead h = clash h refl
-fresh-state (Fresh more) h = (more, refl)
-fresh-state (Before k) h = clash h refl
-fresh-state (Parted k) h = clash h refl
-fresh-state (InNumber f) h = clash h refl
-fresh-state Remark h = clash h refl
-fresh-state AfterC h = clash h refl
-fresh-state AfterCn h = clash h refl
-fresh-state AfterMinus h = clash h refl
 
 -- ---- a text that is read is spelled so, and what is spelled is read
 pub reads-right : (bs : List ℕ) (t : Text) → reads bs ≡ spelled t → Spells bs t
@@ -71,18 +59,6 @@ pub record Misfit (bs : List ℕ) (i : ℕ) : Type 0 where
 pub data Course (s : State) (bs : List ℕ) (at : ℕ) : Type 0 where
   through : alive (reach s bs) ≡ true → at ≡ length bs → Course s bs at
   stuck : at < length bs → alive (reach s (take at bs)) ≡ true → reach s (take (suc at) bs) ≡ Dead → Course s bs at
-
-dead-is : (s : State) → alive s ≡ false → s ≡ Dead
-unfolding alive
-dead-is Dead h = refl
-dead-is (Fresh more) h = clash refl h
-dead-is (Before k) h = clash refl h
-dead-is (Parted k) h = clash refl h
-dead-is (InNumber f) h = clash refl h
-dead-is Remark h = clash refl h
-dead-is AfterC h = clash refl h
-dead-is AfterCn h = clash refl h
-dead-is AfterMinus h = clash refl h
 
 further-on : {s : State} {b at : ℕ} {bs : List ℕ} → Course (move s b .to) bs at → Course s (b ∷ bs) (suc at)
 unfolding reach

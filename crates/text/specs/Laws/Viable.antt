@@ -11,7 +11,7 @@ use Rattle.text.specs.declared.Slot.{Slot}
 use Rattle.text.specs.declared.Slot.the-variants.{OfVariables, OfCount, OfGroup, OfClause}
 use Rattle.text.specs.declared.State.{State}
 use Rattle.text.specs.declared.State.the-variants.{Dead, Fresh, Before, Parted, InNumber, Remark, AfterC, AfterCn, AfterMinus}
-use Rattle.text.specs.Machine.{alive, rows, choose, blank, between, parted, past, move, start, reach, trace, shift}
+use Rattle.text.specs.Machine.{alive, fresh, rows, choose, blank, between, parted, past, move, start, reach, trace, shift}
 use Rattle.text.specs.Laws.Left.{sound}
 
 pub last-is : (s : State) (n : ℕ) (bs : List ℕ) → trace s n bs .last ≡ reach s bs
@@ -29,6 +29,30 @@ pub reach-dead : (xs : List ℕ) → reach Dead xs ≡ Dead
 unfolding reach move
 reach-dead [] = refl
 reach-dead (x ∷ xs) = reach-dead xs
+
+pub dead-is : (s : State) → alive s ≡ false → s ≡ Dead
+unfolding alive
+dead-is Dead h = refl
+dead-is (Fresh more) h = clash refl h
+dead-is (Before k) h = clash refl h
+dead-is (Parted k) h = clash refl h
+dead-is (InNumber f) h = clash refl h
+dead-is Remark h = clash refl h
+dead-is AfterC h = clash refl h
+dead-is AfterCn h = clash refl h
+dead-is AfterMinus h = clash refl h
+
+pub fresh-state : (s : State) → fresh s ≡ true → (more : Bool) × (s ≡ Fresh more)
+unfolding fresh
+fresh-state Dead h = clash h refl
+fresh-state (Fresh more) h = (more, refl)
+fresh-state (Before k) h = clash h refl
+fresh-state (Parted k) h = clash h refl
+fresh-state (InNumber f) h = clash h refl
+fresh-state Remark h = clash h refl
+fresh-state AfterC h = clash h refl
+fresh-state AfterCn h = clash h refl
+fresh-state AfterMinus h = clash h refl
 
 -- bytes that bring the state to a text's end
 abbrev Done : State → Type 0
