@@ -11,3 +11,4 @@ pub mod Completed
 pub mod Block
 pub mod Rows
 pub mod Settled
+pub mod Turns

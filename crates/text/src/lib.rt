@@ -1,8 +1,12 @@
 // The text of a formula, read into a block: whole or in pieces.
+ghost use Rattle.text.specs.Promises.{ReadPromise, BeginPromise, PiecePromise, EndPromise};
 
 mod bytes; // which bytes are blanks, digits, and bytes of a comment
 mod places; // what a word may begin with
 mod machine; // where a byte leads from a state
+mod numbers; // numbers of any length in 32 bits
+mod keep; // what is kept of a text
+mod bytewise; // a text byte by byte
 
 // Where the next word stands.
 pub enum Place {
@@ -93,4 +97,39 @@ pub enum Answer {
     Misfit(u64),
     Refused(u32),
     Row(u32),
+}
+
+// Before the first byte.
+pub fn begin() -> Reader
+    ensures { λ r. ⌜ BeginPromise r ⌝ }
+{
+    let kept = Kept {
+        variables: 0,
+        count: 0,
+        universal: false,
+        bound: 0,
+        clauses: 0,
+        literals: 0,
+        large: false,
+        over: false,
+    };
+    Reader {
+        state: State::Before(Place::AtHead),
+        number: 0,
+        at: 0,
+        kept: kept,
+    }
+}
+
+// One more piece of the text, with the output as working memory.
+pub fn piece(reader: Reader, bytes: &[u8], output: &mut [i32]) -> Reader
+    ensures { λ r. ⌜ PiecePromise reader (now (bytes .entry)) (now (output .entry)) r (now (output .exit)) ⌝ }
+{
+    let mut at = reader;
+    let mut i = 0;
+    while i < bytes.len() {
+        at = bytewise::take(at, bytes[i], output);
+        i += 1;
+    }
+    at
 }
