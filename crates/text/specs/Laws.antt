@@ -12,3 +12,4 @@ pub mod Block
 pub mod Rows
 pub mod Settled
 pub mod Turns
+pub mod Marks

@@ -7,6 +7,7 @@ mod machine; // where a byte leads from a state
 mod numbers; // numbers of any length in 32 bits
 mod keep; // what is kept of a text
 mod bytewise; // a text byte by byte
+mod prefix; // the completed prefix
 
 // Where the next word stands.
 pub enum Place {
