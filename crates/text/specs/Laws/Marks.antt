@@ -8,14 +8,16 @@ use native.Mathlib.Decide.{ℕ-discrete}
 use native.Mathlib.Omega.{arith}
 use lib.Dec.{eqb}
 use lib.IntN.{ℤ, pos, natAbs}
-use lib.ListN.{length, getD, set, take, drop, replicate, length-set, length-replicate}
-use lib.Seq.{sets, getD-set-same, getD-set-other, set-out}
+use lib.ListN.{length, getD, set, take, drop, replicate, length-set, length-replicate, length-append, length-drop}
+use lib.Seq.{sets, getD-set-same, getD-set-other, set-out, length-take-le}
 use borrow.Author.Tests.{eq-eqb, ne-eqb}
 use Rattle.words.specs.Lists.{any}
 use Rattle.words.specs.Laws.Lists.{next, ended, blank}
 use Rattle.formula.specs.Block.{names}
-use Rattle.text.specs.Tree.{those, free, idle}
-use Rattle.text.specs.Inner.Marks.{marked, picked}
+use Rattle.text.specs.Tree.{those, free, idle, completed}
+use Rattle.text.specs.Inner.Marks.{marked, picked, Ready}
+use Rattle.text.specs.Laws.Stores.{three-runs}
+use Rattle.text.specs.Laws.Completed.{completed-length}
 
 -- ---- the loop that marks
 module _ (t : List Bool) (ws : List ℤ) (i : ℕ) where
@@ -85,3 +87,31 @@ module _ (to from : List ℤ) (at i : ℕ) where
 
   pub copy-ended : length from ≤ i → sets to (at + i) (drop i from) ≡ to
   copy-ended h = rw (ended from i h)
+
+-- ---- the completed prefix in its place, where it is ready for it
+module _ {o : List ℤ} {v bound from t : ℕ} (r : Ready o v bound from t) where
+  abbrev pub lines : List ℤ
+  lines = take bound (drop 6 o)
+
+  abbrev pub named : List ℤ
+  named = take t (drop from o)
+
+  abbrev pub first : List ℤ
+  first = those (free lines named) 1 v
+
+  abbrev pub last : List ℤ
+  last = those (idle lines named) 1 v
+
+  pub lines-length : length lines ≡ bound
+  lines-length = length-take-le bound (drop 6 o) (rw (length-drop 6 o) (omega (arith, r .words, r .prefix)))
+
+  pub all-length : length first + bound + length last ≡ v
+  unfolding completed
+  all-length =
+      let e = completed-length v lines named (r .known) (r .once) in
+      let k = rw (length-append (first ++ lines) last, length-append first lines, lines-length) at e in
+      k
+
+  pub all-runs : sets (sets (sets o 6 first) (6 + length first) lines) (6 + length first + bound) last ≡ sets o 6 (completed v lines named)
+  unfolding completed
+  all-runs = rw lines-length at (three-runs first lines last o 6)

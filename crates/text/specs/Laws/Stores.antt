@@ -3,13 +3,19 @@ use mathlib.Core.Path.{_≡_, refl, sym, _∙_, ap}
 use mathlib.Core.List.{List, [], _∷_, _++_, append-assoc}
 use Prim.Native.Nat.{ℕ, zero, suc, _+_, _≤_, _<_}
 use native.Mathlib.Omega.{arith}
-use lib.ListN.{length, take, drop, set}
+use lib.ListN.{length, take, drop, set, length-append}
 use lib.Seq.{sets, sets-eq, set-comm, length-take-le, take-at, drop-at, drop-drop, take-append-seam, take-nil}
 
 module _ {A : Type 0} where
   pub sets-append : (xs ys l : List A) (i : ℕ) → sets l i (xs ++ ys) ≡ sets (sets l i xs) (i + length xs) ys
   sets-append [] ys l i = let e : i + 0 ≡ i = omega arith in rw e
   sets-append (x ∷ xs) ys l i = let e : i + suc (length xs) ≡ suc i + length xs = omega arith in rw e (sets-append xs ys (set l i x) (suc i))
+
+  -- three runs, one after the other
+  pub three-runs : (xs ys zs l : List A) (i : ℕ) → sets (sets (sets l i xs) (i + length xs) ys) (i + length xs + length ys) zs ≡ sets l i (xs ++ ys ++ zs)
+  three-runs xs ys zs l i =
+      let e : i + (length xs + length ys) ≡ i + length xs + length ys = omega arith in
+      rw (sets-append (xs ++ ys) zs l i, sets-append xs ys l i, length-append xs ys, e)
 
   pub sets-set : (vs l : List A) (i j : ℕ) (e : A) → i < j → sets (set l i e) j vs ≡ set (sets l j vs) i e
   sets-set [] l i j e h = refl
