@@ -13,3 +13,5 @@ pub mod Rows
 pub mod Settled
 pub mod Turns
 pub mod Marks
+pub mod Wiped
+pub mod Exits

@@ -8,6 +8,7 @@ mod numbers; // numbers of any length in 32 bits
 mod keep; // what is kept of a text
 mod bytewise; // a text byte by byte
 mod prefix; // the completed prefix
+mod ending; // the answer at a text's end
 
 // Where the next word stands.
 pub enum Place {
@@ -133,4 +134,25 @@ pub fn piece(reader: Reader, bytes: &[u8], output: &mut [i32]) -> Reader
         i += 1;
     }
     at
+}
+
+// The answer, with the block in the output, or all of it 0.
+pub fn end(reader: Reader, output: &mut [i32]) -> Answer
+    ensures { λ r. ⌜ EndPromise reader (now (output .entry)) r (now (output .exit)) ⌝ }
+{
+    let state = reader.state;
+    let at = reader.at;
+    let kept = reader.kept;
+    if numbers::is_fresh(state) {
+        return ending::settle(kept, output);
+    }
+    ending::wipe(output, 0);
+    Answer::Misfit(at)
+}
+
+// A whole text: one piece.
+pub fn read(bytes: &[u8], output: &mut [i32]) -> Answer
+    ensures { λ r. ⌜ ReadPromise (now (bytes .entry)) (now (output .entry)) r (now (output .exit)) ⌝ }
+{
+    end(piece(begin(), bytes, output), output)
 }

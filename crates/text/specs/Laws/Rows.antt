@@ -14,7 +14,8 @@ use Rattle.words.specs.Laws.Bools.{look, or-fl, or-fr, bool-eq, eqb-eq, eqb-i}
 use Rattle.words.specs.Lists.{any}
 use Rattle.words.specs.Rows.{refusalOf}
 use Rattle.words.specs.Laws.Rows.{passed}
-use Rattle.formula.specs.Limits.{Limits}
+use Rattle.formula.specs.Limits.{Limits, limits}
+use Rattle.formula.specs.Laws.Limits.{variables-are, clauses-are, literals-are}
 use Rattle.text.specs.Grammar.{Text}
 use Rattle.text.specs.Tree.{numbersOf, literalsOf, beyond, someBeyond, countRows, textRefusal}
 use Rattle.text.specs.Pieces.{capped}
@@ -36,6 +37,9 @@ pub record Hidden (L : Limits) : Type 0 where
   pub variables : L .variables ≤ 2147483647
   pub clauses : L .clauses ≤ 2147483647
   pub literals : L .literals ≤ 2147483647
+
+pub limits-hidden : Hidden limits
+limits-hidden = record { variables = omega (arith, variables-are); clauses = omega (arith, clauses-are); literals = omega (arith, literals-are) }
 
 -- what row 28 leaves
 pub record Small (t : Text) : Type 0 where
