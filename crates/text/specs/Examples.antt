@@ -1,60 +1,102 @@
--- Worked examples: what the reader answers on a few texts.
+-- Worked texts: what is read of each, answer and output, by computation. Every output is dirty before.
 use mathlib.Core.Path.{_≡_, refl}
-use mathlib.Core.List.{[], _∷_}
+use mathlib.Core.List.{List, [], _∷_}
 use Prim.Native.Nat.{ℕ}
-use lib.IntN.{pos, negsuc}
-use Rattle.text.specs.Grammar.{forall, exists, digit, nonzero, printable}
+use lib.IntN.{ℤ, pos, negsuc}
+use lib.ListN.{replicate}
+use Rattle.words.specs.Lists.{any}
+use Rattle.words.specs.Words.{eqZ, mem}
+use Rattle.words.specs.Outcomes.{outcome}
+use Rattle.formula.specs.Limits.{limits}
+use Rattle.formula.specs.Block.{twice, bothSigns, repeats}
+use Rattle.text.specs.declared.Answer.{Answer}
+use Rattle.text.specs.declared.Answer.the-variants.{Accepted, Misfit, Refused, Row as AtRow}
+use Rattle.text.specs.Grammar.{digit, nonzero, printable}
 use Rattle.text.specs.Machine.{rows, choose, blank, between, parted, past, alive, fresh, move, shift, trace}
 use Rattle.text.specs.Events.{hear, heard}
-use Rattle.text.specs.Reads.{spelled, misfit, taken, reads}
+use Rattle.text.specs.Reads.{taken, reads}
+use Rattle.text.specs.Tree.{wordsOf, numbersOf, literalsOf, endsOf, beyond, someBeyond, textRefusal, those, completed, laid, blockOf, rowOf, textOf, answered, readOf}
 
--- "c x\np cnf 3 2\na 1 0\ne 2\t10 0\n -1 2 0\n0\n"
+-- with room for n words
+unfoldable Gives : List ℕ → ℕ → Answer → List ℤ → Type 0
+Gives bs n a o = readOf limits bs (replicate n (pos 7)) ≡ outcome a o
 
-small : reads (99 ∷ 32 ∷ 120 ∷ 10 ∷ 112 ∷ 32 ∷ 99 ∷ 110 ∷ 102 ∷ 32 ∷ 51 ∷ 32 ∷ 50 ∷ 10 ∷ 97 ∷ 32 ∷ 49 ∷ 32 ∷ 48 ∷ 10 ∷ 101 ∷ 32 ∷ 50 ∷ 9 ∷ 49 ∷ 48 ∷ 32 ∷ 48 ∷ 10 ∷ 32 ∷ 45 ∷ 49 ∷ 32 ∷ 50 ∷ 32 ∷ 48 ∷ 10 ∷ 48 ∷ 10 ∷ [])
-    ≡ spelled (record {
-      variables = 3;
-      count = 2;
-      groups = record { quantifier = forall; numbers = 1 ∷ [] } ∷ record { quantifier = exists; numbers = 2 ∷ 10 ∷ [] } ∷ [];
-      clauses = (negsuc 0 ∷ pos 2 ∷ []) ∷ [] ∷ [];
-    })
-unfolding reads taken trace fresh heard hear alive move shift past parted between blank choose rows digit nonzero printable
-small = refl
+-- no text, and a text that lacks its last line feed, or has it
+nothing : Gives ([]) 1 (Misfit 0) (pos 0 ∷ [])
+    × Gives (112 ∷ 32 ∷ 99 ∷ 110 ∷ 102 ∷ 32 ∷ 48 ∷ 32 ∷ 48 ∷ []) 1 (Misfit 9) (pos 0 ∷ [])
+    × Gives (112 ∷ 32 ∷ 99 ∷ 110 ∷ 102 ∷ 32 ∷ 48 ∷ 32 ∷ 48 ∷ 10 ∷ []) 8 (Accepted 6) (pos 0 ∷ pos 0 ∷ pos 0 ∷ pos 6 ∷ pos 6 ∷ pos 6 ∷ pos 0 ∷ pos 0 ∷ [])
+unfolding Gives limits readOf answered textOf textRefusal rowOf blockOf laid completed those wordsOf literalsOf endsOf numbersOf someBeyond beyond any twice bothSigns repeats mem eqZ reads taken trace fresh heard hear alive move shift past parted between blank choose rows digit nonzero printable
+nothing = (refl, refl, refl)
 
--- "p cnf 1 1\n1 1\n": the line feed at 13 cannot stand there; "p cnf 1 1": the text's end; "p cnf 01": the digit at 7
-no-zero : reads (112 ∷ 32 ∷ 99 ∷ 110 ∷ 102 ∷ 32 ∷ 49 ∷ 32 ∷ 49 ∷ 10 ∷ 49 ∷ 32 ∷ 49 ∷ 10 ∷ []) ≡ misfit 13
-unfolding reads taken trace fresh heard hear alive move shift past parted between blank choose rows digit nonzero printable
-no-zero = refl
+-- a comment takes tabs and bytes from 32 to 126, before the problem line only; a carriage return is no blank
+comments : Gives (9 ∷ 99 ∷ 9 ∷ 32 ∷ 126 ∷ 10 ∷ 112 ∷ 9 ∷ 99 ∷ 110 ∷ 102 ∷ 32 ∷ 48 ∷ 32 ∷ 48 ∷ 9 ∷ 10 ∷ []) 6 (Accepted 6) (pos 0 ∷ pos 0 ∷ pos 0 ∷ pos 6 ∷ pos 6 ∷ pos 6 ∷ [])
+    × Gives (99 ∷ 32 ∷ 200 ∷ 10 ∷ []) 1 (Misfit 2) (pos 0 ∷ [])
+    × Gives (112 ∷ 32 ∷ 99 ∷ 110 ∷ 102 ∷ 32 ∷ 48 ∷ 32 ∷ 48 ∷ 10 ∷ 99 ∷ 10 ∷ []) 1 (Misfit 10) (pos 0 ∷ [])
+    × Gives (112 ∷ 32 ∷ 99 ∷ 110 ∷ 102 ∷ 32 ∷ 48 ∷ 32 ∷ 48 ∷ 13 ∷ 10 ∷ []) 1 (Misfit 9) (pos 0 ∷ [])
+unfolding Gives limits readOf answered textOf textRefusal rowOf blockOf laid completed those wordsOf literalsOf endsOf numbersOf someBeyond beyond any twice bothSigns repeats mem eqZ reads taken trace fresh heard hear alive move shift past parted between blank choose rows digit nonzero printable
+comments = (refl, refl, refl, refl)
 
-no-feed : reads (112 ∷ 32 ∷ 99 ∷ 110 ∷ 102 ∷ 32 ∷ 49 ∷ 32 ∷ 49 ∷ []) ≡ misfit 9
-unfolding reads taken trace fresh heard hear alive move shift past parted between blank choose rows digit nonzero printable
-no-feed = refl
+-- an empty clause, and a literal without the 0 behind it; a quantifier line after a clause
+clauses : Gives (112 ∷ 32 ∷ 99 ∷ 110 ∷ 102 ∷ 32 ∷ 48 ∷ 32 ∷ 49 ∷ 10 ∷ 48 ∷ 10 ∷ []) 8 (Accepted 7) (pos 0 ∷ pos 1 ∷ pos 0 ∷ pos 6 ∷ pos 6 ∷ pos 7 ∷ pos 0 ∷ pos 0 ∷ [])
+    × Gives (112 ∷ 32 ∷ 99 ∷ 110 ∷ 102 ∷ 32 ∷ 49 ∷ 32 ∷ 49 ∷ 10 ∷ 49 ∷ 10 ∷ []) 1 (Misfit 11) (pos 0 ∷ [])
+    × Gives (112 ∷ 32 ∷ 99 ∷ 110 ∷ 102 ∷ 32 ∷ 49 ∷ 32 ∷ 49 ∷ 10 ∷ 49 ∷ 32 ∷ 48 ∷ 10 ∷ 101 ∷ 32 ∷ 49 ∷ 32 ∷ 48 ∷ 10 ∷ []) 1 (Misfit 14) (pos 0 ∷ [])
+unfolding Gives limits readOf answered textOf textRefusal rowOf blockOf laid completed those wordsOf literalsOf endsOf numbersOf someBeyond beyond any twice bothSigns repeats mem eqZ reads taken trace fresh heard hear alive move shift past parted between blank choose rows digit nonzero printable
+clauses = (refl, refl, refl)
 
-leading : reads (112 ∷ 32 ∷ 99 ∷ 110 ∷ 102 ∷ 32 ∷ 48 ∷ 49 ∷ []) ≡ misfit 7
-unfolding reads taken trace fresh heard hear alive move shift past parted between blank choose rows digit nonzero printable
-leading = refl
+-- a quantifier line without a number, and two lines of one quantifier
+groups : Gives (112 ∷ 32 ∷ 99 ∷ 110 ∷ 102 ∷ 32 ∷ 49 ∷ 32 ∷ 48 ∷ 10 ∷ 101 ∷ 32 ∷ 48 ∷ 10 ∷ []) 1 (Misfit 12) (pos 0 ∷ [])
+    × Gives (112 ∷ 32 ∷ 99 ∷ 110 ∷ 102 ∷ 32 ∷ 50 ∷ 32 ∷ 48 ∷ 10 ∷ 101 ∷ 32 ∷ 50 ∷ 32 ∷ 48 ∷ 10 ∷ 101 ∷ 32 ∷ 49 ∷ 32 ∷ 48 ∷ 10 ∷ []) 8 (Accepted 8) (pos 2 ∷ pos 0 ∷ pos 0 ∷ pos 6 ∷ pos 8 ∷ pos 8 ∷ pos 2 ∷ pos 1 ∷ [])
+unfolding Gives limits readOf answered textOf textRefusal rowOf blockOf laid completed those wordsOf literalsOf endsOf numbersOf someBeyond beyond any twice bothSigns repeats mem eqZ reads taken trace fresh heard hear alive move shift past parted between blank choose rows digit nonzero printable
+groups = (refl, refl)
 
--- a quantifier's line after a clause, "p cnf 1 1\n0\ne 1 0\n"
-late : reads (112 ∷ 32 ∷ 99 ∷ 110 ∷ 102 ∷ 32 ∷ 49 ∷ 32 ∷ 49 ∷ 10 ∷ 48 ∷ 10 ∷ 101 ∷ 32 ∷ 49 ∷ 32 ∷ 48 ∷ 10 ∷ []) ≡ misfit 12
-unfolding reads taken trace fresh heard hear alive move shift past parted between blank choose rows digit nonzero printable
-late = refl
+-- a leading zero, a minus before 0, a sign where none may stand
+digits : Gives (112 ∷ 32 ∷ 99 ∷ 110 ∷ 102 ∷ 32 ∷ 48 ∷ 49 ∷ 32 ∷ 48 ∷ 10 ∷ []) 1 (Misfit 7) (pos 0 ∷ [])
+    × Gives (112 ∷ 32 ∷ 99 ∷ 110 ∷ 102 ∷ 32 ∷ 49 ∷ 32 ∷ 49 ∷ 10 ∷ 45 ∷ 48 ∷ 32 ∷ 48 ∷ 10 ∷ []) 1 (Misfit 11) (pos 0 ∷ [])
+    × Gives (112 ∷ 32 ∷ 99 ∷ 110 ∷ 102 ∷ 32 ∷ 49 ∷ 32 ∷ 48 ∷ 10 ∷ 101 ∷ 32 ∷ 45 ∷ 49 ∷ 32 ∷ 48 ∷ 10 ∷ []) 1 (Misfit 12) (pos 0 ∷ [])
+unfolding Gives limits readOf answered textOf textRefusal rowOf blockOf laid completed those wordsOf literalsOf endsOf numbersOf someBeyond beyond any twice bothSigns repeats mem eqZ reads taken trace fresh heard hear alive move shift past parted between blank choose rows digit nonzero printable
+digits = (refl, refl, refl)
 
-nothing : reads [] ≡ misfit 0
-unfolding reads taken trace fresh heard hear alive move shift past parted between blank choose rows digit nonzero printable
-nothing = refl
+-- an idle variable makes a group behind the lines, a free one stands before them
+completes : Gives (112 ∷ 32 ∷ 99 ∷ 110 ∷ 102 ∷ 32 ∷ 50 ∷ 32 ∷ 49 ∷ 10 ∷ 97 ∷ 32 ∷ 49 ∷ 32 ∷ 48 ∷ 10 ∷ 49 ∷ 32 ∷ 48 ∷ 10 ∷ []) 11 (Accepted 10) (pos 2 ∷ pos 1 ∷ pos 1 ∷ pos 6 ∷ pos 8 ∷ pos 9 ∷ negsuc 0 ∷ pos 2 ∷ pos 1 ∷ pos 1 ∷ pos 0 ∷ [])
+    × Gives (112 ∷ 32 ∷ 99 ∷ 110 ∷ 102 ∷ 32 ∷ 51 ∷ 32 ∷ 49 ∷ 10 ∷ 97 ∷ 32 ∷ 49 ∷ 32 ∷ 48 ∷ 10 ∷ 49 ∷ 32 ∷ 50 ∷ 32 ∷ 48 ∷ 10 ∷ []) 12 (Accepted 12) (pos 3 ∷ pos 1 ∷ pos 2 ∷ pos 6 ∷ pos 9 ∷ pos 10 ∷ pos 2 ∷ negsuc 0 ∷ pos 3 ∷ pos 2 ∷ pos 1 ∷ pos 2 ∷ [])
+    × Gives (112 ∷ 32 ∷ 99 ∷ 110 ∷ 102 ∷ 32 ∷ 50 ∷ 32 ∷ 49 ∷ 10 ∷ 97 ∷ 32 ∷ 49 ∷ 32 ∷ 48 ∷ 10 ∷ 49 ∷ 32 ∷ 50 ∷ 32 ∷ 48 ∷ 10 ∷ []) 11 (AtRow 7) (pos 0 ∷ pos 0 ∷ pos 0 ∷ pos 0 ∷ pos 0 ∷ pos 0 ∷ pos 0 ∷ pos 0 ∷ pos 0 ∷ pos 0 ∷ pos 0 ∷ [])
+unfolding Gives limits readOf answered textOf textRefusal rowOf blockOf laid completed those wordsOf literalsOf endsOf numbersOf someBeyond beyond any twice bothSigns repeats mem eqZ reads taken trace fresh heard hear alive move shift past parted between blank choose rows digit nonzero printable
+completes = (refl, refl, refl)
 
--- a comment takes a tab and bytes to 126, "\tc\t ~\n", and not 127; the text of it and of "p cnf 0 0\n" is the least
-least : reads (9 ∷ 99 ∷ 9 ∷ 32 ∷ 126 ∷ 10 ∷ 112 ∷ 9 ∷ 99 ∷ 110 ∷ 102 ∷ 32 ∷ 48 ∷ 32 ∷ 48 ∷ 9 ∷ 10 ∷ []) ≡ spelled (record { variables = 0; count = 0; groups = []; clauses = [] })
-unfolding reads taken trace fresh heard hear alive move shift past parted between blank choose rows digit nonzero printable
-least = refl
+-- 28: a number of forty digits, one past the last word, one clause too few; the least word is within
+large : Gives (112 ∷ 32 ∷ 99 ∷ 110 ∷ 102 ∷ 32 ∷ 49 ∷ 49 ∷ 49 ∷ 49 ∷ 49 ∷ 49 ∷ 49 ∷ 49 ∷ 49 ∷ 49 ∷ 49 ∷ 49 ∷ 49 ∷ 49 ∷ 49 ∷ 49 ∷ 49 ∷ 49 ∷ 49 ∷ 49 ∷ 49 ∷ 49 ∷ 49 ∷ 49 ∷ 49 ∷ 49 ∷ 49 ∷ 49 ∷ 49 ∷ 49 ∷ 49 ∷ 49 ∷ 49 ∷ 49 ∷ 49 ∷ 49 ∷ 49 ∷ 49 ∷ 49 ∷ 49 ∷ 32 ∷ 48 ∷ 10 ∷ []) 1 (Refused 28) (pos 0 ∷ [])
+    × Gives (112 ∷ 32 ∷ 99 ∷ 110 ∷ 102 ∷ 32 ∷ 49 ∷ 32 ∷ 49 ∷ 10 ∷ 50 ∷ 49 ∷ 52 ∷ 55 ∷ 52 ∷ 56 ∷ 51 ∷ 54 ∷ 52 ∷ 56 ∷ 32 ∷ 48 ∷ 10 ∷ []) 9 (Refused 28) (pos 0 ∷ pos 0 ∷ pos 0 ∷ pos 0 ∷ pos 0 ∷ pos 0 ∷ pos 0 ∷ pos 0 ∷ pos 0 ∷ [])
+    × Gives (112 ∷ 32 ∷ 99 ∷ 110 ∷ 102 ∷ 32 ∷ 49 ∷ 32 ∷ 50 ∷ 10 ∷ 49 ∷ 32 ∷ 48 ∷ 10 ∷ []) 10 (Refused 28) (pos 0 ∷ pos 0 ∷ pos 0 ∷ pos 0 ∷ pos 0 ∷ pos 0 ∷ pos 0 ∷ pos 0 ∷ pos 0 ∷ pos 0 ∷ [])
+    × Gives (112 ∷ 32 ∷ 99 ∷ 110 ∷ 102 ∷ 32 ∷ 49 ∷ 32 ∷ 49 ∷ 10 ∷ 45 ∷ 50 ∷ 49 ∷ 52 ∷ 55 ∷ 52 ∷ 56 ∷ 51 ∷ 54 ∷ 52 ∷ 56 ∷ 32 ∷ 48 ∷ 10 ∷ []) 9 (AtRow 9) (pos 0 ∷ pos 0 ∷ pos 0 ∷ pos 0 ∷ pos 0 ∷ pos 0 ∷ pos 0 ∷ pos 0 ∷ pos 0 ∷ [])
+unfolding Gives limits readOf answered textOf textRefusal rowOf blockOf laid completed those wordsOf literalsOf endsOf numbersOf someBeyond beyond any twice bothSigns repeats mem eqZ reads taken trace fresh heard hear alive move shift past parted between blank choose rows digit nonzero printable
+large = (refl, refl, refl, refl)
 
-delete : reads (99 ∷ 127 ∷ []) ≡ misfit 1
-unfolding reads taken trace fresh heard hear alive move shift past parted between blank choose rows digit nonzero printable
-delete = refl
+-- 29 and 30
+limits-and-room : Gives (112 ∷ 32 ∷ 99 ∷ 110 ∷ 102 ∷ 32 ∷ 57 ∷ 57 ∷ 57 ∷ 57 ∷ 57 ∷ 32 ∷ 48 ∷ 10 ∷ []) 1 (Refused 29) (pos 0 ∷ [])
+    × Gives (112 ∷ 32 ∷ 99 ∷ 110 ∷ 102 ∷ 32 ∷ 49 ∷ 32 ∷ 48 ∷ 10 ∷ []) 6 (Refused 30) (pos 0 ∷ pos 0 ∷ pos 0 ∷ pos 0 ∷ pos 0 ∷ pos 0 ∷ [])
+    × Gives (112 ∷ 32 ∷ 99 ∷ 110 ∷ 102 ∷ 32 ∷ 49 ∷ 32 ∷ 48 ∷ 10 ∷ []) 7 (Accepted 7) (pos 1 ∷ pos 0 ∷ pos 0 ∷ pos 6 ∷ pos 7 ∷ pos 7 ∷ pos 1 ∷ [])
+unfolding Gives limits readOf answered textOf textRefusal rowOf blockOf laid completed those wordsOf literalsOf endsOf numbersOf someBeyond beyond any twice bothSigns repeats mem eqZ reads taken trace fresh heard hear alive move shift past parted between blank choose rows digit nonzero printable
+limits-and-room = (refl, refl, refl)
 
--- "p cnf 1 1\n9/", "..\n9:", "..\n00", "..\n-0", "..\n1\r", and a blank last line, "..\n "
-around : (b c : ℕ) → ℕ → Type 0
-around b c i = reads (112 ∷ 32 ∷ 99 ∷ 110 ∷ 102 ∷ 32 ∷ 49 ∷ 32 ∷ 49 ∷ 10 ∷ b ∷ c ∷ []) ≡ misfit i
+-- each row of 31
+rows-31 : Gives (112 ∷ 32 ∷ 99 ∷ 110 ∷ 102 ∷ 32 ∷ 49 ∷ 32 ∷ 48 ∷ 10 ∷ 101 ∷ 32 ∷ 50 ∷ 32 ∷ 48 ∷ 10 ∷ []) 7 (AtRow 5) (pos 0 ∷ pos 0 ∷ pos 0 ∷ pos 0 ∷ pos 0 ∷ pos 0 ∷ pos 0 ∷ [])
+    × Gives (112 ∷ 32 ∷ 99 ∷ 110 ∷ 102 ∷ 32 ∷ 50 ∷ 32 ∷ 48 ∷ 10 ∷ 101 ∷ 32 ∷ 49 ∷ 32 ∷ 49 ∷ 32 ∷ 48 ∷ 10 ∷ []) 8 (AtRow 6) (pos 0 ∷ pos 0 ∷ pos 0 ∷ pos 0 ∷ pos 0 ∷ pos 0 ∷ pos 0 ∷ pos 0 ∷ [])
+    × Gives (112 ∷ 32 ∷ 99 ∷ 110 ∷ 102 ∷ 32 ∷ 49 ∷ 32 ∷ 48 ∷ 10 ∷ 97 ∷ 32 ∷ 49 ∷ 32 ∷ 48 ∷ 10 ∷ []) 7 (AtRow 7) (pos 0 ∷ pos 0 ∷ pos 0 ∷ pos 0 ∷ pos 0 ∷ pos 0 ∷ pos 0 ∷ [])
+    × Gives (112 ∷ 32 ∷ 99 ∷ 110 ∷ 102 ∷ 32 ∷ 49 ∷ 32 ∷ 49 ∷ 10 ∷ 50 ∷ 32 ∷ 48 ∷ 10 ∷ []) 9 (AtRow 9) (pos 0 ∷ pos 0 ∷ pos 0 ∷ pos 0 ∷ pos 0 ∷ pos 0 ∷ pos 0 ∷ pos 0 ∷ pos 0 ∷ [])
+    × Gives (112 ∷ 32 ∷ 99 ∷ 110 ∷ 102 ∷ 32 ∷ 49 ∷ 32 ∷ 49 ∷ 10 ∷ 49 ∷ 32 ∷ 45 ∷ 49 ∷ 32 ∷ 48 ∷ 10 ∷ []) 10 (AtRow 10) (pos 0 ∷ pos 0 ∷ pos 0 ∷ pos 0 ∷ pos 0 ∷ pos 0 ∷ pos 0 ∷ pos 0 ∷ pos 0 ∷ pos 0 ∷ [])
+    × Gives (112 ∷ 32 ∷ 99 ∷ 110 ∷ 102 ∷ 32 ∷ 49 ∷ 32 ∷ 49 ∷ 10 ∷ 49 ∷ 32 ∷ 49 ∷ 32 ∷ 48 ∷ 10 ∷ []) 10 (AtRow 23) (pos 0 ∷ pos 0 ∷ pos 0 ∷ pos 0 ∷ pos 0 ∷ pos 0 ∷ pos 0 ∷ pos 0 ∷ pos 0 ∷ pos 0 ∷ [])
+unfolding Gives limits readOf answered textOf textRefusal rowOf blockOf laid completed those wordsOf literalsOf endsOf numbersOf someBeyond beyond any twice bothSigns repeats mem eqZ reads taken trace fresh heard hear alive move shift past parted between blank choose rows digit nonzero printable
+rows-31 = (refl, refl, refl, refl, refl, refl)
 
-edges : around 57 47 11 × around 57 58 11 × around 48 48 11 × around 45 48 11 × around 49 13 11 × around 32 32 12
-unfolding around reads taken trace fresh heard hear alive move shift past parted between blank choose rows digit nonzero printable
-edges = (refl, refl, refl, refl, refl, refl)
+-- of two that apply the first is answered: 27 and 28, 28 and 29, 29 and 30, 30 and 31, and the rows of 31
+neighbours : Gives (112 ∷ 32 ∷ 99 ∷ 110 ∷ 102 ∷ 32 ∷ 49 ∷ 32 ∷ 49 ∷ []) 1 (Misfit 9) (pos 0 ∷ [])
+    × Gives (112 ∷ 32 ∷ 99 ∷ 110 ∷ 102 ∷ 32 ∷ 57 ∷ 57 ∷ 57 ∷ 57 ∷ 57 ∷ 32 ∷ 49 ∷ 10 ∷ []) 1 (Refused 28) (pos 0 ∷ [])
+    × Gives (112 ∷ 32 ∷ 99 ∷ 110 ∷ 102 ∷ 32 ∷ 57 ∷ 57 ∷ 57 ∷ 57 ∷ 57 ∷ 32 ∷ 48 ∷ 10 ∷ []) 0 (Refused 29) ([])
+    × Gives (112 ∷ 32 ∷ 99 ∷ 110 ∷ 102 ∷ 32 ∷ 49 ∷ 32 ∷ 48 ∷ 10 ∷ 97 ∷ 32 ∷ 49 ∷ 32 ∷ 48 ∷ 10 ∷ []) 6 (Refused 30) (pos 0 ∷ pos 0 ∷ pos 0 ∷ pos 0 ∷ pos 0 ∷ pos 0 ∷ [])
+    × Gives (112 ∷ 32 ∷ 99 ∷ 110 ∷ 102 ∷ 32 ∷ 49 ∷ 32 ∷ 48 ∷ 10 ∷ 101 ∷ 32 ∷ 49 ∷ 32 ∷ 49 ∷ 32 ∷ 50 ∷ 32 ∷ 48 ∷ 10 ∷ []) 7 (AtRow 5) (pos 0 ∷ pos 0 ∷ pos 0 ∷ pos 0 ∷ pos 0 ∷ pos 0 ∷ pos 0 ∷ [])
+    × Gives (112 ∷ 32 ∷ 99 ∷ 110 ∷ 102 ∷ 32 ∷ 49 ∷ 32 ∷ 48 ∷ 10 ∷ 97 ∷ 32 ∷ 49 ∷ 32 ∷ 49 ∷ 32 ∷ 48 ∷ 10 ∷ []) 7 (AtRow 6) (pos 0 ∷ pos 0 ∷ pos 0 ∷ pos 0 ∷ pos 0 ∷ pos 0 ∷ pos 0 ∷ [])
+    × Gives (112 ∷ 32 ∷ 99 ∷ 110 ∷ 102 ∷ 32 ∷ 49 ∷ 32 ∷ 49 ∷ 10 ∷ 97 ∷ 32 ∷ 49 ∷ 32 ∷ 48 ∷ 10 ∷ 50 ∷ 32 ∷ 48 ∷ 10 ∷ []) 9 (AtRow 7) (pos 0 ∷ pos 0 ∷ pos 0 ∷ pos 0 ∷ pos 0 ∷ pos 0 ∷ pos 0 ∷ pos 0 ∷ pos 0 ∷ [])
+    × Gives (112 ∷ 32 ∷ 99 ∷ 110 ∷ 102 ∷ 32 ∷ 49 ∷ 32 ∷ 49 ∷ 10 ∷ 50 ∷ 32 ∷ 45 ∷ 50 ∷ 32 ∷ 48 ∷ 10 ∷ []) 10 (AtRow 9) (pos 0 ∷ pos 0 ∷ pos 0 ∷ pos 0 ∷ pos 0 ∷ pos 0 ∷ pos 0 ∷ pos 0 ∷ pos 0 ∷ pos 0 ∷ [])
+    × Gives (112 ∷ 32 ∷ 99 ∷ 110 ∷ 102 ∷ 32 ∷ 49 ∷ 32 ∷ 49 ∷ 10 ∷ 49 ∷ 32 ∷ 49 ∷ 32 ∷ 45 ∷ 49 ∷ 32 ∷ 48 ∷ 10 ∷ []) 11 (AtRow 10) (pos 0 ∷ pos 0 ∷ pos 0 ∷ pos 0 ∷ pos 0 ∷ pos 0 ∷ pos 0 ∷ pos 0 ∷ pos 0 ∷ pos 0 ∷ pos 0 ∷ [])
+unfolding Gives limits readOf answered textOf textRefusal rowOf blockOf laid completed those wordsOf literalsOf endsOf numbersOf someBeyond beyond any twice bothSigns repeats mem eqZ reads taken trace fresh heard hear alive move shift past parted between blank choose rows digit nonzero printable
+neighbours = (refl, refl, refl, refl, refl, refl, refl, refl, refl)

@@ -8,9 +8,9 @@ pub mod Events
 pub mod Reads
 -- what is read is what the grammar says
 pub mod Spelled
-pub mod Examples
 -- what a tree gives: refusals, the block, the whole call
 pub mod Tree
+pub mod Examples
 -- the reader in pieces
 pub mod Pieces
 pub mod Whole

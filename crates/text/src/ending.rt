@@ -13,6 +13,7 @@ ghost use Rattle.text.specs.Inner.Ending.{Headed, boundRows, wiped, over
 ghost use Rattle.text.specs.Inner.Marks.{Ready};
 use crate::Answer;
 use crate::Kept;
+use crate::numbers::either;
 
 // All from a place on is 0.
 pub(crate) fn wipe(output: &mut [i32], from: usize)
@@ -49,10 +50,9 @@ fn over_limit(kept: Kept) -> bool
 fn count_row(kept: Kept, room: usize) -> u32
     ensures { λ r. ⌜ r ≡ refusalOf (countRows limits (kept .large) (kept .variables) (kept .count) (kept .clauses) (kept .literals) room) ⌝ }
 {
-    if kept.large {
-        return 28;
-    }
-    if kept.clauses != kept.count {
+    let large = kept.large;
+    let other = kept.clauses != kept.count;
+    if either(large, other) {
         return 28;
     }
     if over_limit(kept) {

@@ -1,7 +1,9 @@
 // What a word may begin with, place by place.
 ghost use mathlib.Core.Path.{_≡_};
 ghost use mathlib.Core.Bool.{true};
-ghost use Rattle.text.specs.Machine.{rows, choose};
+ghost use mathlib.Core.List.{[], _∷_};
+ghost use Rattle.text.specs.Grammar.{'0'};
+ghost use Rattle.text.specs.Machine.{starts, on, rows, choose, saying};
 ghost use Rattle.text.specs.declared.Place.the-variants.{AtHead, AtCnf, AtFirst, AtSecond, AtLine, AtNumber, AtNumbers, AtLiterals, AtEnd};
 use crate::Move;
 use crate::Place;
@@ -46,20 +48,18 @@ fn at_cnf(b: u8) -> Move
     }
 }
 
-fn at_first(b: u8) -> Move
-    ensures { λ r. ⌜ r ≡ choose (rows AtFirst) b ⌝ }
+// A number that may be 0, or 0 as a line's end: what the digit 0 says is given.
+fn at_digit(slot: Slot, zero: Move, b: u8) -> Move
+    ensures { λ r. ⌜ r ≡ choose (starts slot ∷ on '0' zero ∷ []) b ⌝ }
 {
     if is_nonzero(b) {
         return Move {
-            to: State::InNumber(Slot::OfVariables),
+            to: State::InNumber(slot),
             says: Says::Nothing,
         };
     }
     if b == 48 {
-        return Move {
-            to: State::Parted(Place::AtSecond),
-            says: Says::Zero(Slot::OfVariables),
-        };
+        return zero;
     }
     Move {
         to: State::Dead,
@@ -67,25 +67,10 @@ fn at_first(b: u8) -> Move
     }
 }
 
-fn at_second(b: u8) -> Move
-    ensures { λ r. ⌜ r ≡ choose (rows AtSecond) b ⌝ }
+fn says(to: State, says: Says) -> Move
+    ensures { λ r. ⌜ r ≡ saying says to ⌝ }
 {
-    if is_nonzero(b) {
-        return Move {
-            to: State::InNumber(Slot::OfCount),
-            says: Says::Nothing,
-        };
-    }
-    if b == 48 {
-        return Move {
-            to: State::Before(Place::AtEnd(true)),
-            says: Says::Zero(Slot::OfCount),
-        };
-    }
-    Move {
-        to: State::Dead,
-        says: Says::Nothing,
-    }
+    Move { to: to, says: says }
 }
 
 fn at_number(b: u8) -> Move
@@ -94,27 +79,6 @@ fn at_number(b: u8) -> Move
     if is_nonzero(b) {
         return Move {
             to: State::InNumber(Slot::OfGroup),
-            says: Says::Nothing,
-        };
-    }
-    Move {
-        to: State::Dead,
-        says: Says::Nothing,
-    }
-}
-
-fn at_numbers(b: u8) -> Move
-    ensures { λ r. ⌜ r ≡ choose (rows AtNumbers) b ⌝ }
-{
-    if is_nonzero(b) {
-        return Move {
-            to: State::InNumber(Slot::OfGroup),
-            says: Says::Nothing,
-        };
-    }
-    if b == 48 {
-        return Move {
-            to: State::Before(Place::AtEnd(true)),
             says: Says::Nothing,
         };
     }
@@ -211,15 +175,30 @@ pub(crate) fn choose_at(place: Place, b: u8) -> Move
     match place {
         Place::AtHead => at_head(b),
         Place::AtCnf => at_cnf(b),
-        Place::AtFirst => at_first(b),
-        Place::AtSecond => at_second(b),
+        Place::AtFirst => at_digit(
+            Slot::OfVariables,
+            says(
+                State::Parted(Place::AtSecond),
+                Says::Zero(Slot::OfVariables),
+            ),
+            b,
+        ),
+        Place::AtSecond => at_digit(
+            Slot::OfCount,
+            says(State::Before(Place::AtEnd(true)), Says::Zero(Slot::OfCount)),
+            b,
+        ),
         Place::AtLine(more) => if more {
             at_first_line(b)
         } else {
             at_literals(b)
         },
         Place::AtNumber => at_number(b),
-        Place::AtNumbers => at_numbers(b),
+        Place::AtNumbers => at_digit(
+            Slot::OfGroup,
+            says(State::Before(Place::AtEnd(true)), Says::Nothing),
+            b,
+        ),
         Place::AtLiterals => at_literals(b),
         Place::AtEnd(more) => at_end(more, b),
     }

@@ -1,65 +1,13 @@
-use mathlib.Core.Path.{sym, _∙_, ap}
-use Rattle.text.specs.Machine.{rows, choose}
+-- By the place: its table.
+use mathlib.Core.Path.{_∙_, ap}
+use mathlib.Core.List.{[], _∷_}
+use Rattle.text.specs.Grammar.{'0'}
+use Rattle.text.specs.declared.Move.{Move}
+use Rattle.text.specs.declared.Slot.the-variants.{OfVariables, OfCount, OfGroup}
+use Rattle.text.specs.Machine.{starts, on, rows, choose}
 use borrow.Author.Needs.{needs}
 use Rattle.text.proofs.places.choose_at.Statement.{statement}
 use Rattle.text.proofs.places.choose_at.Tie as tie
-
-enum-told : tie.Need-enum-told
-enum-told c = search needs
-
-at-head-requires : tie.Need-at-head-requires
-at-head-requires c κs = search needs
-
-enum-told-2 : tie.Need-enum-told-2
-enum-told-2 c = search needs
-
-at-cnf-requires : tie.Need-at-cnf-requires
-at-cnf-requires c κs = search needs
-
-enum-told-3 : tie.Need-enum-told-3
-enum-told-3 c = search needs
-
-at-first-requires : tie.Need-at-first-requires
-at-first-requires c κs = search needs
-
-enum-told-4 : tie.Need-enum-told-4
-enum-told-4 c = search needs
-
-at-second-requires : tie.Need-at-second-requires
-at-second-requires c κs = search needs
-
-enum-known-place : tie.Need-enum-known-place
-enum-known-place c = search needs
-
-at-first-line-requires : tie.Need-at-first-line-requires
-at-first-line-requires c κs = search needs
-
-at-literals-requires : tie.Need-at-literals-requires
-at-literals-requires c κs = search needs
-
-enum-told-5 : tie.Need-enum-told-5
-enum-told-5 c = search needs
-
-at-number-requires : tie.Need-at-number-requires
-at-number-requires c κs = search needs
-
-enum-told-6 : tie.Need-enum-told-6
-enum-told-6 c = search needs
-
-at-numbers-requires : tie.Need-at-numbers-requires
-at-numbers-requires c κs = search needs
-
-enum-told-7 : tie.Need-enum-told-7
-enum-told-7 c = search needs
-
-at-literals-requires-2 : tie.Need-at-literals-requires-2
-at-literals-requires-2 c κs = search needs
-
-enum-known-place-2 : tie.Need-enum-known-place-2
-enum-known-place-2 c = search needs
-
-at-end-requires : tie.Need-at-end-requires
-at-end-requires c κs = search needs
 
 returns : tie.Need-returns
 unfolding rows
@@ -71,11 +19,11 @@ returns-2 c = rw (c .before .enum-told2 .given .1) (c .at-cnf .ensures)
 
 returns-3 : tie.Need-returns-3
 unfolding rows
-returns-3 c = rw (c .before .enum-told3 .given .1) (c .at-first .ensures)
+returns-3 c = rw (c .before .before .enum-told3 .given .1) (c .at-digit .ensures ∙ ap (λ (m : Move). choose (starts OfVariables ∷ on '0' m ∷ []) (c .before .before .before .before .args .b)) (c .before .says .ensures))
 
 returns-4 : tie.Need-returns-4
 unfolding rows
-returns-4 c = rw (c .before .enum-told4 .given .1) (c .at-second .ensures)
+returns-4 c = rw (c .before .before .enum-told4 .given .1) (c .at-digit2 .ensures ∙ ap (λ (m : Move). choose (starts OfCount ∷ on '0' m ∷ []) (c .before .before .before .before .args .b)) (c .before .says2 .ensures))
 
 returns-5 : tie.Need-returns-5
 unfolding rows
@@ -91,7 +39,7 @@ returns-7 c = rw (c .before .enum-told5 .given .1) (c .at-number .ensures)
 
 returns-8 : tie.Need-returns-8
 unfolding rows
-returns-8 c = rw (c .before .enum-told6 .given .1) (c .at-numbers .ensures)
+returns-8 c = rw (c .before .before .enum-told6 .given .1) (c .at-digit3 .ensures ∙ ap (λ (m : Move). choose (starts OfGroup ∷ on '0' m ∷ []) (c .before .before .before .before .args .b)) (c .before .says3 .ensures))
 
 returns-9 : tie.Need-returns-9
 unfolding rows
@@ -105,25 +53,28 @@ pub choose-at-spec : {M : Type 1} → statement M
 choose-at-spec =
     tie.close
     (tie.spec
-    enum-told
-    at-head-requires
-    enum-told-2
-    at-cnf-requires
-    enum-told-3
-    at-first-requires
-    enum-told-4
-    at-second-requires
-    enum-known-place
-    at-first-line-requires
-    at-literals-requires
-    enum-told-5
-    at-number-requires
-    enum-told-6
-    at-numbers-requires
-    enum-told-7
-    at-literals-requires-2
-    enum-known-place-2
-    at-end-requires
+    (λ c. search needs)
+    (λ c κs. tt)
+    (λ c. search needs)
+    (λ c κs. tt)
+    (λ c. search needs)
+    (λ c κs. tt)
+    (λ c κs. tt)
+    (λ c. search needs)
+    (λ c κs. tt)
+    (λ c κs. tt)
+    (λ c. search needs)
+    (λ c κs. tt)
+    (λ c κs. tt)
+    (λ c. search needs)
+    (λ c κs. tt)
+    (λ c. search needs)
+    (λ c κs. tt)
+    (λ c κs. tt)
+    (λ c. search needs)
+    (λ c κs. tt)
+    (λ c. search needs)
+    (λ c κs. tt)
     returns
     returns-2
     returns-3
