@@ -35,19 +35,19 @@ pub data Row : Type 0 where
   on : ℕ → Move → Row
   starts : Slot → Row
 
-abbrev pub clause-rows : List Row → List Row
-clause-rows rs = starts (OfClause false) ∷ on '0' (saying Ends (Before (AtEnd false))) ∷ on '-' (silent AfterMinus) ∷ rs
+abbrev pub clauseRows : List Row → List Row
+clauseRows rs = starts (OfClause false) ∷ on '0' (saying Ends (Before (AtEnd false))) ∷ on '-' (silent AfterMinus) ∷ rs
 
 unfoldable pub rows : Place → List Row
 rows AtHead = on 'c' (silent Remark) ∷ on 'p' (silent (Parted AtCnf)) ∷ []
 rows AtCnf = on 'c' (silent AfterC) ∷ []
 rows AtFirst = starts OfVariables ∷ on '0' (saying (Zero OfVariables) (Parted AtSecond)) ∷ []
 rows AtSecond = starts OfCount ∷ on '0' (saying (Zero OfCount) (Before (AtEnd true))) ∷ []
-rows (AtLine true) = clause-rows (on 'a' (saying Forall (Parted AtNumber)) ∷ on 'e' (saying Exists (Parted AtNumber)) ∷ [])
-rows (AtLine false) = clause-rows []
+rows (AtLine true) = clauseRows (on 'a' (saying Forall (Parted AtNumber)) ∷ on 'e' (saying Exists (Parted AtNumber)) ∷ [])
+rows (AtLine false) = clauseRows []
 rows AtNumber = starts OfGroup ∷ []
 rows AtNumbers = starts OfGroup ∷ on '0' (silent (Before (AtEnd true))) ∷ []
-rows AtLiterals = clause-rows []
+rows AtLiterals = clauseRows []
 rows (AtEnd more) = on feed (silent (Fresh more)) ∷ []
 
 unfoldable pub choose : List Row → ℕ → Move
@@ -118,14 +118,14 @@ alive AfterCn = true
 alive AfterMinus = true
 
 -- the number: a first digit, or one more; outside of a number it is 0
-abbrev pub kept : State → ℕ → ℕ
-kept s n = cond (inside s) n 0
+abbrev pub ifInside : State → ℕ → ℕ
+ifInside s n = cond (inside s) n 0
 
-abbrev pub one-more : State → ℕ → ℕ → ℕ
-one-more s d n = cond (inside s) (n * 10 + d) d
+abbrev pub oneMore : State → ℕ → ℕ → ℕ
+oneMore s d n = cond (inside s) (n * 10 + d) d
 
 unfoldable pub shift : State → ℕ → ℕ → ℕ
-shift s b n = kept (move s b .to) (one-more s (b - '0') n)
+shift s b n = ifInside (move s b .to) (oneMore s (b - '0') n)
 
 abbrev pub start : State
 start = Before AtHead

@@ -1,22 +1,21 @@
 -- The theorems on an accepted text. [text.accepted] What stands in the output is the block of the tree that the bytes spell, `check` accepts it, and past
 -- it all is 0. [text.meaning] The block's formula is as true as the text's own, which is made from the tree alone.
-use mathlib.Core.Path.{_≡_, refl, sym, _∙_, ap}
+use mathlib.Core.Path.{_≡_, refl, sym, _∙_}
 use mathlib.Core.Bool.{Bool, true, false, not, _||_}
 use mathlib.Core.List.{List, [], _∷_, _++_}
-use Prim.Native.Nat.{ℕ, zero, suc, _+_, _-_, min}
+use Prim.Native.Nat.{ℕ, zero, suc, _+_, _-_}
 use native.Mathlib.Omega.{arith}
-use lib.IntN.{ℤ, pos, negℤ, natAbs}
-use lib.ListN.{length, take}
-use lib.Seq.{take-at}
+use lib.IntN.{ℤ, negℤ, natAbs}
+use lib.ListN.{length}
 use Rattle.words.specs.Laws.Bools.{clash, and-r, not-t, or-fl, or-fr, eqb-i}
 use Rattle.words.specs.Lists.{In, here, there, all, any}
 use Rattle.words.specs.Laws.Lists.{any-append}
-use Rattle.words.specs.Words.{negative, eqZ, mem}
+use Rattle.words.specs.Words.{negative, mem}
 use Rattle.words.specs.Laws.Words.{other-word, natAbs-neg}
-use Rattle.words.specs.Outcomes.{Outcome, outcome, unless}
+use Rattle.words.specs.Outcomes.{outcome, unless}
 use Rattle.words.specs.Rows.{refusalOf}
 use Rattle.formula.specs.Limits.{Limits}
-use Rattle.formula.specs.Formula.{Formula, formulaOf}
+use Rattle.formula.specs.Formula.{formulaOf}
 use Rattle.formula.specs.Truth.{asked, truth, true?}
 use Rattle.formula.specs.Block.{names, refusal}
 use Rattle.text.specs.declared.Answer.{Answer}
@@ -25,7 +24,7 @@ use Rattle.text.specs.Grammar.{Text, Spells}
 use Rattle.text.specs.Reads.{Read, spelled, misfit, reads}
 use Rattle.text.specs.Tree.{wordsOf, literalsOf, endsOf, those, free, idle, completed, blockOf, textRefusal, rowOf, treeRows, zeros, filled, textOf, answered, readOf, ownFormula}
 use Rattle.text.specs.Spelled.{reads-right}
-use Rattle.text.specs.Laws.Completed.{Those, those-in, completed-length}
+use Rattle.text.specs.Laws.Completed.{those-in, completed-length}
 use Rattle.text.specs.Laws.Block.{ends-length, laid-length, tree-formula, tree-rows}
 use Rattle.text.specs.Laws.Settled.{Fit, fit, Bound, bound}
 

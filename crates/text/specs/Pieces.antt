@@ -1,12 +1,12 @@
 -- A text in pieces: what the reader keeps, what a byte does to it and to the output, and what is answered at the end. For any state and output.
 use Prim.Native.Nat.{ℕ, suc, _+_, min}
-use mathlib.Core.Bool.{Bool, true, false, cond, _||_}
+use mathlib.Core.Bool.{Bool, false, cond, _||_}
 use mathlib.Core.List.{List, [], _∷_, _++_}
 use lib.Dec.{ltb}
 use lib.IntN.{ℤ, pos}
 use lib.ListN.{length, take, drop, set}
 use Rattle.words.specs.Lists.{any}
-use Rattle.words.specs.Rows.{Row, row, refusalOf}
+use Rattle.words.specs.Rows.{row, refusalOf}
 use Rattle.words.specs.Outcomes.{Outcome, outcome, unless}
 use Rattle.formula.specs.Limits.{Limits}
 use Rattle.formula.specs.Block.{noVariable, twice, rows}

@@ -2,7 +2,7 @@
 -- has the place that the table says, and no other.
 use mathlib.Core.Path.{_≡_, refl, sym, _∙_, ap}
 use mathlib.Core.Logic.{_⊎_, inl, inr}
-use mathlib.Core.Bool.{Bool, true, false}
+use mathlib.Core.Bool.{true, false}
 use mathlib.Core.List.{List, [], _∷_, _++_, append-assoc}
 use Prim.Native.Nat.{ℕ, suc, _+_, _-_, _≤_, _<_}
 use native.Mathlib.Decide.{decLt}
@@ -12,9 +12,9 @@ use lib.Seq.{take-length, take-add}
 use Rattle.words.specs.Laws.Bools.{clash, look}
 use Rattle.text.specs.Grammar.{Text, Spells}
 use Rattle.text.specs.declared.State.{State}
-use Rattle.text.specs.declared.State.the-variants.{Dead, Fresh, Before, Parted, InNumber, Remark, AfterC, AfterCn, AfterMinus}
+use Rattle.text.specs.declared.State.the-variants.{Dead, Fresh}
 use Rattle.text.specs.Machine.{alive, fresh, move, start, reach, trace}
-use Rattle.text.specs.Events.{heard, say, hear-say}
+use Rattle.text.specs.Events.{heard, hear-say}
 use Rattle.text.specs.Reads.{taken, Read, spelled, misfit, reads}
 use Rattle.text.specs.Laws.Left.{sound}
 use Rattle.text.specs.Laws.Taken.{complete}

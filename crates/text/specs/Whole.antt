@@ -1,30 +1,28 @@
 -- The theorem on pieces: begin, any pieces in turn and end answer what reading their concatenation answers, and leave the same output. [text.pieces]
 use mathlib.Core.Path.{_≡_, refl, sym, _∙_, ap}
 use mathlib.Core.Logic.{_⊎_, inl, inr}
-use mathlib.Core.Bool.{Bool, true, false, cond}
+use mathlib.Core.Bool.{true, false}
 use mathlib.Core.List.{List, [], _∷_, _++_}
-use Prim.Native.Nat.{ℕ, _+_, min}
+use Prim.Native.Nat.{ℕ, _+_}
 use native.Mathlib.Omega.{arith}
 use lib.IntN.{ℤ}
 use lib.ListN.{length, length-set}
 use Rattle.words.specs.Laws.Bools.{look}
 use Rattle.words.specs.Outcomes.{Outcome, outcome}
-use Rattle.formula.specs.Limits.{Limits}
+use Rattle.formula.specs.Limits.{Limits, limits}
 use Rattle.text.specs.declared.Kept.{Kept}
 use Rattle.text.specs.declared.Reader.{Reader}
 use Rattle.text.specs.declared.Answer.{Answer}
-use Rattle.text.specs.declared.Answer.the-variants.{Misfit}
-use Rattle.text.specs.Grammar.{Text}
 use Rattle.text.specs.Machine.{Event, announces, counts, opens, binds, holds, ends, fresh, start, trace}
-use Rattle.text.specs.Events.{heard, say, hear-say}
-use Rattle.text.specs.Reads.{taken, spelled, misfit, reads}
-use Rattle.text.specs.Tree.{zeros, lastPlace, textOf, answered, readOf}
+use Rattle.text.specs.Events.{heard, hear-say}
+use Rattle.text.specs.Reads.{taken, reads}
+use Rattle.text.specs.Tree.{textOf, answered, readOf}
 use Rattle.text.specs.Pieces.{capped, keep, keeps, byteOf, pieceOf, nothingKept, begun, settled, endOf, inPieces, whole}
 use Rattle.text.specs.Laws.Left.{sound}
 use Rattle.text.specs.Laws.Viable.{fresh-state}
 use Rattle.text.specs.Laws.Followed.{Followed, followed}
 use Rattle.text.specs.Laws.Kept.{tree-kept, treeKept, treeOutput}
-use Rattle.text.specs.Laws.Rows.{Hidden}
+use Rattle.text.specs.Laws.Rows.{Hidden, limits-hidden}
 use Rattle.text.specs.Laws.Settled.{settled-is}
 
 -- ---- however a text is cut
@@ -54,7 +52,7 @@ keeps-length k o [] = refl
 keeps-length k o (e ∷ es) = keeps-length (keep k o e .answer) (keep k o e .memory) es ∙ keep-length k o e
 
 -- ---- a whole text
-abbrev ended : Limits → Outcome (List ℤ) Reader → Outcome (List ℤ) Answer
+abbrev pub ended : Limits → Outcome (List ℤ) Reader → Outcome (List ℤ) Answer
 ended L r = endOf L (r .answer) (r .memory)
 
 module _ (L : Limits) (hidden : Hidden L) (bs : List ℕ) (o : List ℤ) where
@@ -87,5 +85,6 @@ module _ (L : Limits) (hidden : Hidden L) (bs : List ℕ) (o : List ℤ) where
   unfolding begun capped
   read-is = ended-is (pieceOf bs begun o) (followed start 0 0 nothingKept o bs)
 
-pub pieces-read : (L : Limits) → Hidden L → (ps : List (List ℕ)) (o : List ℤ) → ended L (inPieces ps begun o) ≡ readOf L (whole ps) o
-pieces-read L hidden ps o = ap (ended L) (however-cut ps begun o) ∙ read-is L hidden (whole ps) o
+-- ---- [text.pieces] begin, the pieces in turn, and end: what reading their concatenation answers and leaves
+pub pieces-read : (ps : List (List ℕ)) (o : List ℤ) → ended limits (inPieces ps begun o) ≡ readOf limits (whole ps) o
+pieces-read ps o = ap (ended limits) (however-cut ps begun o) ∙ read-is limits limits-hidden (whole ps) o

@@ -1,13 +1,12 @@
 // A text's end: the rows in their order, the block, and what is wiped.
 ghost use mathlib.Core.Path.{_≡_};
-ghost use mathlib.Core.List.{_++_};
 ghost use Prim.Native.Nat.{_+_, _-_, _≤_, min};
 ghost use lib.ListN.{length, take};
 ghost use lib.Seq.{sets};
 ghost use Rattle.words.specs.Outcomes.{outcome};
 ghost use Rattle.words.specs.Rows.{refusalOf};
 ghost use Rattle.formula.specs.Limits.{limits};
-ghost use Rattle.text.specs.Tree.{countRows, header, zeros};
+ghost use Rattle.text.specs.Tree.{countRows, header};
 ghost use Rattle.text.specs.Pieces.{settled};
 ghost use Rattle.text.specs.Inner.Ending.{Headed, boundRows, wiped, overLimit, laidIn, judged};
 ghost use Rattle.text.specs.Inner.Marks.{Ready};

@@ -2,8 +2,7 @@
 ghost use mathlib.Core.Path.{_≡_};
 ghost use mathlib.Core.Bool.{_||_, false};
 ghost use Prim.Native.Nat.{_-_};
-ghost use lib.IntN.{pos};
-ghost use Rattle.text.specs.Machine.{inside, fresh, alive, kept as outside, one-more, signed};
+ghost use Rattle.text.specs.Machine.{inside, fresh, alive, ifInside, oneMore, signed};
 ghost use Rattle.text.specs.Tree.{beyond};
 ghost use Rattle.text.specs.Pieces.{capped, stored, counted};
 use crate::State;
@@ -60,7 +59,7 @@ fn digit_value(b: u8) -> u64
 
 // The number after the byte b, on the way from one state to another.
 pub(crate) fn next_number(from: State, to: State, b: u8, n: u32) -> u32
-    ensures { λ r. ⌜ r ≡ capped (outside to (one-more from (b - 48) n)) ⌝ }
+    ensures { λ r. ⌜ r ≡ capped (ifInside to (oneMore from (b - 48) n)) ⌝ }
 {
     if is_inside(to) {
         let d = digit_value(b);

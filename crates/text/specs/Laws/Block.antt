@@ -1,24 +1,23 @@
 -- A block that is laid from its parts has these parts, and of its rows only 7, 9, 10 and 23 are left to apply: the header is right by its making, the
 -- completed prefix names each variable once, and the ends are those of the clauses.
 use mathlib.Core.Path.{_≡_, refl, sym, _∙_, ap}
-use mathlib.Core.Bool.{Bool, true, false, not, _&&_, _||_}
+use mathlib.Core.Bool.{false}
 use mathlib.Core.List.{List, [], _∷_, _++_, append-assoc}
-use Prim.Native.Nat.{ℕ, zero, suc, _+_, _-_, _≤_, _<_}
+use Prim.Native.Nat.{ℕ, suc, _+_, _-_, _≤_, _<_}
 use native.Mathlib.Decide.{decLe}
 use native.Mathlib.Omega.{arith}
-use lib.Dec.{eqb, ltb}
-use lib.IntN.{ℤ, pos, natAbs}
+use lib.IntN.{ℤ, pos}
 use lib.ListN.{length, getD, take, drop, length-append, List·getD-eq-default}
 use lib.Seq.{take-at, drop-at, drop-drop, take-length}
 use borrow.Author.Tests.{le-ltb, lt-ltb, eq-eqb}
 use Rattle.words.specs.Lists.{any}
 use Rattle.words.specs.Rows.{row, refusalOf}
-use Rattle.words.specs.Words.{negative, eqZ}
+use Rattle.words.specs.Words.{negative}
 use Rattle.words.specs.Laws.Words.{eqZ-refl}
 use Rattle.formula.specs.Limits.{Limits}
-use Rattle.formula.specs.Formula.{word, variablesOf, clauseCountOf, literalCountOf, prefixOf, clausesFrom, formulaOf}
+use Rattle.formula.specs.Formula.{variablesOf, literalCountOf, prefixOf, clausesFrom, formulaOf}
 use Rattle.formula.specs.Formula as block
-use Rattle.formula.specs.Block.{noVariable, twice, badCounts, badOffsets, badLength, badLast, badEnds, bothSigns, repeats, rows, refusal}
+use Rattle.formula.specs.Block.{noVariable, twice, badCounts, badOffsets, badLength, badLast, badEnds, bothSigns, repeats, refusal}
 use Rattle.formula.specs.Laws.Layout.{prefix-last}
 use Rattle.text.specs.Tree.{literalsOf, endsOf, completed, laid, lastUniversal}
 use Rattle.text.specs.Laws.Completed.{completed-length, completed-known, completed-once}

@@ -6,13 +6,13 @@ use native.Mathlib.Omega.{arith}
 use Rattle.text.specs.Grammar.{'0'}
 use Rattle.text.specs.declared.State.{State}
 use Rattle.text.specs.Pieces.{capped}
-use Rattle.text.specs.Machine.{inside, move, kept, one-more, shift}
+use Rattle.text.specs.Machine.{inside, move, ifInside, oneMore, shift}
 
 -- one byte, with the cap
-unfoldable pub capped-shift : State → ℕ → ℕ → ℕ
-capped-shift s b n = capped (shift s b n)
+unfoldable pub cappedShift : State → ℕ → ℕ → ℕ
+cappedShift s b n = capped (shift s b n)
 
-cap-kept : (s : State) (n : ℕ) → capped (kept s n) ≡ kept s (capped n)
+cap-kept : (s : State) (n : ℕ) → capped (ifInside s n) ≡ ifInside s (capped n)
 unfolding capped
 cap-kept s n = by (inside s)
   where
@@ -20,7 +20,7 @@ cap-kept s n = by (inside s)
     by true = refl
     by false = refl
 
-cap-more : (s : State) (d n : ℕ) → capped (one-more s d (capped n)) ≡ capped (one-more s d n)
+cap-more : (s : State) (d n : ℕ) → capped (oneMore s d (capped n)) ≡ capped (oneMore s d n)
 unfolding capped
 cap-more s d n = by (inside s)
   where
@@ -29,9 +29,9 @@ cap-more s d n = by (inside s)
     by false = refl
 
 -- the cap of the next number follows from the cap of this one
-pub cap-shift : (s : State) (b n : ℕ) → capped-shift s b (capped n) ≡ capped (shift s b n)
-unfolding capped-shift shift
-cap-shift s b n = cap-kept (move s b .to) (one-more s (b - '0') (capped n)) ∙ ap (kept (move s b .to)) (cap-more s (b - '0') n) ∙ sym (cap-kept (move s b .to) (one-more s (b - '0') n))
+pub cap-shift : (s : State) (b n : ℕ) → cappedShift s b (capped n) ≡ capped (shift s b n)
+unfolding cappedShift shift
+cap-shift s b n = cap-kept (move s b .to) (oneMore s (b - '0') (capped n)) ∙ ap (ifInside (move s b .to)) (cap-more s (b - '0') n) ∙ sym (cap-kept (move s b .to) (oneMore s (b - '0') n))
 
 -- and a number that is not beyond is its own cap
 pub cap-same : (n : ℕ) → capped n ≤ 2147483648 → capped n ≡ n

@@ -2,13 +2,13 @@
 -- are counted, and none of them is another.
 use mathlib.Core.Path.{_≡_, refl, sym, _∙_, ap}
 use mathlib.Core.Logic.{_⊎_, inl, inr}
-use mathlib.Core.Bool.{Bool, true, false, not, cond, _&&_, _||_}
+use mathlib.Core.Bool.{Bool, true, false, not, cond, _&&_}
 use mathlib.Core.List.{List, [], _∷_, _++_}
 use Prim.Native.Nat.{ℕ, zero, suc, _+_, _≤_, _<_}
 use native.Mathlib.Omega.{arith}
 use lib.IntN.{ℤ, pos, natAbs}
 use lib.ListN.{length, length-append}
-use Rattle.words.specs.Laws.Bools.{clash, look, and-l, and-r, not-t, to-false, or-fl, or-fr}
+use Rattle.words.specs.Laws.Bools.{clash, and-l, and-r, not-t, to-false, or-fl, or-fr}
 use Rattle.words.specs.Lists.{In, here, there, any}
 use Rattle.words.specs.Laws.Lists.{in-either, any-append, any-f}
 use Rattle.words.specs.Laws.Counts.{count, count-none, count-more}

@@ -1,11 +1,11 @@
 -- The ways out at a text's end, each with the tests that led there: a row of the counts, a row of the bound words, or the block's own answer.
 use mathlib.Core.Path.{_≡_, refl, sym, _∙_, ap}
-use mathlib.Core.Bool.{true, false, not, _||_}
-use mathlib.Core.List.{List, [], _∷_, _++_, append-assoc}
-use Prim.Native.Nat.{ℕ, zero, suc, _+_, _-_, _≤_, _<_, min}
+use mathlib.Core.Bool.{_||_}
+use mathlib.Core.List.{List, _++_, append-assoc}
+use Prim.Native.Nat.{ℕ, _+_, _-_, _≤_, min}
 use native.Mathlib.Omega.{arith}
-use lib.Dec.{eqb, ltb}
-use lib.IntN.{ℤ, pos}
+use lib.Dec.{ltb}
+use lib.IntN.{ℤ}
 use lib.ListN.{length, take, drop, take-append-drop, length-drop}
 use lib.Seq.{sets, sets-eq, length-sets, length-take-le, take-at, drop-drop}
 use borrow.Author.Tests.{ltb-false}
@@ -13,8 +13,8 @@ use Rattle.words.specs.Laws.Bools.{or-fl, or-fr}
 use Rattle.words.specs.Lists.{any}
 use Rattle.words.specs.Rows.{refusalOf}
 use Rattle.words.specs.Laws.Rows.{passed, stops, goes-on}
-use Rattle.words.specs.Outcomes.{Outcome, outcome, unless, unless-number}
-use Rattle.formula.specs.Limits.{Limits, limits}
+use Rattle.words.specs.Outcomes.{outcome, unless-number}
+use Rattle.formula.specs.Limits.{limits}
 use Rattle.formula.specs.Block.{noVariable, twice, rows, refusal}
 use Rattle.formula.specs.Check.{checkedOf}
 use Rattle.formula.specs.Laws.Check.{checked-accepted, checked-refused}
@@ -22,10 +22,10 @@ use Rattle.formula.specs.declared.Checked.the-variants.{Accepted as Passes, Ref
 use Rattle.text.specs.declared.Kept.{Kept}
 use Rattle.text.specs.declared.Answer.{Answer}
 use Rattle.text.specs.declared.Answer.the-variants.{Accepted, Refused, Row as AtRow}
-use Rattle.text.specs.Tree.{countRows, completed, header, laid, zeros, filled}
+use Rattle.text.specs.Tree.{countRows, completed, header, laid, zeros}
 use Rattle.text.specs.Pieces.{keptWords, keptEnds, keptLiterals, keptBlock, keptRow, settled}
 use Rattle.text.specs.Inner.Marks.{Ready}
-use Rattle.text.specs.Inner.Ending.{Headed, wiped, boundRows, laidIn, judged}
+use Rattle.text.specs.Inner.Ending.{wiped, boundRows, laidIn, judged}
 use Rattle.text.specs.Laws.Stores.{drop-sets}
 use Rattle.text.specs.Laws.Completed.{completed-length}
 use Rattle.text.specs.Laws.Block.{laid-length}

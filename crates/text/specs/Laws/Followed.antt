@@ -8,9 +8,9 @@ use Prim.Native.Nat.{ℕ, zero, suc, _+_, _-_, _≤_, _<_, min}
 use native.Mathlib.Decide.{decLe}
 use native.Mathlib.Omega.{arith}
 use lib.Dec.{ltb}
-use lib.IntN.{ℤ, pos, negsuc, negℤ}
+use lib.IntN.{ℤ, pos}
 use borrow.Author.Tests.{lt-ltb, le-ltb}
-use Rattle.words.specs.Laws.Bools.{clash, look}
+use Rattle.words.specs.Laws.Bools.{look}
 use Rattle.words.specs.Outcomes.{Outcome, outcome}
 use Rattle.text.specs.declared.Slot.{Slot}
 use Rattle.text.specs.declared.Slot.the-variants.{OfVariables, OfCount, OfGroup, OfClause}
@@ -20,12 +20,12 @@ use Rattle.text.specs.declared.Says.{Says}
 use Rattle.text.specs.declared.Says.the-variants.{Nothing, Zero, Value, Forall, Exists, Ends}
 use Rattle.text.specs.declared.Kept.{Kept}
 use Rattle.text.specs.declared.Reader.{Reader}
-use Rattle.text.specs.Machine.{Event, holds, alive, move, shift, signed, numbered, events, trace}
+use Rattle.text.specs.Machine.{Event, alive, move, shift, signed, numbered, events, trace}
 use Rattle.text.specs.Reads.{taken}
 use Rattle.text.specs.Tree.{beyond, lastPlace}
 use Rattle.text.specs.Pieces.{capped, stored, keep, keeps, counted, byteOf, pieceOf}
 use Rattle.text.specs.Laws.Viable.{dead-is}
-use Rattle.text.specs.Laws.Capped.{capped-shift, cap-shift}
+use Rattle.text.specs.Laws.Capped.{cappedShift, cap-shift}
 
 -- ---- the cap
 pub cap-cap : (n : ℕ) → capped (capped n) ≡ capped n
@@ -93,7 +93,7 @@ reader s n a k = record { state = s; number = capped n; at = min a lastPlace; ke
 byte-follows : (s : State) (n a : ℕ) (k : Kept) (o : List ℤ) (b : ℕ)
     → let z = keeps k o (events (move s b .says) n) in
     byteOf (reader s n a k) o b ≡ outcome (reader (move s b .to) (shift s b n) (cond (alive (move s b .to)) (suc a) a) (z .answer)) (z .memory)
-unfolding byteOf capped-shift
+unfolding byteOf cappedShift
 byte-follows s n a k o b = rw (cap-shift s b n, events-cap k o (move s b .says) n, at (alive (move s b .to)))
   where
     at : (c : Bool) → counted c (min a lastPlace) ≡ min (cond c (suc a) a) lastPlace

@@ -1,25 +1,23 @@
 -- What a tree's events leave in the output, where the counts are as announced and small: the first bound words, the clause ends and the literals,
 -- each in its part of the block.
 use mathlib.Core.Path.{_≡_, refl, sym, _∙_, ap}
-use mathlib.Core.Bool.{Bool, true, false, _||_}
-use mathlib.Core.List.{List, [], _∷_, _++_, map}
-use Prim.Native.Nat.{ℕ, zero, suc, _+_, _≤_, _<_, min}
+use mathlib.Core.Bool.{Bool, false}
+use mathlib.Core.List.{List, [], _∷_, map}
+use Prim.Native.Nat.{ℕ, suc, _+_, _≤_, min}
 use native.Mathlib.Omega.{arith}
-use lib.Dec.{ltb}
 use lib.IntN.{ℤ, pos}
-use lib.ListN.{length, take, drop, set, length-append, length-set, take-append-drop}
-use lib.Seq.{sets, sets-eq, length-sets, length-take-le, take-at, take-set-le}
+use lib.ListN.{length, take, drop, set, length-append, take-append-drop}
+use lib.Seq.{sets, length-take-le, take-set-le}
 use borrow.Author.Tests.{ltb-false, le-ltb}
 use Rattle.words.specs.Laws.Bools.{or-fl, or-fr}
 use Rattle.words.specs.Lists.{any}
 use Rattle.words.specs.Laws.Lists.{any-append}
-use Rattle.words.specs.Laws.Stores.{take-sets}
 use Rattle.text.specs.Grammar.{Group}
 use Rattle.text.specs.Machine.{signed}
 use Rattle.text.specs.Tree.{isForall, wordsOf, numbersOf, literalsOf, endsOf, beyond}
 use Rattle.text.specs.Pieces.{capped, stored}
-use Rattle.text.specs.Laws.Kept.{put, putClauses, length-put, put-append, large, storedAs, storedIs, storedWords}
-use Rattle.text.specs.Laws.Stores.{sets-append, sets-set, drop-take, take-run, drop-run}
+use Rattle.text.specs.Laws.Kept.{put, putClauses, put-append, large, storedAs, storedIs, storedWords}
+use Rattle.text.specs.Laws.Stores.{sets-append, sets-set, drop-take, take-run}
 
 -- ---- what is not beyond is stored as it is
 pub cap-small : (n : ℕ) → large n ≡ false → capped n ≡ n

@@ -17,14 +17,14 @@ use Rattle.text.specs.declared.Slot.the-variants.{OfVariables, OfCount, 
 use Rattle.text.specs.declared.State.{State}
 use Rattle.text.specs.declared.State.the-variants.{Dead, Fresh, Before, Parted, InNumber, Remark, AfterC, AfterCn, AfterMinus}
 use Rattle.text.specs.declared.Says.the-variants.{Value}
-use Rattle.text.specs.Machine.{Event, announces, counts, opens, binds, holds, ends, after, silent, saying, Row, on, starts, rows, choose, blank, between, parted, past, move, start, trace, numbered, kept, shift, events}
-use Rattle.text.specs.Events.{say-numbers, say-literals, say-groups, say-clauses, say}
+use Rattle.text.specs.Machine.{Event, announces, counts, opens, binds, holds, ends, after, silent, saying, Row, on, starts, rows, choose, blank, between, parted, past, move, start, trace, numbered, ifInside, shift, events}
+use Rattle.text.specs.Events.{sayNumbers, sayLiterals, sayGroups, sayClauses, say}
 
 -- ---- what is left at a line's start, at a place and in a state
 
 pub data Lines : Bool → List ℕ → List Event → Type 0 where
-  any-lines : {bs r : List ℕ} {gs : List Group} {cs : List (List ℤ)} {es : List Event} → Groups bs gs r → Clauses r cs [] → say-groups gs (say-clauses cs) ≡ es → Lines true bs es
-  clause-lines : {bs : List ℕ} {cs : List (List ℤ)} {es : List Event} → Clauses bs cs [] → say-clauses cs ≡ es → Lines false bs es
+  any-lines : {bs r : List ℕ} {gs : List Group} {cs : List (List ℤ)} {es : List Event} → Groups bs gs r → Clauses r cs [] → sayGroups gs (sayClauses cs) ≡ es → Lines true bs es
+  clause-lines : {bs : List ℕ} {cs : List (List ℤ)} {es : List Event} → Clauses bs cs [] → sayClauses cs ≡ es → Lines false bs es
 
 pub data At : Place → List ℕ → List Event → Type 0 where
   at-comment : {x y r : List ℕ} {es : List Event} → Printables x (feed ∷ y) → Blanks y r → At AtHead r es → At AtHead ('c' ∷ x) es
@@ -104,32 +104,32 @@ rows-back AtNumbers = (λ _ _ _ _ _ p l. let (r, g, a) = must l in at-more p g a
 rows-back AtLiterals = (λ _ _ _ _ _ p l. word-at p l, (λ _ _ _ _ l. zero-at l, (λ _ _ _ _ l. minus-at l, tt)))
 rows-back (AtEnd more) = (λ _ _ _ _ l. ending-at l, tt)
 
-choose-back : (k : Place) (rs : List Row) → AllBack k rs → (n b : ℕ) (bs : List ℕ) (es : List Event) → Left (choose rs b .to) (kept (choose rs b .to) (b - '0')) bs es → At k (b ∷ bs) (events (choose rs b .says) n ++ es)
+choose-back : (k : Place) (rs : List Row) → AllBack k rs → (n b : ℕ) (bs : List ℕ) (es : List Event) → Left (choose rs b .to) (ifInside (choose rs b .to) (b - '0')) bs es → At k (b ∷ bs) (events (choose rs b .says) n ++ es)
 unfolding choose
 choose-back k [] h n b bs es l = nothing-left l
 choose-back k (on x m ∷ rs) h n b bs es l = by (eqb b x) refl l (choose-back k rs (h .1) n b bs es)
   where
-    by : (c : Bool) → eqb b x ≡ c → Left (cond c m (choose rs b) .to) (kept (cond c m (choose rs b) .to) (b - '0')) bs es → (Left (choose rs b .to) (kept (choose rs b .to) (b - '0')) bs es → At k (b ∷ bs) (events (choose rs b .says) n ++ es)) → At k (b ∷ bs) (events (cond c m (choose rs b) .says) n ++ es)
-    by true e l ih = let z : b ≡ x = eqb-eq b x e in rw z (h .0 n (kept (m .to) (b - '0')) bs es l)
+    by : (c : Bool) → eqb b x ≡ c → Left (cond c m (choose rs b) .to) (ifInside (cond c m (choose rs b) .to) (b - '0')) bs es → (Left (choose rs b .to) (ifInside (choose rs b .to) (b - '0')) bs es → At k (b ∷ bs) (events (choose rs b .says) n ++ es)) → At k (b ∷ bs) (events (cond c m (choose rs b) .says) n ++ es)
+    by true e l ih = let z : b ≡ x = eqb-eq b x e in rw z (h .0 n (ifInside (m .to) (b - '0')) bs es l)
     by false e l ih = ih l
 choose-back k (starts f ∷ rs) h n b bs es l = by (nonzero b) refl l (choose-back k rs (h .1) n b bs es)
   where
     value : nonzero b ≡ true → {es : List Event} → Left (InNumber f) (b - '0') bs es → At k (b ∷ bs) es
     value e (left-digits d l) = h .0 _ _ (b ∷ bs) _ _ (positive e d) l
 
-    by : (c : Bool) → nonzero b ≡ c → Left (cond c (silent (InNumber f)) (choose rs b) .to) (kept (cond c (silent (InNumber f)) (choose rs b) .to) (b - '0')) bs es → (Left (choose rs b .to) (kept (choose rs b .to) (b - '0')) bs es → At k (b ∷ bs) (events (choose rs b .says) n ++ es)) → At k (b ∷ bs) (events (cond c (silent (InNumber f)) (choose rs b) .says) n ++ es)
+    by : (c : Bool) → nonzero b ≡ c → Left (cond c (silent (InNumber f)) (choose rs b) .to) (ifInside (cond c (silent (InNumber f)) (choose rs b) .to) (b - '0')) bs es → (Left (choose rs b .to) (ifInside (choose rs b .to) (b - '0')) bs es → At k (b ∷ bs) (events (choose rs b .says) n ++ es)) → At k (b ∷ bs) (events (cond c (silent (InNumber f)) (choose rs b) .says) n ++ es)
     by true e l ih = value e l
     by false e l ih = ih l
 
 -- ---- a line more
-group-more : {bs r : List ℕ} {g : Group} {es : List Event} → GroupLine bs g r → Lines true r es → Lines true bs (opens (g .quantifier) ∷ say-numbers (g .numbers) es)
-unfolding say-groups
-group-more {g} l (any-lines gs cs e) = any-lines (a-group l gs) cs (ap (λ x. opens (g .quantifier) ∷ say-numbers (g .numbers) x) e)
+group-more : {bs r : List ℕ} {g : Group} {es : List Event} → GroupLine bs g r → Lines true r es → Lines true bs (opens (g .quantifier) ∷ sayNumbers (g .numbers) es)
+unfolding sayGroups
+group-more {g} l (any-lines gs cs e) = any-lines (a-group l gs) cs (ap (λ x. opens (g .quantifier) ∷ sayNumbers (g .numbers) x) e)
 
-clause-more : (more : Bool) {bs r : List ℕ} {ls : List ℤ} {es : List Event} → ClauseLine bs ls r → Lines false r es → Lines more bs (say-literals ls es)
-unfolding say-groups say-clauses
-clause-more true {ls} l (clause-lines cs e) = any-lines no-group (a-clause l cs) (ap (say-literals ls) e)
-clause-more false {ls} l (clause-lines cs e) = clause-lines (a-clause l cs) (ap (say-literals ls) e)
+clause-more : (more : Bool) {bs r : List ℕ} {ls : List ℤ} {es : List Event} → ClauseLine bs ls r → Lines false r es → Lines more bs (sayLiterals ls es)
+unfolding sayGroups sayClauses
+clause-more true {ls} l (clause-lines cs e) = any-lines no-group (a-clause l cs) (ap (sayLiterals ls) e)
+clause-more false {ls} l (clause-lines cs e) = clause-lines (a-clause l cs) (ap (sayLiterals ls) e)
 
 -- the words up to the 0, and the lines after it
 pub record GroupRest (bs : List ℕ) (es : List Event) : Type 0 where
@@ -140,7 +140,7 @@ pub record GroupRest (bs : List ℕ) (es : List Event) : Type 0 where
   are : Numbers bs words ('0' ∷ zero)
   closed : Close zero rest
   lines : Lines true rest later
-  said : say-numbers words later ≡ es
+  said : sayNumbers words later ≡ es
 
 pub record ClauseRest (bs : List ℕ) (es : List Event) : Type 0 where
   words : List ℤ
@@ -150,10 +150,10 @@ pub record ClauseRest (bs : List ℕ) (es : List Event) : Type 0 where
   are : Literals bs words ('0' ∷ zero)
   closed : Close zero rest
   lines : Lines false rest later
-  said : say-literals words later ≡ es
+  said : sayLiterals words later ≡ es
 
 group-rest : {bs : List ℕ} {es : List Event} → At AtNumbers bs es → GroupRest bs es
-unfolding say-numbers
+unfolding sayNumbers
 group-rest (at-more {n = n} p g a) =
     let r = group-rest a in
     record { words = n ∷ r .words; zero = r .zero; rest = r .rest; later = r .later; are = a-number p g (r .are); closed = r .closed; lines = r .lines; said = ap (λ x. binds n ∷ x) (r .said) }
@@ -161,7 +161,7 @@ group-rest (at-group-end {x = x} {es = es} b (at-ending {r = r} l)) =
     record { words = []; zero = x; rest = r; later = es; are = no-number; closed = close b; lines = l; said = refl }
 
 clause-rest : {bs : List ℕ} {es : List Event} → At AtLiterals bs es → ClauseRest bs es
-unfolding say-literals
+unfolding sayLiterals
 clause-rest (at-literal {l = l} p g a) =
     let r = clause-rest a in
     record { words = l ∷ r .words; zero = r .zero; rest = r .rest; later = r .later; are = a-literal p g (r .are); closed = r .closed; lines = r .lines; said = ap (λ x. holds l ∷ x) (r .said) }
@@ -169,7 +169,7 @@ clause-rest (at-clause-end {x = x} {es = es} b (at-ending {r = r} l)) =
     record { words = []; zero = x; rest = r; later = es; are = no-literal; closed = close b; lines = l; said = refl }
 
 line-lines : {v : ℕ} {more : Bool} {bs : List ℕ} {es : List Event} → Left (Before (AtLine more)) v bs es → Lines more bs es
-unfolding say-numbers
+unfolding sayNumbers
 line-lines (left-blanks s (at-letter {q = q} l g (at-number {n = n} p h a))) =
     let r = group-rest a in
     rw (← r .said) (group-more (group s l g (a-number p h (r .are)) (r .closed)) (r .lines))
@@ -189,11 +189,11 @@ minus-back : {v w : ℕ} {bs r : List ℕ} {n : ℕ} {es : List Event} → Posit
 minus-back p (left-gap g a) = left-minus p g a
 
 module _ (n b : ℕ) (bs : List ℕ) where
-  between-back : (k : Place) (es : List Event) → Left (between k b .to) (kept (between k b .to) (b - '0')) bs es → Left (Before k) n (b ∷ bs) (events (between k b .says) n ++ es)
+  between-back : (k : Place) (es : List Event) → Left (between k b .to) (ifInside (between k b .to) (b - '0')) bs es → Left (Before k) n (b ∷ bs) (events (between k b .says) n ++ es)
   unfolding between
   between-back k es l = by (blank b) refl l
     where
-      by : (c : Bool) → blank b ≡ c → Left (cond c (silent (Before k)) (choose (rows k) b) .to) (kept (cond c (silent (Before k)) (choose (rows k) b) .to) (b - '0')) bs es → Left (Before k) n (b ∷ bs) (events (cond c (silent (Before k)) (choose (rows k) b) .says) n ++ es)
+      by : (c : Bool) → blank b ≡ c → Left (cond c (silent (Before k)) (choose (rows k) b) .to) (ifInside (cond c (silent (Before k)) (choose (rows k) b) .to) (b - '0')) bs es → Left (Before k) n (b ∷ bs) (events (cond c (silent (Before k)) (choose (rows k) b) .says) n ++ es)
       by true e (left-blanks s a) = left-blanks (a-blank (the-blank b e) s) a
       by false e l = left-blanks no-blank (choose-back k (rows k) (rows-back k) n b bs es l)
 
@@ -232,23 +232,23 @@ module _ (n b : ℕ) (bs : List ℕ) where
       further : digit b ≡ true → {es : List Event} → Left (InNumber f) (n * 10 + (b - '0')) bs es → Left (InNumber f) n (b ∷ bs) es
       further e (left-digits d l) = left-digits (a-digit e d) l
 
-      by : (c : Bool) → digit b ≡ c → Left (cond c (silent (InNumber f)) (saying (Value f) (past f b)) .to) (kept (cond c (silent (InNumber f)) (saying (Value f) (past f b)) .to) (n * 10 + (b - '0'))) bs es → Left (InNumber f) n (b ∷ bs) (events (cond c (silent (InNumber f)) (saying (Value f) (past f b)) .says) n ++ es)
+      by : (c : Bool) → digit b ≡ c → Left (cond c (silent (InNumber f)) (saying (Value f) (past f b)) .to) (ifInside (cond c (silent (InNumber f)) (saying (Value f) (past f b)) .to) (n * 10 + (b - '0'))) bs es → Left (InNumber f) n (b ∷ bs) (events (cond c (silent (InNumber f)) (saying (Value f) (past f b)) .says) n ++ es)
       by true e l = further e l
       by false e l = left-digits no-digit (past-back f _ es l)
   move-back Remark es l = by (printable b) (eqb b feed) refl refl l
     where
-      by : (c d : Bool) → printable b ≡ c → eqb b feed ≡ d → Left (cond c Remark (cond d (Before AtHead) Dead)) (kept (cond c Remark (cond d (Before AtHead) Dead)) (b - '0')) bs es → Left Remark n (b ∷ bs) es
+      by : (c d : Bool) → printable b ≡ c → eqb b feed ≡ d → Left (cond c Remark (cond d (Before AtHead) Dead)) (ifInside (cond c Remark (cond d (Before AtHead) Dead)) (b - '0')) bs es → Left Remark n (b ∷ bs) es
       by true d e f (left-remark p s a) = left-remark (a-byte e p) s a
       by false true e f (left-blanks s a) = rw (eqb-eq b feed f) (left-remark no-more s a)
       by false false e f l = nothing-left l
   move-back AfterC es l = by (eqb b 'n') refl l
     where
-      by : (c : Bool) → eqb b 'n' ≡ c → Left (cond c AfterCn Dead) (kept (cond c AfterCn Dead) (b - '0')) bs es → Left AfterC n (b ∷ bs) es
+      by : (c : Bool) → eqb b 'n' ≡ c → Left (cond c AfterCn Dead) (ifInside (cond c AfterCn Dead) (b - '0')) bs es → Left AfterC n (b ∷ bs) es
       by true e l = rw (eqb-eq b 'n' e) (c-back l)
       by false e l = nothing-left l
   move-back AfterCn es l = by (eqb b 'f') refl l
     where
-      by : (c : Bool) → eqb b 'f' ≡ c → Left (cond c (Parted AtFirst) Dead) (kept (cond c (Parted AtFirst) Dead) (b - '0')) bs es → Left AfterCn n (b ∷ bs) es
+      by : (c : Bool) → eqb b 'f' ≡ c → Left (cond c (Parted AtFirst) Dead) (ifInside (cond c (Parted AtFirst) Dead) (b - '0')) bs es → Left AfterCn n (b ∷ bs) es
       by true e (left-gap g a) = rw (eqb-eq b 'f' e) (left-cn g a)
       by false e l = nothing-left l
   move-back AfterMinus es l = by (nonzero b) refl l
@@ -256,13 +256,13 @@ module _ (n b : ℕ) (bs : List ℕ) where
       value : nonzero b ≡ true → {es : List Event} → Left (InNumber (OfClause true)) (b - '0') bs es → Left AfterMinus n (b ∷ bs) es
       value e (left-digits d l) = minus-back (positive e d) l
 
-      by : (c : Bool) → nonzero b ≡ c → Left (cond c (InNumber (OfClause true)) Dead) (kept (cond c (InNumber (OfClause true)) Dead) (b - '0')) bs es → Left AfterMinus n (b ∷ bs) es
+      by : (c : Bool) → nonzero b ≡ c → Left (cond c (InNumber (OfClause true)) Dead) (ifInside (cond c (InNumber (OfClause true)) Dead) (b - '0')) bs es → Left AfterMinus n (b ∷ bs) es
       by true e l = value e l
       by false e l = nothing-left l
 
 -- ---- the whole text
 all-read : (more : Bool) → Lines more [] []
-unfolding say-groups say-clauses
+unfolding sayGroups sayClauses
 all-read true = any-lines no-group no-clause refl
 all-read false = clause-lines no-clause refl
 

@@ -3,17 +3,16 @@ use mathlib.Core.Path.{_≡_, refl, sym, _∙_, ap}
 use mathlib.Core.Logic.{_⊎_, inl, inr}
 use mathlib.Core.Bool.{Bool, true, false, not, _||_, or-true}
 use mathlib.Core.List.{List, [], _∷_}
-use Prim.Native.Nat.{ℕ, _+_, _≤_, _<_, min}
+use Prim.Native.Nat.{ℕ, _≤_, _<_, min}
 use native.Mathlib.Decide.{decLe}
 use native.Mathlib.Omega.{arith}
 use lib.Dec.{eqb, ltb}
-use lib.IntN.{ℤ, pos}
+use lib.IntN.{pos}
 use lib.ListN.{length}
 use borrow.Author.Tests.{ltb-false, lt-ltb, eqb-true, not-false}
 use Rattle.words.specs.Laws.Bools.{look, or-fl, or-fr, bool-eq, eqb-eq, eqb-i}
 use Rattle.words.specs.Lists.{any}
 use Rattle.words.specs.Rows.{refusalOf}
-use Rattle.words.specs.Laws.Rows.{passed}
 use Rattle.formula.specs.Limits.{Limits, limits}
 use Rattle.formula.specs.Laws.Limits.{variables-are, clauses-are, literals-are}
 use Rattle.text.specs.Grammar.{Text}

@@ -1,32 +1,31 @@
 -- At a text's end what is answered by what was kept is what the tree says: the same rows apply, and the same block stands in the output.
 use mathlib.Core.Path.{_≡_, refl, sym, _∙_, ap}
 use mathlib.Core.Logic.{_⊎_, inl, inr}
-use mathlib.Core.Bool.{Bool, true, false, not, _||_, or-true}
-use mathlib.Core.List.{List, [], _∷_, _++_, map}
+use mathlib.Core.Bool.{Bool, true, false, _||_}
+use mathlib.Core.List.{List, [], _∷_, map}
 use Prim.Native.Nat.{ℕ, zero, suc, _+_, _-_, _≤_, _<_, min}
 use native.Mathlib.Decide.{decLe}
 use native.Mathlib.Omega.{arith}
-use lib.Dec.{eqb, ltb}
+use lib.Dec.{ltb}
 use lib.IntN.{ℤ, pos, natAbs}
 use lib.ListN.{length, take, drop, length-append, length-map, length-set}
-use lib.Seq.{sets, length-sets, take-all, take-length}
+use lib.Seq.{sets, length-sets, take-length}
 use borrow.Author.Tests.{ltb-false, lt-ltb, le-ltb}
-use Rattle.words.specs.Laws.Bools.{look, clash, or-fl, or-fr, or-l, bool-eq}
+use Rattle.words.specs.Laws.Bools.{look, or-fl, or-fr}
 use Rattle.words.specs.Lists.{any}
 use Rattle.words.specs.Laws.Lists.{any-append, any-f, any-none, in-take}
 use Rattle.words.specs.Laws.Counts.{count-most}
 use Rattle.words.specs.Laws.Stores.{take-sets}
 use Rattle.words.specs.Laws.Words.{natAbs-neg}
-use Rattle.words.specs.Outcomes.{Outcome, outcome, unless}
+use Rattle.words.specs.Outcomes.{Outcome, unless}
 use Rattle.words.specs.Rows.{refusalOf}
 use Rattle.words.specs.Laws.Rows.{passed}
 use Rattle.formula.specs.Limits.{Limits}
 use Rattle.formula.specs.Block.{names, noVariable, twice, refusal}
-use Rattle.text.specs.declared.Answer.{Answer}
-use Rattle.text.specs.declared.Answer.the-variants.{Accepted, Refused, Row as AtRow}
+use Rattle.text.specs.declared.Answer.the-variants.{Refused, Row as AtRow}
 use Rattle.text.specs.Grammar.{Group, Text}
 use Rattle.text.specs.Machine.{signed}
-use Rattle.text.specs.Tree.{isForall, wordsOf, numbersOf, literalsOf, endsOf, someBeyond, countRows, textRefusal, laid, blockOf, treeRows, rowOf, zeros, filled, textOf}
+use Rattle.text.specs.Tree.{isForall, wordsOf, numbersOf, literalsOf, endsOf, someBeyond, countRows, textRefusal, blockOf, treeRows, rowOf, zeros, textOf}
 use Rattle.text.specs.Pieces.{capped, keptWords, keptEnds, keptLiterals, keptBlock, keptRow, settled}
 use Rattle.text.specs.Laws.Stores.{drop-take, take-run, drop-run}
 use Rattle.text.specs.Laws.Kept.{large, strange, put, length-put, putClauses, treeKept, treeOutput}

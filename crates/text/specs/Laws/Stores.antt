@@ -1,10 +1,10 @@
 -- Runs of stores: one run after another, one store past a run, and what stands where a run was stored. By induction on the run.
-use mathlib.Core.Path.{_≡_, refl, sym, _∙_, ap}
+use mathlib.Core.Path.{_≡_, refl, sym, _∙_}
 use mathlib.Core.List.{List, [], _∷_, _++_, append-assoc}
 use Prim.Native.Nat.{ℕ, zero, suc, _+_, _≤_, _<_}
 use native.Mathlib.Omega.{arith}
 use lib.ListN.{length, take, drop, set, length-append}
-use lib.Seq.{sets, sets-eq, set-comm, length-take-le, take-at, drop-at, drop-drop, take-append-seam, take-nil}
+use lib.Seq.{sets, sets-eq, set-comm, length-take-le, drop-at, drop-drop, take-append-seam, take-nil}
 
 module _ {A : Type 0} where
   pub sets-append : (xs ys l : List A) (i : ℕ) → sets l i (xs ++ ys) ≡ sets (sets l i xs) (i + length xs) ys

@@ -15,8 +15,8 @@ use Rattle.text.specs.declared.Place.the-variants.{AtHead, AtCnf, AtFirs
 use Rattle.text.specs.declared.Slot.{Slot}
 use Rattle.text.specs.declared.Slot.the-variants.{OfVariables, OfCount, OfGroup, OfClause}
 use Rattle.text.specs.declared.State.the-variants.{Fresh, Before, Parted, InNumber, Remark}
-use Rattle.text.specs.Machine.{Event, announces, counts, opens, binds, holds, ends, after, Row, starts, clause-rows, rows, choose, blank, between, parted, past, move, start, Trace, before, trace, numbered, shift}
-use Rattle.text.specs.Events.{say-numbers, say-literals, say-groups, say-clauses, say}
+use Rattle.text.specs.Machine.{Event, announces, counts, opens, binds, holds, ends, after, Row, starts, clauseRows, rows, choose, blank, between, parted, past, move, start, Trace, before, trace, numbered, shift}
+use Rattle.text.specs.Events.{sayNumbers, sayLiterals, sayGroups, sayClauses, say}
 
 -- one event more
 
@@ -115,8 +115,8 @@ fresh-blanks more (a-blank a-tab h) e = blanks-run (AtLine more) h
 abbrev Done : Trace → List Event → Type 0
 Done r es = (more : Bool) × (r ≡ record { last = Fresh more; said = es })
 
-numbers-end : {bs ns z r : List ℕ} {es : List Event} → Numbers bs ns ('0' ∷ z) → Close z r → Done (trace (Fresh true) 0 r) es → Done (trace (Before AtNumbers) 0 bs) (say-numbers ns es)
-unfolding trace move between blank choose rows nonzero say-numbers shift
+numbers-end : {bs ns z r : List ℕ} {es : List Event} → Numbers bs ns ('0' ∷ z) → Close z r → Done (trace (Fresh true) 0 r) es → Done (trace (Before AtNumbers) 0 bs) (sayNumbers ns es)
+unfolding trace move between blank choose rows nonzero sayNumbers shift
 numbers-end no-number c (more, e) = (more, close-run true c ∙ e)
 numbers-end (a-number {n = n} p g h) c e =
     let (more, f) = numbers-end h c e in
@@ -127,21 +127,21 @@ unfolding trace move between blank choose rows nonzero shift
 letter-run all g = ap (then (opens forall)) (gap-run AtNumber g)
 letter-run some g = ap (then (opens exists)) (gap-run AtNumber g)
 
-group-end : {bs r : List ℕ} {g : Group} {es : List Event} → GroupLine bs g r → Done (trace (Fresh true) 0 r) es → Done (trace (Fresh true) 0 bs) (opens (g .quantifier) ∷ say-numbers (g .numbers) es)
-unfolding trace move rows say-numbers shift
+group-end : {bs r : List ℕ} {g : Group} {es : List Event} → GroupLine bs g r → Done (trace (Fresh true) 0 r) es → Done (trace (Fresh true) 0 bs) (opens (g .quantifier) ∷ sayNumbers (g .numbers) es)
+unfolding trace move rows sayNumbers shift
 group-end (group {n = n} {q = q} b l g (a-number p h m) c) e =
     let (more, f) = numbers-end m c e in
     (more, fresh-blanks true b refl ∙ letter-run l g ∙ ap (then (opens q)) (word-run AtNumber OfGroup [] refl p h ∙ ap (then (binds n)) (gap-run AtNumbers h ∙ f)))
 
 -- ---- a clause's line
-literal-run : {bs x y : List ℕ} {l : ℤ} (k : Place) (rs : List Row) → rows k ≡ clause-rows rs → Literal bs l x → Gap x y → trace (Before k) 0 bs ≡ then (holds l) (trace (Before AtLiterals) 0 y)
+literal-run : {bs x y : List ℕ} {l : ℤ} (k : Place) (rs : List Row) → rows k ≡ clauseRows rs → Literal bs l x → Gap x y → trace (Before k) 0 bs ≡ then (holds l) (trace (Before AtLiterals) 0 y)
 unfolding trace move between blank choose nonzero shift
 literal-run k rs e (plain {n = n} p) g = word-run k (OfClause false) _ e p g ∙ ap (then (holds (pos n))) (gap-run AtLiterals g)
 literal-run k rs e (minus (positive {n = n} h d)) g =
     rw (e, h) (digits-run (OfClause true) d ∙ gap-ends n (OfClause true) g ∙ ap (then (holds (negℤ (pos n)))) (gap-run AtLiterals g))
 
-literals-end : {bs z r : List ℕ} {ls : List ℤ} {es : List Event} (k : Place) (rs : List Row) → rows k ≡ clause-rows rs → Literals bs ls ('0' ∷ z) → Close z r → Done (trace (Fresh false) 0 r) es → Done (trace (Before k) 0 bs) (say-literals ls es)
-unfolding trace move between blank choose rows nonzero say-literals shift
+literals-end : {bs z r : List ℕ} {ls : List ℤ} {es : List Event} (k : Place) (rs : List Row) → rows k ≡ clauseRows rs → Literals bs ls ('0' ∷ z) → Close z r → Done (trace (Fresh false) 0 r) es → Done (trace (Before k) 0 bs) (sayLiterals ls es)
+unfolding trace move between blank choose rows nonzero sayLiterals shift
 literals-end k rs e no-literal c (more, f) = (more, rw e (ap (then ends) (close-run false c ∙ f)))
 literals-end k rs e (a-literal {l = l} p g h) c d =
     let (more, f) = literals-end AtLiterals [] refl h c d in
@@ -153,25 +153,25 @@ some-byte more no-literal = refl
 some-byte more (a-literal (plain (positive h d)) g m) = refl
 some-byte more (a-literal (minus p) g m) = refl
 
-line-rows : (more : Bool) → (rs : List Row) × (rows (AtLine more) ≡ clause-rows rs)
+line-rows : (more : Bool) → (rs : List Row) × (rows (AtLine more) ≡ clauseRows rs)
 unfolding rows
 line-rows true = (_, refl)
 line-rows false = (_, refl)
 
-clause-end : {bs r : List ℕ} {ls : List ℤ} {es : List Event} (more : Bool) → ClauseLine bs ls r → Done (trace (Fresh false) 0 r) es → Done (trace (Fresh more) 0 bs) (say-literals ls es)
+clause-end : {bs r : List ℕ} {ls : List ℤ} {es : List Event} (more : Bool) → ClauseLine bs ls r → Done (trace (Fresh false) 0 r) es → Done (trace (Fresh more) 0 bs) (sayLiterals ls es)
 clause-end m (clause b l c) d =
     let (rs, e) = line-rows m in
     let (more, f) = literals-end (AtLine m) rs e l c d in
     (more, fresh-blanks m b (some-byte m l) ∙ f)
 
 -- ---- the whole text
-clauses-end : {bs : List ℕ} {cs : List (List ℤ)} (more : Bool) → Clauses bs cs [] → Done (trace (Fresh more) 0 bs) (say-clauses cs)
-unfolding trace say-clauses shift
+clauses-end : {bs : List ℕ} {cs : List (List ℤ)} (more : Bool) → Clauses bs cs [] → Done (trace (Fresh more) 0 bs) (sayClauses cs)
+unfolding trace sayClauses shift
 clauses-end more no-clause = (more, refl)
 clauses-end more (a-clause l h) = clause-end more l (clauses-end false h)
 
-groups-end : {bs r : List ℕ} {gs : List Group} {es : List Event} → Groups bs gs r → Done (trace (Fresh true) 0 r) es → Done (trace (Fresh true) 0 bs) (say-groups gs es)
-unfolding say-groups
+groups-end : {bs r : List ℕ} {gs : List Group} {es : List Event} → Groups bs gs r → Done (trace (Fresh true) 0 r) es → Done (trace (Fresh true) 0 bs) (sayGroups gs es)
+unfolding sayGroups
 groups-end no-group e = e
 groups-end (a-group l h) e = group-end l (groups-end h e)
 

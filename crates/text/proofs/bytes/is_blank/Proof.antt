@@ -1,3 +1,4 @@
+-- By the two tests.
 use borrow.Author.Tests.{eq-eqb, ne-eqb}
 use Rattle.text.specs.Machine.{blank}
 use Rattle.text.proofs.bytes.is_blank.Statement.{statement}

@@ -1,3 +1,4 @@
+-- By the two tests.
 use borrow.Author.Tests.{lt-leb, le-leb}
 use Rattle.text.specs.Grammar.{digit}
 use Rattle.text.proofs.bytes.is_digit.Statement.{statement}

@@ -1,7 +1,6 @@
-use mathlib.Core.Path.{sym, _∙_, ap}
-use borrow.Author.Tests.{eq-eqb, ne-eqb, lt-leb, le-leb}
+-- By the three tests.
+use borrow.Author.Tests.{lt-leb, le-leb}
 use Rattle.text.specs.Grammar.{printable}
-use borrow.Author.Needs.{needs}
 use Rattle.text.proofs.bytes.is_printable.Statement.{statement}
 use Rattle.text.proofs.bytes.is_printable.Tie as tie
 

@@ -1,9 +1,7 @@
 -- By what the check says of the block.
 use mathlib.Core.Path.{_≡_, sym, _∙_}
-use mathlib.Core.List.{List}
 use Prim.Native.Nat.{_-_}
 use native.Mathlib.Omega.{arith}
-use lib.IntN.{ℤ}
 use lib.ListN.{take}
 use Rattle.text.specs.Laws.Exits.{judge-accepts, judge-refuses}
 use borrow.Author.Needs.{needs}

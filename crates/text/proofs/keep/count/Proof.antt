@@ -1,6 +1,5 @@
 -- The fields, one by one.
 use Rattle.text.specs.Pieces.{keep}
-use borrow.Author.Needs.{needs}
 use Rattle.text.proofs.keep.count.Statement.{statement}
 use Rattle.text.proofs.keep.count.Tie as tie
 

@@ -1,5 +1,5 @@
 -- The fields, one by one, and the word at its place.
-use mathlib.Core.Path.{_≡_, sym, _∙_}
+use mathlib.Core.Path.{sym, _∙_}
 use Rattle.text.specs.Pieces.{keep}
 use mir.Syntax.{w32}
 use mir.ValLaws.{toZ-ofZ}

@@ -1,6 +1,5 @@
 -- By the two tests.
 use borrow.Author.Tests.{eq-eqb, ne-eqb}
-use borrow.Author.Needs.{needs}
 use Rattle.text.proofs.keep.is_strange.Statement.{statement}
 use Rattle.text.proofs.keep.is_strange.Tie as tie
 

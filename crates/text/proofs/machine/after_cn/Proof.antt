@@ -1,7 +1,6 @@
-use mathlib.Core.Path.{sym, _∙_, ap}
-use borrow.Author.Tests.{eq-eqb, ne-eqb, lt-leb, le-leb}
+-- By the tests that the definition makes.
+use borrow.Author.Tests.{eq-eqb, ne-eqb}
 use Rattle.text.specs.Machine.{move}
-use borrow.Author.Needs.{needs}
 use Rattle.text.proofs.machine.after_cn.Statement.{statement}
 use Rattle.text.proofs.machine.after_cn.Tie as tie
 

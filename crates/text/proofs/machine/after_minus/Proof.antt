@@ -1,12 +1,8 @@
-use mathlib.Core.Path.{sym, _∙_, ap}
-use borrow.Author.Tests.{eq-eqb, ne-eqb, lt-leb, le-leb}
+-- By the tests that the definition makes.
+use mathlib.Core.Path.{sym, _∙_}
 use Rattle.text.specs.Machine.{move}
-use borrow.Author.Needs.{needs}
 use Rattle.text.proofs.machine.after_minus.Statement.{statement}
 use Rattle.text.proofs.machine.after_minus.Tie as tie
-
-is-nonzero-requires : tie.Need-is-nonzero-requires
-is-nonzero-requires c κs = search needs
 
 returns : tie.Need-returns
 unfolding move
@@ -17,4 +13,4 @@ unfolding move
 returns-2 c = simp (sym (c .before .is-nonzero .ensures) ∙ c .if1 .left)
 
 pub after-minus-spec : {M : Type 1} → statement M
-after-minus-spec = tie.close (tie.spec is-nonzero-requires returns returns-2)
+after-minus-spec = tie.close (tie.spec (λ c κs. tt) returns returns-2)

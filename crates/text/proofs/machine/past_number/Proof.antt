@@ -1,33 +1,9 @@
-use mathlib.Core.Path.{_∙_, ap}
+-- By the cases of the slot.
+use mathlib.Core.Path.{ap}
 use Rattle.text.specs.Machine.{past}
-use Rattle.text.specs.declared.Move.{Move}
 use borrow.Author.Needs.{needs}
 use Rattle.text.proofs.machine.past_number.Statement.{statement}
 use Rattle.text.proofs.machine.past_number.Tie as tie
-
-enum-told : tie.Need-enum-told
-enum-told c = search needs
-
-parted-by-requires : tie.Need-parted-by-requires
-parted-by-requires c κs = search needs
-
-enum-told-2 : tie.Need-enum-told-2
-enum-told-2 c = search needs
-
-between-words-requires : tie.Need-between-words-requires
-between-words-requires c κs = search needs
-
-enum-told-3 : tie.Need-enum-told-3
-enum-told-3 c = search needs
-
-parted-by-requires-2 : tie.Need-parted-by-requires-2
-parted-by-requires-2 c κs = search needs
-
-enum-told-4 : tie.Need-enum-told-4
-enum-told-4 c = search needs
-
-parted-by-requires-3 : tie.Need-parted-by-requires-3
-parted-by-requires-3 c κs = search needs
 
 returns : tie.Need-returns
 unfolding past
@@ -49,14 +25,14 @@ pub past-number-spec : {M : Type 1} → statement M
 past-number-spec =
     tie.close
     (tie.spec
-    enum-told
-    parted-by-requires
-    enum-told-2
-    between-words-requires
-    enum-told-3
-    parted-by-requires-2
-    enum-told-4
-    parted-by-requires-3
+    (λ c. search needs)
+    (λ c κs. tt)
+    (λ c. search needs)
+    (λ c κs. tt)
+    (λ c. search needs)
+    (λ c κs. tt)
+    (λ c. search needs)
+    (λ c κs. tt)
     returns
     returns-2
     returns-3

@@ -1,77 +1,9 @@
+-- By the cases of the state.
 use mathlib.Core.Path.{_∙_, ap}
 use Rattle.text.specs.Machine.{silent, move}
 use borrow.Author.Needs.{needs}
 use Rattle.text.proofs.machine.step.Statement.{statement}
 use Rattle.text.proofs.machine.step.Tie as tie
-
-enum-told : tie.Need-enum-told
-enum-told c = search needs
-
-silent-requires : tie.Need-silent-requires
-silent-requires c κs = search needs
-
-enum-known-state : tie.Need-enum-known-state
-enum-known-state c = search needs
-
-between-words-requires : tie.Need-between-words-requires
-between-words-requires c κs = search needs
-
-enum-known-state-2 : tie.Need-enum-known-state-2
-enum-known-state-2 c = search needs
-
-between-words-requires-2 : tie.Need-between-words-requires-2
-between-words-requires-2 c κs = search needs
-
-enum-known-state-3 : tie.Need-enum-known-state-3
-enum-known-state-3 c = search needs
-
-parted-by-requires : tie.Need-parted-by-requires
-parted-by-requires c κs = search needs
-
-silent-requires-2 : tie.Need-silent-requires-2
-silent-requires-2 c κs = search needs
-
-enum-known-state-4 : tie.Need-enum-known-state-4
-enum-known-state-4 c = search needs
-
-in-number-requires : tie.Need-in-number-requires
-in-number-requires c κs = search needs
-
-enum-told-2 : tie.Need-enum-told-2
-enum-told-2 c = search needs
-
-in-remark-requires : tie.Need-in-remark-requires
-in-remark-requires c κs = search needs
-
-silent-requires-3 : tie.Need-silent-requires-3
-silent-requires-3 c κs = search needs
-
-enum-told-3 : tie.Need-enum-told-3
-enum-told-3 c = search needs
-
-after-c-requires : tie.Need-after-c-requires
-after-c-requires c κs = search needs
-
-silent-requires-4 : tie.Need-silent-requires-4
-silent-requires-4 c κs = search needs
-
-enum-told-4 : tie.Need-enum-told-4
-enum-told-4 c = search needs
-
-after-cn-requires : tie.Need-after-cn-requires
-after-cn-requires c κs = search needs
-
-silent-requires-5 : tie.Need-silent-requires-5
-silent-requires-5 c κs = search needs
-
-enum-told-5 : tie.Need-enum-told-5
-enum-told-5 c = search needs
-
-after-minus-requires : tie.Need-after-minus-requires
-after-minus-requires c κs = search needs
-
-silent-requires-6 : tie.Need-silent-requires-6
-silent-requires-6 c κs = search needs
 
 returns : tie.Need-returns
 unfolding move
@@ -113,29 +45,29 @@ pub step-spec : {M : Type 1} → statement M
 step-spec =
     tie.close
     (tie.spec
-    enum-told
-    silent-requires
-    enum-known-state
-    between-words-requires
-    enum-known-state-2
-    between-words-requires-2
-    enum-known-state-3
-    parted-by-requires
-    silent-requires-2
-    enum-known-state-4
-    in-number-requires
-    enum-told-2
-    in-remark-requires
-    silent-requires-3
-    enum-told-3
-    after-c-requires
-    silent-requires-4
-    enum-told-4
-    after-cn-requires
-    silent-requires-5
-    enum-told-5
-    after-minus-requires
-    silent-requires-6
+    (λ c. search needs)
+    (λ c κs. tt)
+    (λ c. search needs)
+    (λ c κs. tt)
+    (λ c. search needs)
+    (λ c κs. tt)
+    (λ c. search needs)
+    (λ c κs. tt)
+    (λ c κs. tt)
+    (λ c. search needs)
+    (λ c κs. tt)
+    (λ c. search needs)
+    (λ c κs. tt)
+    (λ c κs. tt)
+    (λ c. search needs)
+    (λ c κs. tt)
+    (λ c κs. tt)
+    (λ c. search needs)
+    (λ c κs. tt)
+    (λ c κs. tt)
+    (λ c. search needs)
+    (λ c κs. tt)
+    (λ c κs. tt)
     returns
     returns-2
     returns-3

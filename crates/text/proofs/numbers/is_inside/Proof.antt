@@ -1,6 +1,6 @@
 -- By the cases of the state: every other one has another tag.
-use mathlib.Core.Path.{_≡_, refl, sym, ap}
-use mathlib.Core.Bool.{true, false}
+use mathlib.Core.Path.{_≡_, refl}
+use mathlib.Core.Bool.{false}
 use mathlib.Core.List.{[], _∷_}
 use types.Run.{OneOf, miss}
 use denote.Enum.Declared.{tagOf}
@@ -23,11 +23,8 @@ rest AfterC o = refl
 rest AfterCn o = refl
 rest AfterMinus o = refl
 
-returns : tie.Need-returns
-returns c = search needs
-
 returns-2 : tie.Need-returns-2
 returns-2 c = rest (c .before .args .state) (c .match .keys2)
 
 pub is-inside-spec : {M : Type 1} → statement M
-is-inside-spec = tie.close (tie.spec (λ c. search needs) returns returns-2)
+is-inside-spec = tie.close (tie.spec (λ c. search needs) (λ c. search needs) returns-2)

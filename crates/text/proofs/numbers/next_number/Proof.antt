@@ -1,6 +1,5 @@
 -- By where the byte leads from and to.
-use mathlib.Core.Path.{_≡_, sym, _∙_}
-use native.Mathlib.Omega.{arith}
+use mathlib.Core.Path.{sym, _∙_}
 use borrow.Author.Needs.{needs}
 use Rattle.text.specs.Pieces.{capped}
 use Rattle.text.proofs.numbers.next_number.Statement.{statement}

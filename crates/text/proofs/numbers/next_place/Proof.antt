@@ -1,5 +1,5 @@
 -- By the tests; a count at its end stays.
-use mathlib.Core.Path.{_≡_, sym, _∙_}
+use mathlib.Core.Path.{sym, _∙_}
 use native.Mathlib.Omega.{arith}
 use borrow.Author.Needs.{needs}
 use Rattle.text.proofs.numbers.next_place.Statement.{statement}

@@ -1,6 +1,5 @@
-use mathlib.Core.Path.{sym, _∙_}
+-- By the tests, in the order of the table.
 use borrow.Author.Tests.{eq-eqb, ne-eqb}
-use borrow.Author.Needs.{needs}
 use Rattle.text.specs.Machine.{rows, choose}
 use Rattle.text.proofs.places.at_head.Statement.{statement}
 use Rattle.text.proofs.places.at_head.Tie as tie

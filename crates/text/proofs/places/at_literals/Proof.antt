@@ -1,12 +1,10 @@
+-- By the tests, in the order of the table.
 use mathlib.Core.Path.{sym, _∙_}
 use borrow.Author.Tests.{eq-eqb, ne-eqb}
 use borrow.Author.Needs.{needs}
 use Rattle.text.specs.Machine.{rows, choose}
 use Rattle.text.proofs.places.at_literals.Statement.{statement}
 use Rattle.text.proofs.places.at_literals.Tie as tie
-
-is-nonzero-requires : tie.Need-is-nonzero-requires
-is-nonzero-requires c = search needs
 
 returns : tie.Need-returns
 unfolding rows choose
@@ -25,4 +23,4 @@ unfolding rows choose
 returns-4 c = simp (sym (c .before .before .before .is-nonzero .ensures) ∙ c .before .before .if1 .left, ne-eqb _ _ (c .before .if2 .left), ne-eqb _ _ (c .if3 .left))
 
 pub at-literals-spec : {M : Type 1} → statement M
-at-literals-spec = tie.close (tie.spec is-nonzero-requires returns returns-2 returns-3 returns-4)
+at-literals-spec = tie.close (tie.spec (λ c. search needs) returns returns-2 returns-3 returns-4)

@@ -1,12 +1,9 @@
+-- By the tests, in the order of the table.
 use mathlib.Core.Path.{sym, _∙_}
-use borrow.Author.Tests.{eq-eqb, ne-eqb}
 use borrow.Author.Needs.{needs}
 use Rattle.text.specs.Machine.{rows, choose}
 use Rattle.text.proofs.places.at_number.Statement.{statement}
 use Rattle.text.proofs.places.at_number.Tie as tie
-
-is-nonzero-requires : tie.Need-is-nonzero-requires
-is-nonzero-requires c = search needs
 
 returns : tie.Need-returns
 unfolding rows choose
@@ -17,4 +14,4 @@ unfolding rows choose
 returns-2 c = simp (sym (c .before .is-nonzero .ensures) ∙ c .if1 .left)
 
 pub at-number-spec : {M : Type 1} → statement M
-at-number-spec = tie.close (tie.spec is-nonzero-requires returns returns-2)
+at-number-spec = tie.close (tie.spec (λ c. search needs) returns returns-2)

@@ -1,17 +1,17 @@
 -- Two tables say which variables are bound and which are named, so what is written is what is free, then the words, then what is idle.
-use mathlib.Core.Path.{_≡_, sym, _∙_, ap, ap₂}
+use mathlib.Core.Path.{_≡_, _∙_, ap, ap₂}
 use mathlib.Core.Bool.{Bool, true, false}
 use mathlib.Core.List.{List}
 use Prim.Native.Nat.{ℕ, _+_, _-_, _≤_, _<_}
 use native.Mathlib.Omega.{arith}
 use lib.IntN.{ℤ, pos}
-use lib.ListN.{length, take, drop, replicate, length-replicate}
+use lib.ListN.{length, take, replicate, length-replicate}
 use lib.Seq.{sets, length-sets}
 use Rattle.words.specs.Outcomes.{Outcome, outcome}
-use Rattle.formula.specs.Limits.{limits, maxVariables}
+use Rattle.formula.specs.Limits.{maxVariables}
 use Rattle.formula.specs.Laws.Limits.{variables-are}
 use Rattle.text.specs.Tree.{those}
-use Rattle.text.specs.Inner.Marks.{marked, picked, Ready}
+use Rattle.text.specs.Inner.Marks.{marked, picked}
 use Rattle.text.specs.Laws.Stores.{take-run}
 use Rattle.text.specs.Laws.Marks.{picked-free, picked-idle, lines, named, first, last, lines-length, all-length, all-runs}
 use borrow.Author.Needs.{needs}

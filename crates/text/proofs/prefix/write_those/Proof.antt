@@ -1,18 +1,16 @@
 -- What is left to write from each variable on gives what the whole gives.
 use mathlib.Core.Path.{_≡_, refl, sym, _∙_, ap}
-use mathlib.Core.Bool.{Bool, true, false}
-use mathlib.Core.List.{List, [], _∷_}
-use Prim.Native.Nat.{ℕ, suc, _+_, _-_, _≤_, _<_, _^_}
+use mathlib.Core.List.{_∷_}
+use Prim.Native.Nat.{ℕ, _+_, _-_, _≤_, _<_}
 use native.Mathlib.Omega.{arith}
 use native.Mathlib.Numerals.{add-one}
-use lib.IntN.{ℤ, pos}
-use lib.ListN.{length, set, length-set}
+use lib.IntN.{pos}
+use lib.ListN.{length, length-set}
 use lib.Seq.{sets}
 use mir.Syntax.{w32}
 use mir.Val.{toZ}
 use mir.ValLaws.{toZ-ofZ}
 use Rattle.words.specs.Outcomes.{outcome}
-use Rattle.formula.specs.Limits.{limits}
 use Rattle.formula.specs.Laws.Limits.{variables-small}
 use Rattle.text.specs.Tree.{those}
 use Rattle.text.specs.Inner.Marks.{picked}
