@@ -115,27 +115,10 @@ fn at_literals(b: u8) -> Move
     }
 }
 
+// The first word of a line where a quantifier may stand.
 fn at_first_line(b: u8) -> Move
     ensures { λ r. ⌜ r ≡ choose (rows (AtLine true)) b ⌝ }
 {
-    if is_nonzero(b) {
-        return Move {
-            to: State::InNumber(Slot::OfClause(false)),
-            says: Says::Nothing,
-        };
-    }
-    if b == 48 {
-        return Move {
-            to: State::Before(Place::AtEnd(false)),
-            says: Says::Ends,
-        };
-    }
-    if b == 45 {
-        return Move {
-            to: State::AfterMinus,
-            says: Says::Nothing,
-        };
-    }
     if b == 97 {
         return Move {
             to: State::Parted(Place::AtNumber),
@@ -148,10 +131,7 @@ fn at_first_line(b: u8) -> Move
             says: Says::Exists,
         };
     }
-    Move {
-        to: State::Dead,
-        says: Says::Nothing,
-    }
+    at_literals(b)
 }
 
 fn at_end(more: bool, b: u8) -> Move

@@ -1,34 +1,30 @@
--- By the tests, in the order of the table.
-use mathlib.Core.Path.{sym, _∙_}
+-- A letter is neither a digit nor a minus; any other byte is as in a further word of a clause.
+use mathlib.Core.Path.{_≡_, refl, sym, _∙_}
+use mathlib.Core.Bool.{true, false}
+use Prim.Native.Nat.{ℕ}
+use lib.Dec.{eqb}
 use borrow.Author.Tests.{eq-eqb, ne-eqb}
 use borrow.Author.Needs.{needs}
+use Rattle.text.specs.Grammar.{'a', 'e', nonzero}
+use Rattle.text.specs.declared.Place.the-variants.{AtLine, AtLiterals}
 use Rattle.text.specs.Machine.{rows, choose}
 use Rattle.text.proofs.places.at_first_line.Statement.{statement}
 use Rattle.text.proofs.places.at_first_line.Tie as tie
 
 returns : tie.Need-returns
-unfolding rows choose
-returns c = simp (sym (c .before .is-nonzero .ensures) ∙ c .if1 .taken)
+unfolding rows choose nonzero
+returns c = rw (c .if1 .taken)
 
 returns-2 : tie.Need-returns-2
+unfolding rows choose nonzero
+returns-2 c = rw (c .if2 .taken)
+
+no-letter : (b : ℕ) → eqb b 'a' ≡ false → eqb b 'e' ≡ false → choose (rows AtLiterals) b ≡ choose (rows (AtLine true)) b
 unfolding rows choose
-returns-2 c = simp (sym (c .before .before .is-nonzero .ensures) ∙ c .before .if1 .left, eq-eqb _ _ (c .if2 .taken))
+no-letter b p q = rw (p, q)
 
 returns-3 : tie.Need-returns-3
-unfolding rows choose
-returns-3 c = simp (sym (c .before .before .before .is-nonzero .ensures) ∙ c .before .before .if1 .left, ne-eqb _ _ (c .before .if2 .left), eq-eqb _ _ (c .if3 .taken))
-
-returns-4 : tie.Need-returns-4
-unfolding rows choose
-returns-4 c = simp (sym (c .before .before .before .before .is-nonzero .ensures) ∙ c .before .before .before .if1 .left, ne-eqb _ _ (c .before .before .if2 .left), ne-eqb _ _ (c .before .if3 .left), eq-eqb _ _ (c .if4 .taken))
-
-returns-5 : tie.Need-returns-5
-unfolding rows choose
-returns-5 c = simp (sym (c .before .before .before .before .before .is-nonzero .ensures) ∙ c .before .before .before .before .if1 .left, ne-eqb _ _ (c .before .before .before .if2 .left), ne-eqb _ _ (c .before .before .if3 .left), ne-eqb _ _ (c .before .if4 .left), eq-eqb _ _ (c .if5 .taken))
-
-returns-6 : tie.Need-returns-6
-unfolding rows choose
-returns-6 c = simp (sym (c .before .before .before .before .before .is-nonzero .ensures) ∙ c .before .before .before .before .if1 .left, ne-eqb _ _ (c .before .before .before .if2 .left), ne-eqb _ _ (c .before .before .if3 .left), ne-eqb _ _ (c .before .if4 .left), ne-eqb _ _ (c .if5 .left))
+returns-3 c = let b = c .before .before .before .args .b in c .at-literals .ensures ∙ no-letter b (ne-eqb b 'a' (c .before .before .if1 .left)) (ne-eqb b 'e' (c .before .if2 .left))
 
 pub at-first-line-spec : {M : Type 1} → statement M
-at-first-line-spec = tie.close (tie.spec (λ c. search needs) returns returns-2 returns-3 returns-4 returns-5 returns-6)
+at-first-line-spec = tie.close (tie.spec returns returns-2 (λ c κs. tt) returns-3)
