@@ -1,6 +1,7 @@
 // The completed prefix: free variables, the bound words, idle variables.
 ghost use mathlib.Core.Path.{_≡_};
-ghost use mathlib.Core.Bool.{true};
+ghost use mathlib.Core.Bool.{true, false};
+ghost use mathlib.Core.List.{_++_};
 ghost use Prim.Native.Nat.{_+_, _≤_};
 ghost use lib.ListN.{length, take, drop, set};
 ghost use lib.Seq.{sets};
@@ -87,6 +88,23 @@ pub(crate) fn copy(from: &[i32], to: &mut [i32], at: usize)
     }
 }
 
+// Free variables, the lines' words, idle variables.
+fn write_prefix(
+    output: &mut [i32],
+    v: usize,
+    bound: &[bool; TABLE],
+    named: &[bool; TABLE],
+    lines: &[i32],
+)
+    requires { ⌜ v ≤ limits .variables ⌝ }
+    requires { ⌜ 6 + length (those (picked (now bound) (now named) true) 1 v) + length (now lines) + length (those (picked (now bound) (now named) false) 1 v) ≤ length (now output) ⌝ }
+    ensures { λ r. ⌜ now (output .exit) ≡ sets (now (output .entry)) 6 (those (picked (now (bound .entry)) (now (named .entry)) true) 1 v ++ now (lines .entry) ++ those (picked (now (bound .entry)) (now (named .entry)) false) 1 v) ⌝ }
+{
+    let first = write_those(output, 6, bound, named, true, v);
+    copy(lines, output, first);
+    let last = write_those(output, first + lines.len(), bound, named, false, v);
+}
+
 // Completes the prefix of v variables, in whose place the bound words stand, with t literals from a place on.
 pub(crate) fn complete(output: &mut [i32], v: usize, bound: usize, from: usize, t: usize)
     requires { ⌜ Ready (now output) v bound from t ⌝ }
@@ -98,7 +116,5 @@ pub(crate) fn complete(output: &mut [i32], v: usize, bound: usize, from: usize, 
     mark(&output[6..6 + bound], &mut is_bound);
     mark(&output[from..from + t], &mut is_named);
     copy(&output[6..6 + bound], &mut lines, 0);
-    let first = write_those(output, 6, &is_bound, &is_named, true, v);
-    copy(&lines[0..bound], output, first);
-    let last = write_those(output, first + bound, &is_bound, &is_named, false, v);
+    write_prefix(output, v, &is_bound, &is_named, &lines[0..bound]);
 }

@@ -15,7 +15,6 @@ use Rattle.words.specs.Laws.Lists.{next, ended, blank}
 use Rattle.formula.specs.Block.{names}
 use Rattle.text.specs.Tree.{those, free, idle, completed}
 use Rattle.text.specs.Inner.Marks.{marked, picked, Ready}
-use Rattle.text.specs.Laws.Stores.{three-runs}
 use Rattle.text.specs.Laws.Completed.{completed-length}
 
 -- ---- the loop that marks
@@ -110,7 +109,3 @@ module _ {o : List ℤ} {v bound from t : ℕ} (r : Ready o v bound from t) wher
       let e = completed-length v lines named (r .known) (r .once) in
       let k = rw (length-append (first ++ lines) last, length-append first lines, lines-length) at e in
       k
-
-  pub all-runs : sets (sets (sets o 6 first) (6 + length first) lines) (6 + length first + bound) last ≡ sets o 6 (completed v lines named)
-  unfolding completed
-  all-runs = rw lines-length at (three-runs first lines last o 6)

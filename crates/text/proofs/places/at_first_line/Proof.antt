@@ -1,10 +1,9 @@
 -- A letter is neither a digit nor a minus; any other byte is as in a further word of a clause.
-use mathlib.Core.Path.{_≡_, refl, sym, _∙_}
+use mathlib.Core.Path.{_≡_, _∙_}
 use mathlib.Core.Bool.{true, false}
 use Prim.Native.Nat.{ℕ}
 use lib.Dec.{eqb}
-use borrow.Author.Tests.{eq-eqb, ne-eqb}
-use borrow.Author.Needs.{needs}
+use borrow.Author.Tests.{ne-eqb}
 use Rattle.text.specs.Grammar.{'a', 'e', nonzero}
 use Rattle.text.specs.declared.Place.the-variants.{AtLine, AtLiterals}
 use Rattle.text.specs.Machine.{rows, choose}

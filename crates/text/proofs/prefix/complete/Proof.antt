@@ -1,19 +1,18 @@
 -- Two tables say which variables are bound and which are named, so what is written is what is free, then the words, then what is idle.
 use mathlib.Core.Path.{_≡_, _∙_, ap, ap₂}
 use mathlib.Core.Bool.{Bool, true, false}
-use mathlib.Core.List.{List}
-use Prim.Native.Nat.{ℕ, _+_, _-_, _≤_, _<_}
+use mathlib.Core.List.{List, _++_}
+use Prim.Native.Nat.{_+_, _-_, _≤_, _<_}
 use native.Mathlib.Omega.{arith}
 use lib.IntN.{ℤ, pos}
 use lib.ListN.{length, take, replicate, length-replicate}
 use lib.Seq.{sets, length-sets}
-use Rattle.words.specs.Outcomes.{Outcome, outcome}
 use Rattle.formula.specs.Limits.{maxVariables}
 use Rattle.formula.specs.Laws.Limits.{variables-are}
-use Rattle.text.specs.Tree.{those}
+use Rattle.text.specs.Tree.{those, completed}
 use Rattle.text.specs.Inner.Marks.{marked, picked}
 use Rattle.text.specs.Laws.Stores.{take-run}
-use Rattle.text.specs.Laws.Marks.{picked-free, picked-idle, lines, named, first, last, lines-length, all-length, all-runs}
+use Rattle.text.specs.Laws.Marks.{picked-free, picked-idle, lines, named, first, last, lines-length, all-length}
 use borrow.Author.Needs.{needs}
 use Rattle.text.proofs.prefix.complete.Statement.{statement}
 use Rattle.text.proofs.prefix.complete.Tie as tie
@@ -77,67 +76,25 @@ idle-here c =
     let s = start3 c in
     ap₂ (λ (a b : List Bool). those (picked a b false) 1 (s .args .v)) (table1 (m .before .before .before .before)) (table2 m) ∙ picked-idle (maxVariables + 1) (s .args .v) (room s) (lines (s .pre)) (named (s .pre))
 
-write-those-requires : tie.Need-write-those-requires
-write-those-requires c κs =
-    let k = c .before .before .before .before in
-    let r = start3 k .pre in
-    (r .few, rw (free-here k) (omega (arith, all-length r, r .prefix)))
-
--- after the free ones
-abbrev start4 : tie.After-write-those → tie.Start
-start4 c = start3 (c .before .before .before .before .before)
-
-wrote : (c : tie.After-write-those) → outcome (c .write-those .result) (c .write-those .last .0) ≡ outcome (6 + length (first (start4 c .pre))) (sets (start4 c .args .output .now) 6 (first (start4 c .pre)))
-wrote c = rw (free-here (c .before .before .before .before .before)) at (c .write-those .ensures)
-
-past-free : (c : tie.After-write-those) → c .write-those .result ≡ 6 + length (first (start4 c .pre))
-past-free c = ap (λ (u : Outcome (List ℤ) ℕ). u .answer) (wrote c)
-
-with-free : (c : tie.After-write-those) → c .write-those .last .0 ≡ sets (start4 c .args .output .now) 6 (first (start4 c .pre))
-with-free c = ap (λ (u : Outcome (List ℤ) ℕ). u .memory) (wrote c)
-
-part-copy-end-2 : tie.Need-part-copy-end-2
-part-copy-end-2 c =
-    let k = c .before .before .before .before .before .before .before in
+part-write-prefix-end : tie.Need-part-write-prefix-end
+part-write-prefix-end c =
+    let k = c .before .before .before .before .before in
     let s = start3 k in
     let e : length (k .copy .last .1 .0) ≡ maxVariables = ap length (table3 k) ∙ length-sets (replicate maxVariables (pos 0)) 0 (lines (s .pre)) ∙ length-replicate maxVariables (pos 0) in
     omega (arith, e, s .pre .few, s .pre .words, variables-are)
 
-copy-requires-2 : tie.Need-copy-requires-2
-copy-requires-2 c κs =
-    let w = c .before .before .before .before in
-    let r = start4 w .pre in
-    rw (copied (w .before .before .before .before .before), past-free w, with-free w, length-sets (start4 w .args .output .now) 6 (first r)) (omega (arith, lines-length r, all-length r, r .prefix))
-
--- after the words
-abbrev start5 : tie.After-copy2 → tie.Start
-start5 c = start4 (c .before .before .before .before .before)
-
-with-words : (c : tie.After-copy2) → let r = start5 c .pre in c .copy2 .last .1 .0 ≡ sets (sets (start5 c .args .output .now) 6 (first r)) (6 + length (first r)) (lines r)
-with-words c =
-    let w = c .before .before .before .before .before in
-    rw (copied (w .before .before .before .before .before), past-free w, with-free w) at (c .copy2 .ensures)
-
-add-write-those : tie.Need-add-write-those
-add-write-those c =
-    let w = c .before .before .before .before .before .before .before in
-    let s = start4 w in
-    omega (arith, past-free w, all-length (s .pre), s .pre .prefix, s .good)
-
-write-those-requires-2 : tie.Need-write-those-requires-2
-write-those-requires-2 c κs =
-    let k = c .before .before .before .before in
-    let w = k .before .before .before .before .before in
-    let r = start5 k .pre in
-    let o = start5 k .args .output .now in
-    (r .few, rw (idle-here (w .before .before .before .before .before), past-free w, with-words k, length-sets (sets o 6 (first r)) (6 + length (first r)) (lines r), length-sets o 6 (first r)) (omega (arith, all-length r, r .prefix)))
+write-prefix-requires : tie.Need-write-prefix-requires
+write-prefix-requires c κs =
+    let k = c .before .before .before .before .before .before in
+    let r = start3 k .pre in
+    (r .few, omega (arith, ap length (free-here k), ap length (copied k), ap length (idle-here k), lines-length r, all-length r, r .prefix))
 
 returns : tie.Need-returns
+unfolding completed
 returns c =
-    let k = c .before .before .before .before .before .before in
-    let w = k .before .before .before .before .before in
-    let e = ap (λ (u : Outcome (List ℤ) ℕ). u .memory) (c .before .write-those2 .ensures) in
-    (rw (idle-here (w .before .before .before .before .before), past-free w, with-words k) at e) ∙ all-runs (start5 k .pre)
+    let k = c .before .before .before .before .before .before .before .before in
+    let join = ap₂ (λ (xs ys : List ℤ). xs ++ ys) (ap₂ (λ (xs ys : List ℤ). xs ++ ys) (free-here k) (copied k)) (idle-here k) in
+    c .before .write-prefix .ensures ∙ ap (λ (ws : List ℤ). sets (start3 k .args .output .now) 6 ws) join
 
 pub complete-spec : {M : Type 1} → statement M
 complete-spec =
@@ -160,12 +117,9 @@ complete-spec =
     (λ c. search needs)
     (λ c. search needs)
     copy-requires
-    write-those-requires
     (λ c. search needs)
     (λ c. search needs)
-    part-copy-end-2
-    copy-requires-2
-    add-write-those
-    write-those-requires-2
+    part-write-prefix-end
+    write-prefix-requires
     (λ c. search needs)
     returns)
