@@ -1,7 +1,7 @@
 -- The theorem: what is read is what the grammar says. [text.spells] A text is read as the one tree that its bytes spell; [row.27] and what is no text
 -- has the place that the table says, and no other.
 use mathlib.Core.Path.{_≡_, refl, sym, _∙_, ap}
-use mathlib.Core.Logic.{_⊎_, inl, inr}
+use mathlib.Core.Logic.{_⊎_, inl, inr, _↔_}
 use mathlib.Core.Bool.{true, false}
 use mathlib.Core.List.{List, [], _∷_, _++_, append-assoc}
 use Prim.Native.Nat.{ℕ, suc, _+_, _-_, _≤_, _<_}
@@ -82,6 +82,14 @@ dead-end bs e rest t h =
     let g : trace start 0 (bs ++ rest) .last ≡ Dead = rw (last-is start 0 (bs ++ rest), reach-append start bs rest, e) (reach-dead rest) in
     let z : Dead ≡ Fresh more = sym g ∙ ap (λ r. r .last) f in
     clash (ap alive z) refl
+
+-- alive after these bytes exactly if some text begins with them
+pub alive-begins : (bs : List ℕ) → (alive (reach start bs) ≡ true) ↔ ((rest : List ℕ) × (t : Text) × Spells (bs ++ rest) t)
+alive-begins bs = (viable bs, λ (rest, t, h). by (look (alive (reach start bs))) rest t h)
+  where
+    by : (alive (reach start bs) ≡ true) ⊎ (alive (reach start bs) ≡ false) → (rest : List ℕ) (t : Text) → Spells (bs ++ rest) t → alive (reach start bs) ≡ true
+    by (inl e) rest t h = e
+    by (inr e) rest t h = absurd (dead-end bs (dead-is (reach start bs) e) rest t h)
 
 misfit-place : (bs : List ℕ) (i : ℕ) → reads bs ≡ misfit i → taken start bs ≡ i
 unfolding reads

@@ -67,7 +67,7 @@ pub struct Move {
     pub says: Says,
 }
 
-// What is kept of a text so far, beside the words that stand in the output. Counts go up to CAP and no further.
+// What is kept of a text so far, beside the words that stand in the output. Counts go up to 2^31 + 1 and no further.
 pub struct Kept {
     // the announced counts
     pub variables: u32,
@@ -86,7 +86,7 @@ pub struct Kept {
 // The reader's state between two bytes. Any words may be handed in.
 pub struct Reader {
     pub state: State,
-    // the value of the digits so far, up to CAP
+    // the value of the digits so far, up to 2^31 + 1
     pub number: u32,
     // how many bytes were taken, up to 2^64 - 1
     pub at: u64,

@@ -1,17 +1,11 @@
 -- Each of the six is its own word.
-use mathlib.Core.Path.{_≡_, _∙_}
-use Prim.Native.Nat.{ℕ, _+_, _≤_}
+use mathlib.Core.Path.{_∙_}
+use Prim.Native.Nat.{_+_}
 use native.Mathlib.Omega.{arith}
-use lib.IntN.{pos}
-use mir.Syntax.{w32}
-use mir.Val.{toZ}
-use mir.ValLaws.{toZ-ofZ}
 use borrow.Author.Needs.{needs}
+use Rattle.text.proofs.Words.{word}
 use Rattle.text.proofs.ending.write_header.Statement.{statement}
 use Rattle.text.proofs.ending.write_header.Tie as tie
-
-word : (n : ℕ) → n ≤ 2147483647 → toZ w32 n ≡ pos n
-word n h = toZ-ofZ w32 (pos n) (record { sfits = omega arith })
 
 copy-requires : tie.Need-copy-requires
 copy-requires c κs = c .before .before .pre .room

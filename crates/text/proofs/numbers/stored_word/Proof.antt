@@ -7,7 +7,7 @@ use lib.Dec.{lit<}
 use lib.IntN.{pos, negℤ}
 use borrow.Author.Tests.{ltb-false}
 use mir.Syntax.{w32}
-use mir.Val.{SFits, toZ}
+use mir.Val.{SFits}
 use mir.ValLaws.{toZ-ofZ}
 use borrow.Author.Needs.{needs}
 use Rattle.words.specs.Words.{opposite}
@@ -15,6 +15,7 @@ use Rattle.words.specs.Laws.Words.{opposite-is}
 use Rattle.text.specs.Machine.{signed}
 use Rattle.text.specs.Tree.{beyond}
 use Rattle.text.specs.Pieces.{stored}
+use Rattle.text.proofs.Words.{word}
 use Rattle.text.proofs.numbers.stored_word.Statement.{statement}
 use Rattle.text.proofs.numbers.stored_word.Tie as tie
 
@@ -26,10 +27,6 @@ minus : (n : ℕ) → beyond (signed true n) ≡ false → n ≤ 2147483648
 unfolding beyond
 minus zero h = omega arith
 minus (suc n) h = let k = ltb-false 2147483647 n h in omega arith
-
--- such a number is its own word
-word : (n : ℕ) → n ≤ 2147483647 → toZ w32 n ≡ pos n
-word n h = toZ-ofZ w32 (pos n) (record { sfits = omega arith })
 
 negation-fits : (n : ℕ) → n ≤ 2147483647 → SFits w32 (negℤ (pos n))
 negation-fits zero h = record { sfits = lit< tt }

@@ -1,20 +1,18 @@
 -- What is left to write from each variable on gives what the whole gives.
 use mathlib.Core.Path.{_≡_, refl, sym, _∙_, ap}
 use mathlib.Core.List.{_∷_}
-use Prim.Native.Nat.{ℕ, _+_, _-_, _≤_, _<_}
+use Prim.Native.Nat.{_+_, _-_, _≤_, _<_}
 use native.Mathlib.Omega.{arith}
 use native.Mathlib.Numerals.{add-one}
 use lib.IntN.{pos}
 use lib.ListN.{length, length-set}
 use lib.Seq.{sets}
-use mir.Syntax.{w32}
-use mir.Val.{toZ}
-use mir.ValLaws.{toZ-ofZ}
 use Rattle.words.specs.Outcomes.{outcome}
 use Rattle.formula.specs.Laws.Limits.{variables-small}
 use Rattle.text.specs.Tree.{those}
 use Rattle.text.specs.Inner.Marks.{picked}
 use Rattle.text.specs.Laws.Marks.{leftFrom, those-yes, those-no, those-ended}
+use Rattle.text.proofs.Words.{word}
 use Rattle.text.proofs.prefix.write_those.Statement.{statement}
 use Rattle.text.proofs.prefix.write_those.Tie as tie
 
@@ -48,10 +46,6 @@ inside c =
     let e = ap length (yes c) in
     let room = l .before .pre .1 in
     omega (arith, e, room, l .loop .inv .0, l .loop .inv .1)
-
--- a variable is its own word
-word : (v : ℕ) → v ≤ 2147483647 → toZ w32 v ≡ pos v
-word v h = toZ-ofZ w32 (pos v) (record { sfits = omega arith })
 
 cast-output : tie.Need-cast-output Inv-loop μ-loop
 cast-output c = record { sfits = omega (arith, small c) }
