@@ -1,6 +1,7 @@
 -- The theorems on an accepted text. [text.accepted] What stands in the output is the block of the tree that the bytes spell, `check` accepts it, and past
 -- it all is 0. [text.meaning] The block's formula is as true as the text's own, which is made from the tree alone.
 use mathlib.Core.Path.{_≡_, refl, sym, _∙_}
+use mathlib.Core.Logic.{_⊎_, inl, inr}
 use mathlib.Core.Bool.{Bool, true, false, not, _||_}
 use mathlib.Core.List.{List, [], _∷_, _++_}
 use Prim.Native.Nat.{ℕ, zero, suc, _+_, _-_}
@@ -134,3 +135,19 @@ accepted-text L bs o n e = by (reads bs) refl e
           passes = tree-passes L t (length o) (fit L t (length o) k) r;
           meaning = same-truth t b;
         }
+
+-- ---- [text.wiped] a text that is not accepted leaves all of the output 0
+module _ (k : ℕ) (m z : List ℤ) where
+  accepted-else : (table row : ℕ) → let u = unless Refused table z (unless AtRow row z (outcome (Accepted k) m)) in ((n : ℕ) × (u .answer ≡ Accepted n)) ⊎ (u .memory ≡ z)
+  accepted-else zero zero = inl (k, refl)
+  accepted-else zero (suc r) = inr refl
+  accepted-else (suc t) r = inr refl
+
+pub accepted-or-wiped : (L : Limits) (bs : List ℕ) (o : List ℤ) → ((n : ℕ) × (readOf L bs o .answer ≡ Accepted n)) ⊎ (readOf L bs o .memory ≡ zeros (length o))
+unfolding readOf answered textOf
+accepted-or-wiped L bs o = by (reads bs)
+  where
+    by : (r : Read) → ((n : ℕ) × (answered L r o .answer ≡ Accepted n)) ⊎ (answered L r o .memory ≡ zeros (length o))
+    by (misfit i) = inr refl
+    by (spelled t) =
+        accepted-else (6 + t .variables + length (t .clauses) + length (literalsOf (t .clauses))) (filled (blockOf t) o) (zeros (length o)) (textRefusal L t (length o)) (rowOf t)
