@@ -24,7 +24,8 @@
 //! - The room for the record is 2,048 places for each of its two buffers.
 //!   Preferences have no room of their own; their number is bounded by the
 //!   line's length.
-//! - `block W..` replaces the block also when the check refuses it. All other
+//! - `block W..` replaces the block also when the check refuses it, and a
+//!   refused `read` or `pieces` makes it 0 (see [`crate::reading`]). All other
 //!   refused calls, and all lines answered with `?`, change nothing.
 //! - An empty buffer is shown as its name alone: `show 0 0 0 lits kinds out`.
 
@@ -33,6 +34,7 @@ use std::fmt::Display;
 use crate::block;
 use crate::hits::Hits;
 use crate::page::{self, Ask};
+use crate::reading::TEXT_ROOM;
 use crate::session::{self, Lent, Session, State};
 
 pub const BLOCK_ROOM: usize = 16_384;
@@ -47,6 +49,7 @@ pub struct Desk {
     pub literals: Vec<i32>,
     pub kinds: Vec<u8>,
     pub output: Vec<u32>,
+    pub text: Vec<u8>,
     pub session: Session,
     /// The rules that its steps, runs and pages have applied so far.
     pub hits: [Hits; 3],
@@ -59,6 +62,7 @@ impl Default for Desk {
             literals: Vec::new(),
             kinds: Vec::new(),
             output: Vec::new(),
+            text: Vec::new(),
             session: Session {
                 length: 0,
                 revision: 0,
@@ -98,6 +102,10 @@ impl Desk {
             b"run" => self.run(words),
             b"page" => self.page(words),
             b"show" => self.show(words),
+            b"text" => set(&mut self.text, "text", words, TEXT_ROOM),
+            b"read" => self.read(words),
+            b"pieces" => self.pieces(words),
+            b"words" => self.words(words),
             _ => None,
         }
     }
@@ -238,7 +246,7 @@ fn set<T: TryFrom<i128>>(
     Some(format!("{name} {}", buffer.len()))
 }
 
-fn numbers<T: TryFrom<i128>>(words: &[&[u8]]) -> Option<Vec<T>> {
+pub(crate) fn numbers<T: TryFrom<i128>>(words: &[&[u8]]) -> Option<Vec<T>> {
     words.iter().map(|word| number(word)).collect()
 }
 

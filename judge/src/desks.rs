@@ -14,6 +14,8 @@ use crate::rules;
 use crate::session::State;
 use crate::shapes;
 
+mod texts;
+
 /// Revisions at the edges of 32 and 64 bits.
 const REVISIONS: [u64; 8] = [
     u64::MAX,
@@ -28,6 +30,15 @@ const REVISIONS: [u64; 8] = [
 
 /// Writes this many lines.
 pub fn write(seed: u64, lines: usize, to: &mut impl Write) -> io::Result<()> {
+    write_scenes(seed, lines, false, to)
+}
+
+/// The same, with texts in some of the lines.
+pub fn write_with_texts(seed: u64, lines: usize, to: &mut impl Write) -> io::Result<()> {
+    write_scenes(seed, lines, true, to)
+}
+
+fn write_scenes(seed: u64, lines: usize, texts: bool, to: &mut impl Write) -> io::Result<()> {
     let mut play = Play {
         dice: Dice::new(seed),
         desk: Desk::default(),
@@ -36,7 +47,11 @@ pub fn write(seed: u64, lines: usize, to: &mut impl Write) -> io::Result<()> {
     };
     let mut written = 0;
     while written < lines {
-        play.scene();
+        if texts && play.dice.chance(2, 5) {
+            play.text_scene();
+        } else {
+            play.scene();
+        }
         for line in play.lines.drain(..).take(lines - written) {
             writeln!(to, "{line}")?;
             written += 1;
