@@ -26,8 +26,8 @@ impl Desk {
         Some(format!("read {}", text::read(&self.text, &mut self.block)))
     }
 
-    /// "with the same answer however it is cut": so the pieces are read as the
-    /// text that they make up.
+    /// "Wherever it was cut, the answer and the output are what they are for the
+    /// whole": so the pieces are read as the text that they make up.
     pub(crate) fn pieces(&mut self, words: &[&[u8]]) -> Option<String> {
         let lengths: Vec<u64> = numbers(words)?;
         let text = cut(&self.text, &lengths).concat();

@@ -43,8 +43,8 @@ impl fmt::Display for Answer {
     }
 }
 
-/// Reads a text. "A refused text leaves the whole output 0, whatever it held;
-/// past an accepted block it is 0 too."
+/// Reads a text. "Where a text is refused, all words of the output are 0
+/// afterwards; where it is accepted, those behind the block are."
 pub fn read(text: &[u8], output: &mut [i32]) -> Answer {
     let read = block_of(text, output.len());
     output.fill(0);
@@ -77,9 +77,10 @@ fn block_of(text: &[u8], room: usize) -> Result<Vec<i32>, Answer> {
     }
 }
 
-/// The place of 27: "the least i such that no text of the grammar begins with
-/// the first i+1 bytes; or the text's length". What a beginning that can go on
-/// begins with can go on too, so halving finds the last one.
+/// The place of 27: "the least i such that no text begins with the first i+1
+/// bytes; if some text begins with all of the bytes, it is their number". What a
+/// beginning that can go on begins with can go on too, so halving finds the
+/// last one.
 fn stops_at(text: &[u8]) -> usize {
     let (mut goes_on, mut stopped) = (0, text.len() + 1);
     while stopped - goes_on > 1 {
@@ -181,7 +182,7 @@ impl<'a> Tree<Word<'a>> {
     }
 
     /// The same with what its words stand for, unless one is "below -2^31 or
-    /// over 2^31 - 1".
+    /// above 2^31 - 1".
     fn numbers(&self) -> Option<Tree<i32>> {
         let all = |words: &Vec<Word>| words.iter().map(|word| value(word)).collect();
         let group = |(existential, words): &(bool, Vec<Word>)| Some((*existential, all(words)?));
@@ -232,12 +233,12 @@ fn blank(byte: &u8) -> bool {
     matches!(byte, b' ' | b'\t')
 }
 
-/// "any bytes from 32 to 126 and tabs".
+/// "any bytes from 32 to 126 and any tabs".
 fn in_comment(byte: &u8) -> bool {
     matches!(byte, 32..=126 | b'\t')
 }
 
-/// "A number is 0, or a digit from 1 to 9 and digits after it".
+/// "A number is 0, or a digit from 1 to 9 with any number of digits behind it."
 fn number(word: Word) -> bool {
     word == b"0" || above_zero(word)
 }
@@ -246,7 +247,8 @@ fn above_zero(word: Word) -> bool {
     word.iter().all(u8::is_ascii_digit) && !word.starts_with(b"0")
 }
 
-/// "a number above 0, or a minus directly before one".
+/// "A literal is a number above 0, or a minus sign with such a number directly
+/// behind it."
 fn literal(word: Word) -> bool {
     let size = word.strip_prefix(b"-").unwrap_or(word);
     !size.is_empty() && above_zero(size)
@@ -271,9 +273,9 @@ impl Tree<i32> {
         numbers.copied().collect()
     }
 
-    /// "Variables that a clause names and no quantifier line does come first,
-    /// existential, ascending; then the lines' words in their order; then,
-    /// ascending and existential, those that neither names".
+    /// "A variable from 1 to V is free if a clause names it and no line binds
+    /// it", and idle "if no clause names it and no line binds it". The free ones
+    /// come before what the lines bind, the idle ones after it.
     fn prefix(&self) -> Vec<i32> {
         let bound: HashSet<i32> = self.bound().into_iter().collect();
         let named = self
@@ -292,7 +294,8 @@ impl Tree<i32> {
         free.into_iter().chain(words).chain(idle).collect()
     }
 
-    /// "SPEC's lowest number", 7 being about "the prefix as completed".
+    /// "one of the block's rows .. the first of them in this order", 7 being
+    /// about "the whole prefix".
     fn broken_row(&self) -> Option<u8> {
         let over = |number: &i32| i64::from(*number).abs() > i64::from(self.variables);
         let bound = self.bound();

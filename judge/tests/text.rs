@@ -38,7 +38,7 @@ fn the_cases_have_every_answer() {
     }
 }
 
-/// "What is accepted is a block that the check accepts", word for word.
+/// "check accepts this block", word for word.
 #[test]
 fn accepted_blocks_pass_the_check() {
     let mut dice = Dice::new(3);
@@ -99,7 +99,7 @@ fn holds(order: &[(bool, i32)], clauses: &[Vec<i32>], made_true: &mut Vec<i32>) 
     }
 }
 
-/// "it has the text's meaning".
+/// "The block's formula is true exactly if the text's own formula is".
 #[test]
 fn a_block_is_true_as_its_text_is() {
     let mut dice = Dice::new(4);

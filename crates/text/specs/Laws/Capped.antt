@@ -1,4 +1,4 @@
--- A number of any length in a 32-bit word: numbers past 2^31 count as one. So code can follow the machine's number, and tell which are "beyond 32 signed bits".
+-- A number of any length in a 32-bit word: numbers past 2^31 count as one. So code can follow the machine's number, and tell which are `beyond`.
 use mathlib.Core.Path.{_≡_, refl, sym, _∙_, ap}
 use mathlib.Core.Bool.{Bool, true, false, cond}
 use Prim.Native.Nat.{ℕ, _+_, _*_, _-_, _≤_, min}
