@@ -6,7 +6,7 @@
 mod yardstick;
 
 use core::slice::{from_raw_parts, from_raw_parts_mut};
-use yardstick::{run, Session};
+use yardstick::{run, Lent, Session};
 
 /// # Safety
 ///
@@ -22,11 +22,13 @@ pub unsafe extern "C" fn yardstick_run(
     lits_length: usize,
     kinds: *mut u8,
     kinds_length: usize,
+    reasons: *mut u32,
+    reasons_length: usize,
     seen: u64,
     budget: u32,
     preferred: *const i32,
     preferred_length: usize,
-    answer: &mut [u64; 4],
+    answer: &mut [u64; 5],
 ) -> u32 {
     let session = Session {
         length,
@@ -34,12 +36,22 @@ pub unsafe extern "C" fn yardstick_run(
         state: state.min(2) as u8,
     };
     let block = unsafe { from_raw_parts(block, block_length) };
-    let lits = unsafe { from_raw_parts_mut(lits, lits_length) };
-    let kinds = unsafe { from_raw_parts_mut(kinds, kinds_length) };
+    let lent = Lent {
+        literals: unsafe { from_raw_parts_mut(lits, lits_length) },
+        kinds: unsafe { from_raw_parts_mut(kinds, kinds_length) },
+        reasons: unsafe { from_raw_parts_mut(reasons, reasons_length) },
+    };
     let preferred = unsafe { from_raw_parts(preferred, preferred_length) };
-    match run(session, block, lits, kinds, seen, budget, preferred) {
-        Ok((next, count)) => {
-            *answer = [next.length, next.revision, next.state.into(), count.into()];
+    match run(session, block, lent, seen, budget, preferred) {
+        Ok((next, count, reason)) => {
+            let state = next.state.into();
+            *answer = [
+                next.length,
+                next.revision,
+                state,
+                count.into(),
+                reason.into(),
+            ];
             0
         }
         Err(number) => number.into(),

@@ -19,9 +19,9 @@
 enum { REPEATS = 5 };
 
 /* bench/door.rs: the yardstick, with the same answer. */
-uint32_t yardstick_run(uint64_t length, uint64_t revision, uint32_t state, const int32_t *block, size_t block_length, int32_t *lits, size_t lits_length, uint8_t *kinds, size_t kinds_length, uint64_t seen, uint32_t budget, const int32_t *preferred, size_t preferred_length, uint64_t answer[MOKI_RUN_WORDS]);
+uint32_t yardstick_run(uint64_t length, uint64_t revision, uint32_t state, const int32_t *block, size_t block_length, int32_t *lits, size_t lits_length, uint8_t *kinds, size_t kinds_length, uint32_t *reasons, size_t reasons_length, uint64_t seen, uint32_t budget, const int32_t *preferred, size_t preferred_length, uint64_t answer[MOKI_RUN_WORDS]);
 
-typedef uint32_t (*solver)(uint64_t, uint64_t, uint32_t, const int32_t *, size_t, int32_t *, size_t, uint8_t *, size_t, uint64_t, uint32_t, const int32_t *, size_t, uint64_t *);
+typedef uint32_t (*solver)(uint64_t, uint64_t, uint32_t, const int32_t *, size_t, int32_t *, size_t, uint8_t *, size_t, uint32_t *, size_t, uint64_t, uint32_t, const int32_t *, size_t, uint64_t *);
 
 /* A run, and all that it leaves. */
 struct outcome {
@@ -29,13 +29,14 @@ struct outcome {
     uint64_t answer[MOKI_RUN_WORDS];
     int32_t lits[PLACES];
     uint8_t kinds[PLACES];
+    uint32_t reasons[PLACES];
 };
 
 static void run(solver solve, const struct formula *f, struct outcome *to)
 {
     static const int32_t none[1];
     memset(to, 0, sizeof *to);
-    to->refusal = solve(0, 0, MOKI_OPEN, f->block, f->length, to->lits, PLACES, to->kinds, PLACES, 0, f->budget, none, 0, to->answer);
+    to->refusal = solve(0, 0, MOKI_OPEN, f->block, f->length, to->lits, PLACES, to->kinds, PLACES, to->reasons, PLACES, 0, f->budget, none, 0, to->answer);
 }
 
 static void run_counted(solver solve, const struct formula *f, struct outcome *to)
@@ -74,7 +75,8 @@ static int agree(const struct outcome *a, const struct outcome *b)
     return a->refusal == b->refusal
         && memcmp(a->answer, b->answer, sizeof a->answer) == 0
         && memcmp(a->lits, b->lits, sizeof a->lits) == 0
-        && memcmp(a->kinds, b->kinds, sizeof a->kinds) == 0;
+        && memcmp(a->kinds, b->kinds, sizeof a->kinds) == 0
+        && memcmp(a->reasons, b->reasons, sizeof a->reasons) == 0;
 }
 
 int main(int argc, char **argv)

@@ -28,6 +28,7 @@ static const char *const names[CALLS] = {"check", "open", "step", "run", "page"}
 static struct formula formula;
 static int32_t lits[PLACES];
 static uint8_t kinds[PLACES];
+static uint32_t reasons[PLACES];
 static uint32_t output[ROOM];
 static uint64_t session[MOKI_RUN_WORDS];
 
@@ -40,11 +41,11 @@ static uint32_t make(enum call call)
     case CHECK:
         return moki_check(block, length);
     case OPEN:
-        return moki_open(block, length, lits, PLACES, kinds, PLACES, 0, session);
+        return moki_open(block, length, lits, PLACES, kinds, PLACES, reasons, PLACES, 0, session);
     case STEP:
-        return moki_step(session[0], session[1], (uint32_t)session[2], block, length, lits, PLACES, kinds, PLACES, session[1], 0, session);
+        return moki_step(session[0], session[1], (uint32_t)session[2], block, length, lits, PLACES, kinds, PLACES, reasons, PLACES, session[1], 0, session);
     case RUN:
-        return moki_run(session[0], session[1], (uint32_t)session[2], block, length, lits, PLACES, kinds, PLACES, session[1], BUDGET, block, 6, session);
+        return moki_run(session[0], session[1], (uint32_t)session[2], block, length, lits, PLACES, kinds, PLACES, reasons, PLACES, session[1], BUDGET, block, 6, session);
     default:
         return moki_page(block, length, lits, PLACES, kinds, PLACES, 0, block, 6, BUDGET, output, ROOM, page);
     }

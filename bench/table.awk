@@ -29,5 +29,5 @@ END {
     sum("1,000 clauses", "thousand")
     sum("at the limits", "limit")
     sum("all", "all")
-    print many["thousand"] " formulas of 1,000 clauses and " many["limit"] " at the limits: verdicts, counts and records agree"
+    print many["thousand"] " formulas of 1,000 clauses and " many["limit"] " at the limits: verdicts, counts, records and reasons agree"
 }

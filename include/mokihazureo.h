@@ -22,7 +22,11 @@ enum { MOKI_OPEN = 0, MOKI_VALID = 1, MOKI_UNSAT = 2 };
 
 /* How many words a call's answer has. Its array must have as many places or more;
    it comes as a pointer alone, so no call can see how many there are. */
-enum { MOKI_SESSION_WORDS = 3, MOKI_RUN_WORDS = 4, MOKI_PAGE_WORDS = 3 };
+enum { MOKI_SESSION_WORDS = 3, MOKI_STEP_WORDS = 4, MOKI_RUN_WORDS = 5, MOKI_PAGE_WORDS = 3 };
+
+/* The record is two buffers, literals and kinds; open, step and run are lent a third
+   beside them, the reasons. Each has V places or more. A reason is the number of the
+   clause that forced the entry, counted from 0, plus one; 0 is none. */
 
 /* Refusals 1 to 10 and 23. */
 uint32_t moki_check(const int32_t *block, size_t block_length);
@@ -31,24 +35,28 @@ uint32_t moki_check(const int32_t *block, size_t block_length);
 uint32_t moki_open(const int32_t *block, size_t block_length,
                    int32_t *lits, size_t lits_length,
                    uint8_t *kinds, size_t kinds_length,
+                   uint32_t *reasons, size_t reasons_length,
                    uint64_t first_revision,
                    uint64_t answer[MOKI_SESSION_WORDS]);
 
 /* Refusals 1 to 17 and 23. The session goes in as three numbers; the answer is the
-   next session. Proposal 0 leaves the choice to the solver. */
+   next session, then the step's reason: that of the clause that forced an entry, or of
+   the lowest clause in conflict, else 0. Proposal 0 leaves the choice to the solver. */
 uint32_t moki_step(size_t length, uint64_t revision, uint32_t state,
                    const int32_t *block, size_t block_length,
                    int32_t *lits, size_t lits_length,
                    uint8_t *kinds, size_t kinds_length,
+                   uint32_t *reasons, size_t reasons_length,
                    uint64_t seen_revision, int32_t proposal,
-                   uint64_t answer[MOKI_SESSION_WORDS]);
+                   uint64_t answer[MOKI_STEP_WORDS]);
 
 /* Refusals 1 to 15 and 23. The answer is the next session, then the count of
-   accepted steps. */
+   accepted steps, then the last one's reason, 0 if there was none. */
 uint32_t moki_run(size_t length, uint64_t revision, uint32_t state,
                   const int32_t *block, size_t block_length,
                   int32_t *lits, size_t lits_length,
                   uint8_t *kinds, size_t kinds_length,
+                  uint32_t *reasons, size_t reasons_length,
                   uint64_t seen_revision, uint32_t budget,
                   const int32_t *preferred, size_t preferred_length,
                   uint64_t answer[MOKI_RUN_WORDS]);
@@ -57,7 +65,7 @@ uint32_t moki_run(size_t length, uint64_t revision, uint32_t state,
    of output each: the opening, and how many ones its number has. The answer is where
    the next page begins, the count of openings written, and 1 if the page stopped
    because the search of that next opening didn't end within the budget, else 0. The
-   record is for work: its first V places are 0 afterwards. */
+   literals and kinds are for work: their first V places are 0 afterwards. */
 uint32_t moki_page(const int32_t *block, size_t block_length,
                    int32_t *lits, size_t lits_length,
                    uint8_t *kinds, size_t kinds_length,

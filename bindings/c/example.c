@@ -1,5 +1,5 @@
-/* Two administrators at one session, a listing page by page, and what happens to
-   bad input. */
+/* Two administrators at one session, the reasons of its steps, a listing page by
+   page, and what happens to bad input. */
 #include <stdio.h>
 #include <string.h>
 
@@ -22,24 +22,29 @@ static void two_administrators(void)
 {
     int32_t lits[4];
     uint8_t kinds[4];
-    uint64_t session[MOKI_RUN_WORDS] = {7, 7, 7, 7};
+    uint32_t reasons[5] = {9, 9, 9, 9, 9};
+    uint64_t session[MOKI_RUN_WORDS] = {7, 7, 7, 7, 7};
 
     expect("the block is accepted", moki_check(block, COUNT(block)) == 0);
-    expect("a session is opened", moki_open(block, COUNT(block), lits, 4, kinds, 4, 0, session) == 0);
+    expect("a session is opened", moki_open(block, COUNT(block), lits, 4, kinds, 4, reasons, 5, 0, session) == 0);
     expect("it is empty, at revision 0, open", session[0] == 0 && session[1] == 0 && session[2] == MOKI_OPEN);
     expect("and has no fourth number", session[3] == 7);
 
-    expect("Ada puts 1 to true, as seen at revision 0", moki_step(session[0], session[1], (uint32_t)session[2], block, COUNT(block), lits, 4, kinds, 4, 0, 1, session) == 0);
+    expect("Ada puts 1 to true, as seen at revision 0", moki_step(session[0], session[1], (uint32_t)session[2], block, COUNT(block), lits, 4, kinds, 4, reasons, 5, 0, 1, session) == 0);
     expect("the record has it", session[0] == 1 && session[1] == 1 && lits[0] == 1 && kinds[0] == 1);
+    expect("a decision has no reason", session[3] == 0 && reasons[0] == 0);
+    expect("and there is no fifth number", session[4] == 7);
 
-    expect("Ben's move from revision 0 is refused with 14", moki_step(session[0], session[1], (uint32_t)session[2], block, COUNT(block), lits, 4, kinds, 4, 0, -1, session) == 14);
+    expect("Ben's move from revision 0 is refused with 14", moki_step(session[0], session[1], (uint32_t)session[2], block, COUNT(block), lits, 4, kinds, 4, reasons, 5, 0, -1, session) == 14);
     expect("nothing is changed", session[0] == 1 && session[1] == 1 && lits[0] == 1 && lits[1] == 0);
 
-    expect("he goes on from revision 1", moki_step(session[0], session[1], (uint32_t)session[2], block, COUNT(block), lits, 4, kinds, 4, 1, -2, session) == 0);
-    expect("a run with preferences", moki_run(session[0], session[1], (uint32_t)session[2], block, COUNT(block), lits, 4, kinds, 4, 2, 100, (const int32_t[]){3, INT32_MIN}, 2, session) == 0);
+    expect("he goes on from revision 1", moki_step(session[0], session[1], (uint32_t)session[2], block, COUNT(block), lits, 4, kinds, 4, reasons, 5, 1, -2, session) == 0);
+    expect("a run with preferences", moki_run(session[0], session[1], (uint32_t)session[2], block, COUNT(block), lits, 4, kinds, 4, reasons, 5, 2, 100, (const int32_t[]){3, INT32_MIN}, 2, session) == 0);
     expect("the formula is false", session[2] == MOKI_UNSAT);
+    expect("as the fourth clause, which is clause 3, can't be met", session[4] == 3 + 1);
+    expect("the second clause forced -3, and the third 4", memcmp(lits, (int32_t[]){-1, 2, -3, 4}, sizeof lits) == 0 && memcmp(reasons, (uint32_t[]){0, 0, 2, 3, 9}, sizeof reasons) == 0);
     expect("the revision counts the steps", session[1] == 2 + session[3]);
-    expect("an ended session is refused with 13", moki_step(session[0], session[1], (uint32_t)session[2], block, COUNT(block), lits, 4, kinds, 4, session[1], 0, session) == 13);
+    expect("an ended session is refused with 13", moki_step(session[0], session[1], (uint32_t)session[2], block, COUNT(block), lits, 4, kinds, 4, reasons, 5, session[1], 0, session) == 13);
 }
 
 /* Case G of docs/SPEC.md: the openings are of the variables 1 and 2. */
@@ -84,11 +89,30 @@ static void a_listing(void)
     expect("nothing is changed", holds(whole, output) && answers(answer, 4, 3, 0));
 }
 
+/* Case A, step by step: what each step answers as its reason, and what the record's
+   reasons are after it. */
+static void eight_reasons(void)
+{
+    static const uint32_t steps[8][5] = {{0}, {0}, {1, 0, 0, 1, 0}, {2}, {0}, {2, 0, 0, 2, 0}, {3, 0, 0, 2, 3}, {4, 0, 0, 2, 3}};
+    int32_t lits[4];
+    uint8_t kinds[4];
+    uint32_t reasons[4];
+    uint64_t now[MOKI_STEP_WORDS];
+    int right = moki_open(block, COUNT(block), lits, 4, kinds, 4, reasons, 4, 0, now) == 0;
+
+    for (int step = 0; step < 8; step++) {
+        right &= moki_step(now[0], now[1], (uint32_t)now[2], block, COUNT(block), lits, 4, kinds, 4, reasons, 4, now[1], 0, now) == 0;
+        right &= now[3] == steps[step][0] && memcmp(reasons, steps[step] + 1, sizeof reasons) == 0;
+    }
+    expect("case A's eight steps have their reasons", right && now[2] == MOKI_UNSAT);
+}
+
 static void bad_input(void)
 {
     int32_t lits[4] = {7, 7, 7, 7};
     uint8_t kinds[4] = {7, 7, 7, 7};
-    uint64_t answer[MOKI_RUN_WORDS] = {7, 7, 7, 7};
+    uint32_t reasons[4] = {7, 7, 7, 7};
+    uint64_t answer[MOKI_RUN_WORDS] = {7, 7, 7, 7, 7};
     uint32_t output[2] = {7, 7};
     int32_t wrong[COUNT(block)];
 
@@ -96,16 +120,19 @@ static void bad_input(void)
     wrong[9] = INT32_MIN;
     expect("the least word in the prefix is refused with 5", moki_check(wrong, COUNT(wrong)) == 5);
     expect("too few words are refused with 1", moki_check(block, 5) == 1);
-    expect("a short record is refused with 11", moki_open(block, COUNT(block), lits, 3, kinds, 4, 0, answer) == 11);
-    expect("in a step too", moki_step(0, 0, MOKI_OPEN, block, COUNT(block), lits, 4, kinds, 3, 0, 1, answer) == 11);
-    expect("in a run", moki_run(0, 0, MOKI_OPEN, block, COUNT(block), lits, 3, kinds, 4, 0, 9, block, 0, answer) == 11);
+    expect("a short record is refused with 11", moki_open(block, COUNT(block), lits, 3, kinds, 4, reasons, 4, 0, answer) == 11);
+    expect("in a step too", moki_step(0, 0, MOKI_OPEN, block, COUNT(block), lits, 4, kinds, 3, reasons, 4, 0, 1, answer) == 11);
+    expect("in a run", moki_run(0, 0, MOKI_OPEN, block, COUNT(block), lits, 4, kinds, 4, reasons, 3, 0, 9, block, 0, answer) == 11);
     expect("and in a page", moki_page(openings, COUNT(openings), lits, 4, kinds, 3, 0, block, 0, 100, output, 2, answer) == 11);
-    expect("nothing is written", lits[0] == 7 && kinds[0] == 7 && output[0] == 7 && answer[0] == 7 && answer[3] == 7);
+    expect("a reason beside a decision is refused with 12", moki_step(1, 0, MOKI_OPEN, block, COUNT(block), (int32_t[]){1, 0, 0, 0}, 4, (uint8_t[]){1, 0, 0, 0}, 4, (uint32_t[]){1, 0, 0, 0}, 4, 0, 0, answer) == 12);
+    expect("and so is one over the clauses", moki_step(1, 0, MOKI_OPEN, block, COUNT(block), (int32_t[]){1, 0, 0, 0}, 4, (uint8_t[]){0, 0, 0, 0}, 4, (uint32_t[]){6, 0, 0, 0}, 4, 0, 0, answer) == 12);
+    expect("nothing is written", lits[0] == 7 && kinds[0] == 7 && reasons[0] == 7 && output[0] == 7 && answer[0] == 7 && answer[3] == 7 && answer[4] == 7);
 }
 
 int main(void)
 {
     two_administrators();
+    eight_reasons();
     a_listing();
     bad_input();
     return failures != 0;

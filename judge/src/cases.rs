@@ -262,6 +262,7 @@ impl Talk {
         talk.say("session 0 0 0", "session");
         talk.say(&line("lits", &vec![9; v]), &format!("lits {v}"));
         talk.say(&line("kinds", &vec![9; v]), &format!("kinds {v}"));
+        talk.say(&line("reasons", &vec![9; v]), &format!("reasons {v}"));
         talk.say(&line("out", &vec![7; room]), &format!("out {room}"));
         talk
     }
@@ -273,6 +274,9 @@ impl Talk {
 
 pub fn talks() -> Vec<Talk> {
     vec![
+        eight_steps(),
+        reasons_of_rows_11_and_12(),
+        lowest_clauses(),
         least_word(),
         largest_first_group(),
         first_group_too_large(),
@@ -283,15 +287,98 @@ pub fn talks() -> Vec<Talk> {
     ]
 }
 
+/// A's eight steps, each with its reason. What 3 was put for goes with it when the
+/// record is cut, and a run answers its last step's reason.
+fn eight_steps() -> Talk {
+    let mut talk = Talk::at("A: why", &A, 0);
+    talk.say("open 0", "open 0 0 0 0");
+    talk.say("run 0 0", "run 0 0 0 0 0 0");
+    talk.say("step 0 0", "step 0 1 1 0 0");
+    talk.say("step 1 0", "step 0 2 2 0 0");
+    talk.say("step 2 0", "step 0 3 3 0 1");
+    let unit = "show 3 3 0 lits 1 2 3 0 kinds 1 2 0 0 reasons 0 0 1 0 out";
+    talk.say("show", unit);
+    talk.say("step 3 0", "step 0 1 4 0 2");
+    let cut = "show 1 4 0 lits -1 0 0 0 kinds 0 0 0 0 reasons 0 0 0 0 out";
+    talk.say("show", cut);
+    talk.say("step 4 0", "step 0 2 5 0 0");
+    talk.say("step 5 0", "step 0 3 6 0 2");
+    talk.say("step 6 0", "step 0 4 7 0 3");
+    talk.say("step 7 0", "step 0 4 8 2 4");
+    let ended = "show 4 8 2 lits -1 2 -3 4 kinds 0 2 0 0 reasons 0 0 2 3 out";
+    talk.say("show", ended);
+    talk.say("open 8", "open 0 0 8 0");
+    talk.say("run 8 3", "run 0 3 11 0 3 1");
+    talk.say("run 11 2", "run 0 2 13 0 2 0");
+    talk.say("run 13 9", "run 0 4 16 2 3 4");
+    talk
+}
+
+/// A's record after its third step, and what may stand beside it: five clauses, so
+/// 5 is a reason and 6 is none, and a decision has none. Past the record anything
+/// may stand. A page asks for no reasons, and leaves them.
+fn reasons_of_rows_11_and_12() -> Talk {
+    let mut talk = Talk::at("A: reasons that are no reasons", &A, 2);
+    talk.say("lits 1 2 3 0", "lits 4");
+    talk.say("kinds 1 2 0 0", "kinds 4");
+    talk.say("session 3 3 0", "session");
+    for (reasons, count, number) in [
+        ("0 0 1", 3, 11),
+        ("", 0, 11),
+        ("0 0 6 0", 4, 12),
+        ("0 0 4294967295 0", 4, 12),
+        ("1 0 1 0", 4, 12),
+        ("0 5 1 0", 4, 12),
+        ("6 0 0 0", 4, 12),
+    ] {
+        let line = format!("reasons {reasons}");
+        talk.say(line.trim_end(), &format!("reasons {count}"));
+        talk.say("step 3 0", &format!("step {number}"));
+        talk.say("run 3 1", &format!("run {number}"));
+    }
+    talk.say("reasons 0 0 5 6 7", "reasons 5");
+    talk.say("run 3 0", "run 0 3 3 0 0 0");
+    talk.say("step 3 0", "step 0 1 4 0 2");
+    let cut = "show 1 4 0 lits -1 0 0 0 kinds 0 0 0 0 reasons 0 0 0 6 7 out 7 7";
+    talk.say("show", cut);
+    talk.say("reasons 6 6 6", "reasons 3");
+    talk.say("open 0", "open 11");
+    talk.say("page 0 100", "page 0 2 0 0");
+    let paged = "show 1 4 0 lits 0 0 0 0 kinds 0 0 0 0 reasons 6 6 6 out 7 7";
+    talk.say("show", paged);
+    talk
+}
+
+/// The clauses {1,2} {-1} {-1} {-2}: the second is the first unit, then the first;
+/// then the fourth is in conflict. Of two empty clauses the lower one is named.
+fn lowest_clauses() -> Talk {
+    let clauses = [vec![1, 2], vec![-1], vec![-1], vec![-2]];
+    let block = lay_out(&[1, 2], &clauses);
+    let mut talk = Talk::at("the lowest clause is the reason", &block, 0);
+    talk.say("open 0", "open 0 0 0 0");
+    talk.say("step 0 0", "step 0 1 1 0 2");
+    talk.say("step 1 0", "step 0 2 2 0 1");
+    talk.say("step 2 0", "step 0 2 3 2 4");
+    let ended = "show 2 3 2 lits -1 2 kinds 0 0 reasons 2 1 out";
+    talk.say("show", ended);
+    let empty = lay_out(&[1, 2], &[vec![1], vec![], vec![2], vec![]]);
+    talk.say(&line("block", &empty), "block 0");
+    talk.say("open 0", "open 0 0 0 0");
+    talk.say("run 0 5", "run 0 0 1 2 1 2");
+    talk
+}
+
 /// "word -2147483648 as a clause literal gives 9, as a proposal at Decide 17, as
 /// a preference it is skipped."
 fn least_word() -> Talk {
     let mut talk = Talk::at("L: the least word in all three places", &A, 0);
     talk.say("open 0", "open 0 0 0 0");
     talk.say("step 0 -2147483648", "step 17");
-    talk.say("show", "show 0 0 0 lits 0 0 0 0 kinds 0 0 0 0 out");
-    talk.say("run 0 1 -2147483648 -1", "run 0 1 1 0 1");
-    talk.say("show", "show 1 1 0 lits -1 0 0 0 kinds 1 0 0 0 out");
+    let fresh = "show 0 0 0 lits 0 0 0 0 kinds 0 0 0 0 reasons 0 0 0 0 out";
+    talk.say("show", fresh);
+    talk.say("run 0 1 -2147483648 -1", "run 0 1 1 0 1 0");
+    let decided = "show 1 1 0 lits -1 0 0 0 kinds 1 0 0 0 reasons 0 0 0 0 out";
+    talk.say("show", decided);
     talk.say(&line("block", &l()), "block 9");
     talk
 }
@@ -346,20 +433,20 @@ fn with_first_group(k: i32) -> Vec<i32> {
 fn largest_block() -> Talk {
     let mut talk = Talk::at("the largest block", &of_counts(1024, 4096, 8192), 2);
     talk.say("open 0", "open 0 0 0 0");
-    talk.say("run 0 511", "run 0 511 511 0 511");
+    talk.say("run 0 511", "run 0 511 511 0 511 0");
     talk.say("step 511 1024", "step 16");
-    talk.say("step 511 0", "step 0 512 512 0");
+    talk.say("step 511 0", "step 0 512 512 0 0");
     talk.say("step 512 1025", "step 17");
-    talk.say("step 512 -1024", "step 0 513 513 0");
+    talk.say("step 512 -1024", "step 0 513 513 0 0");
     talk.say("step 513 1024", "step 17");
-    talk.say("run 513 4294967295", "run 0 1024 1025 1 512");
+    talk.say("run 513 4294967295", "run 0 1024 1025 1 512 0");
     let odd = (1..1024).step_by(2);
     let even = (2..1024).step_by(2);
     let literals: Vec<i32> = odd.chain([-1024]).chain(even).collect();
     let kinds = [[0; 512], [1; 512]].concat();
     talk.say(
         "show",
-        &shown("show 1024 1025 1", &literals, &kinds, " 7 7"),
+        &shown("show 1024 1025 1", &literals, &kinds, &[0; 1024], " 7 7"),
     );
     talk.say("page 0 1", "page 19");
     talk
@@ -380,29 +467,38 @@ fn most_levels() -> Talk {
         0,
     );
     talk.say("open 0", "open 0 0 0 0");
-    talk.say("step 0 0", "step 0 1 1 0");
-    talk.say("step 1 0", "step 0 2 2 0");
+    talk.say("step 0 0", "step 0 1 1 0 2");
+    talk.say("step 1 0", "step 0 2 2 0 3");
     talk.say("step 2 2", "step 17");
-    talk.say("run 2 1022", "run 0 1024 1024 0 1022");
+    talk.say("run 2 1022", "run 0 1024 1024 0 1022 0");
     let mut literals: Vec<i32> = [1022, 1024].into_iter().chain(1..=1021).collect();
     literals.push(1023);
     let decided = |literal: &i32| if literal % 2 == 1 { 2 } else { 1 };
     let mut kinds: Vec<i32> = literals.iter().map(decided).collect();
     kinds[..2].fill(0);
-    talk.say("show", &shown("show 1024 1024 0", &literals, &kinds, ""));
-    talk.say("step 1024 0", "step 0 1024 1025 0");
-    talk.say("step 1025 0", "step 0 1023 1026 0");
+    let mut reasons = [0; 1024];
+    reasons[..2].copy_from_slice(&[2, 3]);
+    talk.say(
+        "show",
+        &shown("show 1024 1024 0", &literals, &kinds, &reasons, ""),
+    );
+    talk.say("step 1024 0", "step 0 1024 1025 0 0");
+    talk.say("step 1025 0", "step 0 1023 1026 0 0");
     literals[1022..].copy_from_slice(&[-1021, 0]);
     kinds[1022..].fill(0);
-    talk.say("show", &shown("show 1023 1026 0", &literals, &kinds, ""));
+    talk.say(
+        "show",
+        &shown("show 1023 1026 0", &literals, &kinds, &reasons, ""),
+    );
     talk
 }
 
 /// What `show` answers.
-fn shown(session: &str, literals: &[i32], kinds: &[i32], output: &str) -> String {
+fn shown(session: &str, literals: &[i32], kinds: &[i32], reasons: &[u32], output: &str) -> String {
     let literals = line(" lits", literals);
     let kinds = line(" kinds", kinds);
-    format!("{session}{literals}{kinds} out{output}")
+    let reasons = line(" reasons", reasons);
+    format!("{session}{literals}{kinds}{reasons} out{output}")
 }
 
 /// G with two more variables: where 1 is true, the first choice for 5 leads to
@@ -416,7 +512,7 @@ fn paused_after_entries() -> Talk {
     talk.say("page 0 12", "page 0 2 1 1 1 1");
     talk.say(
         "show",
-        "show 0 0 0 lits 0 0 0 0 0 0 kinds 0 0 0 0 0 0 out 1 1 7 7 7 7",
+        "show 0 0 0 lits 0 0 0 0 0 0 kinds 0 0 0 0 0 0 reasons 9 9 9 9 9 9 out 1 1 7 7 7 7",
     );
     talk.say("page 2 12", "page 0 2 0 1");
     talk.say("page 2 13", "page 0 4 2 0 2 1 3 2");
@@ -432,6 +528,7 @@ fn repeated_on_short_buffers() -> Talk {
     talk.say("session 0 0 0", "session");
     talk.say("lits", "lits 0");
     talk.say("kinds", "kinds 0");
+    talk.say("reasons", "reasons 0");
     talk.say("open 0", "open 23");
     talk.say("step 0 0", "step 23");
     talk.say("run 0 1", "run 23");

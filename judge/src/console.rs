@@ -21,18 +21,20 @@
 //!   allowed, in any number. `-0` is 0 and fits every place, the unsigned ones
 //!   too. `+5`, `-` and `5.0` are no numbers.
 //! - The state of a session is 0, 1 or 2; other numbers don't fit their place.
-//! - The room for the record is 2,048 places for each of its two buffers.
+//! - The room for the record is 2,048 places for each of its three buffers.
 //!   Preferences have no room of their own; their number is bounded by the
 //!   line's length.
 //! - `block W..` replaces the block also when the check refuses it. All other
 //!   refused calls, and all lines answered with `?`, change nothing.
-//! - An empty buffer is shown as its name alone: `show 0 0 0 lits kinds out`.
+//! - An empty buffer is shown as its name alone: `show 0 0 0 lits kinds reasons
+//!   out`.
+//! - `page` neither looks at the reasons buffer nor writes to it.
 
 use std::fmt::Display;
 
 use crate::block;
 use crate::hits::Hits;
-use crate::page::{self, Ask};
+use crate::page::{self, Ask, Work};
 use crate::session::{self, Lent, Session, State};
 
 pub const BLOCK_ROOM: usize = 16_384;
@@ -40,12 +42,14 @@ pub const RECORD_ROOM: usize = 2_048;
 pub const OUTPUT_ROOM: usize = 8_192;
 pub const LINE_ROOM: usize = 262_144;
 
-/// "The desk holds a block, a literals buffer, a kinds buffer, an output buffer
-/// and a session". "At the start everything is empty and the session is 0 0 0."
+/// "The desk holds a block, a literals buffer, a kinds buffer, a reasons buffer, an
+/// output buffer and a session". "At the start everything is empty and the session
+/// is 0 0 0."
 pub struct Desk {
     pub block: Vec<i32>,
     pub literals: Vec<i32>,
     pub kinds: Vec<u8>,
+    pub reasons: Vec<u32>,
     pub output: Vec<u32>,
     pub session: Session,
     /// The rules that its steps, runs and pages have applied so far.
@@ -58,6 +62,7 @@ impl Default for Desk {
             block: Vec::new(),
             literals: Vec::new(),
             kinds: Vec::new(),
+            reasons: Vec::new(),
             output: Vec::new(),
             session: Session {
                 length: 0,
@@ -91,6 +96,7 @@ impl Desk {
             b"block" => self.set_block(words),
             b"lits" => set(&mut self.literals, "lits", words, RECORD_ROOM),
             b"kinds" => set(&mut self.kinds, "kinds", words, RECORD_ROOM),
+            b"reasons" => set(&mut self.reasons, "reasons", words, RECORD_ROOM),
             b"out" => set(&mut self.output, "out", words, OUTPUT_ROOM),
             b"session" => self.set_session(words),
             b"open" => self.open(words),
@@ -120,7 +126,7 @@ impl Desk {
     fn open(&mut self, words: &[&[u8]]) -> Option<String> {
         let [revision] = <[_; 1]>::try_from(words).ok()?;
         let revision = number(revision)?;
-        let (block, lent, _) = self.lend();
+        let (block, lent) = self.lend();
         Some(match session::open(block, lent, revision) {
             Ok(session) => format!("open 0 {}", self.taken(session)),
             Err(number) => format!("open {number}"),
@@ -131,11 +137,11 @@ impl Desk {
         let [seen, proposal] = <[_; 2]>::try_from(words).ok()?;
         let (seen, proposal) = (number(seen)?, number(proposal)?);
         let session = self.session;
-        let (block, lent, _) = self.lend();
+        let (block, lent) = self.lend();
         Some(match session.step(block, lent, seen, proposal) {
             Ok(done) => {
                 self.hits[0].add(&done.hits);
-                format!("step 0 {}", self.taken(done.session))
+                format!("step 0 {} {}", self.taken(done.session), done.reason)
             }
             Err(number) => format!("step {number}"),
         })
@@ -146,11 +152,12 @@ impl Desk {
         let (budget, words) = words.split_first()?;
         let (seen, budget, preferred) = (number(seen)?, number(budget)?, numbers(words)?);
         let session = self.session;
-        let (block, lent, _) = self.lend();
+        let (block, lent) = self.lend();
         Some(match session.run(block, lent, seen, budget, &preferred) {
             Ok(done) => {
                 self.hits[1].add(&done.hits);
-                format!("run 0 {} {}", self.taken(done.session), done.count)
+                let session = self.taken(done.session);
+                format!("run 0 {session} {} {}", done.count, done.reason)
             }
             Err(number) => format!("run {number}"),
         })
@@ -165,8 +172,11 @@ impl Desk {
             budget: number(budget)?,
             preferred: &preferred,
         };
-        let (block, lent, output) = self.lend();
-        Some(match page::page(block, lent, ask, output) {
+        let work = Work {
+            literals: &mut self.literals,
+            kinds: &mut self.kinds,
+        };
+        Some(match page::page(&self.block, work, ask, &mut self.output) {
             Ok(done) => {
                 self.hits[2].add(&done.hits);
                 let written = &self.output[..2 * done.entries as usize];
@@ -185,16 +195,18 @@ impl Desk {
         let line = format!("show {}", told(self.session));
         let line = joined(line + " lits", &self.literals);
         let line = joined(line + " kinds", &self.kinds);
+        let line = joined(line + " reasons", &self.reasons);
         Some(joined(line + " out", &self.output))
     }
 
-    /// The block, the record and the output, "exactly as they are".
-    fn lend(&mut self) -> (&[i32], Lent<'_>, &mut [u32]) {
+    /// The block and the record, "exactly as they are".
+    fn lend(&mut self) -> (&[i32], Lent<'_>) {
         let lent = Lent {
             literals: &mut self.literals,
             kinds: &mut self.kinds,
+            reasons: &mut self.reasons,
         };
-        (&self.block, lent, &mut self.output)
+        (&self.block, lent)
     }
 
     fn taken(&mut self, session: Session) -> String {

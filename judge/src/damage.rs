@@ -2,7 +2,7 @@
 //! an accepted record. Not every try lands (a block may lack the part that it
 //! would break); the check says what came of it.
 
-use crate::block::{LIMITS, ROWS};
+use crate::block::{Formula, LIMITS, ROWS};
 use crate::dice::Dice;
 use crate::record::Entry;
 
@@ -150,16 +150,32 @@ fn beside(dice: &mut Dice, words: &mut [i32], sign: i32) {
 }
 
 /// One entry that row 12 refuses, if the record has any.
-pub fn break_entry(dice: &mut Dice, record: &mut [Entry], v: i32) {
+pub fn break_entry(dice: &mut Dice, record: &mut [Entry], formula: &Formula) {
     if record.is_empty() {
         return;
     }
+    let v = formula.variables() as i32;
     let place = dice.below(record.len());
     let other = record[dice.below(record.len())].literal;
-    match dice.below(4) {
+    match dice.weighted(&[2, 2, 2, 2, 4, 3]) {
         0 => record[place].literal = dice.pick(&[0, v + 1, -v - 1, i32::MIN, i32::MAX]),
         1 => record[place].literal = dice.pick(&[other, -other]),
         2 => record[place].kind = dice.pick(&[3, 4, 255]),
-        _ => record[place].kind = dice.pick(&[1, 2]),
+        3 => record[place].kind = dice.pick(&[1, 2]),
+        4 => record[place].reason = reason_over(dice, formula),
+        _ => explain_decision(dice, record, formula),
+    }
+}
+
+fn reason_over(dice: &mut Dice, formula: &Formula) -> u32 {
+    let over = formula.clauses.len() as u32 + 1;
+    dice.pick(&[over, over, over + 1, 1 << 31, u32::MAX])
+}
+
+/// A reason beside a decision, if there is one.
+fn explain_decision(dice: &mut Dice, record: &mut [Entry], formula: &Formula) {
+    let most = formula.clauses.len().max(1);
+    if let Some(entry) = record.iter_mut().rfind(|entry| entry.kind != 0) {
+        entry.reason = 1 + dice.below(most) as u32;
     }
 }

@@ -118,8 +118,10 @@ impl Play {
     fn lend_buffers(&mut self, variables: usize) {
         let lengths = [0, 0, 1, 3].map(|more| variables + more);
         let (lits, kinds) = (self.dice.pick(&lengths), self.dice.pick(&lengths));
+        let reasons = self.dice.pick(&lengths);
         self.say_literals(lits);
         self.say_kinds(kinds);
+        self.say_reasons(reasons);
     }
 
     fn say_literals(&mut self, count: usize) {
@@ -131,6 +133,19 @@ impl Play {
         let dice = &mut self.dice;
         let kinds: Vec<u8> = (0..count).map(|_| dice.pick(&[0, 1, 2, 3, 255])).collect();
         self.say(line("kinds", &kinds));
+    }
+
+    fn say_reasons(&mut self, count: usize) {
+        let words: Vec<u32> = (0..count).map(|_| self.any_reason()).collect();
+        self.say(line("reasons", &words));
+    }
+
+    /// None, a clause's, the number just over C, or one at an edge.
+    fn any_reason(&mut self) -> u32 {
+        let clauses = self.formula.as_ref().map_or(3, |of| of.clauses.len());
+        let some = self.dice.below(clauses + 2) as u32;
+        self.dice
+            .pick(&[0, 0, some, some, clauses as u32 + 1, u32::MAX])
     }
 
     fn say_output(&mut self) {
@@ -164,7 +179,8 @@ impl Play {
     /// The record on the desk, or its refusal.
     fn record(&self, formula: &Formula) -> Result<Vec<Entry>, u8> {
         let desk = &self.desk;
-        record::read(formula, &desk.literals, &desk.kinds, desk.session.length)
+        let (literals, kinds, reasons) = (&desk.literals, &desk.kinds, &desk.reasons);
+        record::read(formula, literals, kinds, reasons, desk.session.length)
     }
 
     fn act(&mut self) {
@@ -359,12 +375,15 @@ impl Play {
         let more = self.dice.pick(&[0, 0, 2]);
         let mut literals: Vec<i32> = record.iter().map(|entry| entry.literal).collect();
         let mut kinds: Vec<u8> = record.iter().map(|entry| entry.kind).collect();
+        let mut reasons: Vec<u32> = record.iter().map(|entry| entry.reason).collect();
         while literals.len() < variables + more {
             literals.push(self.any_literal());
             kinds.push(self.dice.pick(&[0, 2, 9]));
+            reasons.push(self.any_reason());
         }
         self.say(line("lits", &literals));
         self.say(line("kinds", &kinds));
+        self.say(line("reasons", &reasons));
     }
 
     /// Steps from a session of this length.
@@ -395,7 +414,7 @@ impl Play {
             self.short_buffers(v);
         } else {
             let mut record = shapes::record(&mut self.dice, &formula);
-            break_entry(&mut self.dice, &mut record, v as i32);
+            break_entry(&mut self.dice, &mut record, &formula);
             self.say_record(&record, v);
             let state = self.dice.pick(&[0, 0, 0, 1]);
             self.step_at(record.len(), state);
@@ -408,13 +427,13 @@ impl Play {
         self.say_open();
     }
 
-    /// One of the two record buffers shorter than V.
+    /// One of the three record buffers shorter than V.
     fn short_buffers(&mut self, v: usize) {
         let short = self.dice.pick(&[v - 1, v - 1, 0]);
-        if self.dice.chance(1, 2) {
-            self.say_literals(short);
-        } else {
-            self.say_kinds(short);
+        match self.dice.below(3) {
+            0 => self.say_literals(short),
+            1 => self.say_kinds(short),
+            _ => self.say_reasons(short),
         }
         self.calls_of_each_kind();
     }

@@ -23,9 +23,9 @@ pub struct Hits(pub [u64; 9]);
 impl Hits {
     pub fn note(&mut self, formula: &Formula, rule: Rule, proposal: i32) {
         let place = match rule {
-            Rule::BacktrackExists(_) => 0,
-            Rule::Fail => 1,
-            Rule::Unit(_) => 2,
+            Rule::BacktrackExists(..) => 0,
+            Rule::Fail(_) => 1,
+            Rule::Unit(..) => 2,
             Rule::Monotone(literal) if formula.existential(literal) => 3,
             Rule::Monotone(_) => 4,
             Rule::Decide if proposal != 0 => 5,

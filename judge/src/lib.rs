@@ -2,6 +2,7 @@
 //! compare answers with. It shares nothing with the solver.
 
 pub mod bench;
+pub mod blame;
 pub mod block;
 pub mod cases;
 pub mod console;

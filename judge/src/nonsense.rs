@@ -10,7 +10,7 @@ pub fn line(dice: &mut Dice, revision: u64) -> String {
         return more_than_the_room(dice);
     }
     let bad = dice.pick(&BAD_NUMBERS);
-    match dice.below(12) {
+    match dice.below(13) {
         0 => format!("open {bad}"),
         1 => format!("step {revision} {bad}"),
         2 => format!("step {bad} 0"),
@@ -22,6 +22,7 @@ pub fn line(dice: &mut Dice, revision: u64) -> String {
         8 => format!("block 0 0 0 6 6 {}", dice.pick(&BAD_WORDS)),
         9 => format!("kinds 0 {bad}"),
         10 => format!("out 1 {bad}"),
+        11 => format!("reasons 1 {bad}"),
         _ => dice.pick(&BAD_LINES).to_string(),
     }
 }
@@ -31,6 +32,7 @@ fn more_than_the_room(dice: &mut Dice) -> String {
     let rooms = [
         ("lits", RECORD_ROOM),
         ("kinds", RECORD_ROOM),
+        ("reasons", RECORD_ROOM),
         ("out", OUTPUT_ROOM),
     ];
     let (command, room) = dice.pick(&rooms);

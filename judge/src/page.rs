@@ -24,9 +24,15 @@ pub struct Ask<'a> {
     pub preferred: &'a [i32],
 }
 
+/// The work record. A page is lent no reasons.
+pub struct Work<'a> {
+    pub literals: &'a mut [i32],
+    pub kinds: &'a mut [u8],
+}
+
 /// A page. "Output past the entries is untouched; the first V places of the
 /// work record are 0 after it."
-pub fn page(block: &[i32], work: Lent, ask: Ask, output: &mut [u32]) -> Result<Page, u8> {
+pub fn page(block: &[i32], work: Work, ask: Ask, output: &mut [u32]) -> Result<Page, u8> {
     let formula = guard(block, &work, ask.start, output)?;
     let answer = list(&formula, ask, output);
     work.literals[..formula.variables()].fill(0);
@@ -35,9 +41,9 @@ pub fn page(block: &[i32], work: Lent, ask: Ask, output: &mut [u32]) -> Result<P
 }
 
 /// The refusals of a page, in the table's order.
-fn guard(block: &[i32], work: &Lent, start: u32, output: &[u32]) -> Result<Formula, u8> {
+fn guard(block: &[i32], work: &Work, start: u32, output: &[u32]) -> Result<Formula, u8> {
     let formula = Formula::read(block)?;
-    if record::buffers_short(&formula, work.literals, work.kinds) {
+    if record::buffers_short(&formula, &[work.literals.len(), work.kinds.len()]) {
         return Err(11);
     }
     if formula.first_group_universal() {
@@ -98,13 +104,16 @@ fn search(formula: &Formula, opening: u32, ask: Ask, hits: &mut Hits) -> State {
         .map(|(variable, value)| Entry {
             literal: if value { variable } else { -variable },
             kind: FORCED,
+            reason: 0,
         })
         .collect();
     let mut literals = vec![0; formula.variables()];
     let mut kinds = vec![0; formula.variables()];
+    let mut reasons = vec![0; formula.variables()];
     let lent = Lent {
         literals: &mut literals,
         kinds: &mut kinds,
+        reasons: &mut reasons,
     };
     let mut search = Search::from(formula, start, lent);
     search.go(ask.budget, ask.preferred);

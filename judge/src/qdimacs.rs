@@ -56,12 +56,13 @@ impl Asked {
     }
 
     /// A record of V places, a new session, and a run to its end.
-    pub fn lines(&self) -> [String; 5] {
+    pub fn lines(&self) -> [String; 6] {
         let zeros = vec![0; self.prefix.len()];
         [
             line("block", &lay_out(&self.prefix, &self.clauses)),
             line("lits", &zeros),
             line("kinds", &zeros),
+            line("reasons", &zeros),
             "open 0".to_string(),
             format!("run 0 {}", u32::MAX),
         ]

@@ -6,15 +6,19 @@ use std::collections::HashSet;
 use crate::block::Formula;
 use crate::record::{Entry, EXISTENTIAL_DECISION, FORCED, UNIVERSAL_DECISION};
 
+/// A clause by its number, which is 0 for the first.
+#[derive(Clone, Copy, Debug, PartialEq, Eq)]
+pub struct Clause(pub usize);
+
 /// "The due rule is the first that applies".
 #[derive(Clone, Copy, Debug, PartialEq, Eq)]
 pub enum Rule {
-    /// A conflict, with the place of the last kind 1 entry.
-    BacktrackExists(usize),
-    /// A conflict, with no such entry.
-    Fail,
-    /// The literal of the lowest unit clause.
-    Unit(i32),
+    /// The lowest clause in conflict, and the place of the last kind 1 entry.
+    BacktrackExists(Clause, usize),
+    /// The lowest clause in conflict, with no such entry.
+    Fail(Clause),
+    /// The lowest unit clause, and its literal.
+    Unit(Clause, i32),
     /// The literal that a monotone variable takes.
     Monotone(i32),
     /// Some variable is unassigned, and nothing above applies.
@@ -25,17 +29,30 @@ pub enum Rule {
     Succeed,
 }
 
+impl Rule {
+    /// [step.reason]: that of the unit clause or of the lowest clause in conflict,
+    /// else 0.
+    pub fn reason(self) -> u32 {
+        match self {
+            Rule::BacktrackExists(clause, _) | Rule::Fail(clause) | Rule::Unit(clause, _) => {
+                clause.0 as u32 + 1
+            }
+            Rule::Monotone(_) | Rule::Decide | Rule::BacktrackForall(_) | Rule::Succeed => 0,
+        }
+    }
+}
+
 /// The due rule of a record.
 pub fn due(formula: &Formula, record: &[Entry]) -> Rule {
     let values = Values::of(formula, record);
-    if values.some_conflict() {
+    if let Some(clause) = values.conflict() {
         return match last_of_kind(record, EXISTENTIAL_DECISION) {
-            Some(place) => Rule::BacktrackExists(place),
-            None => Rule::Fail,
+            Some(place) => Rule::BacktrackExists(clause, place),
+            None => Rule::Fail(clause),
         };
     }
-    if let Some(literal) = values.unit() {
-        return Rule::Unit(literal);
+    if let Some((clause, literal)) = values.unit() {
+        return Rule::Unit(clause, literal);
     }
     if let Some(literal) = values.monotone() {
         return Rule::Monotone(literal);
@@ -50,13 +67,15 @@ pub fn due(formula: &Formula, record: &[Entry]) -> Rule {
 }
 
 /// The record after the rule. "Fail and Succeed leave the record." The
-/// proposal matters at Decide only: 0, or an open literal.
+/// proposal matters at Decide only: 0, or an open literal. [reasons.unit]: an
+/// entry that Unit made has its reason, every other one 0.
 pub fn apply(formula: &Formula, record: &[Entry], rule: Rule, proposal: i32) -> Vec<Entry> {
     match rule {
-        Rule::BacktrackExists(place) | Rule::BacktrackForall(place) => turned(record, place),
-        Rule::Unit(literal) | Rule::Monotone(literal) => extended(record, literal, FORCED),
+        Rule::BacktrackExists(_, place) | Rule::BacktrackForall(place) => turned(record, place),
+        Rule::Unit(_, literal) => extended(record, literal, FORCED, rule.reason()),
+        Rule::Monotone(literal) => extended(record, literal, FORCED, 0),
         Rule::Decide => decided(formula, record, proposal),
-        Rule::Fail | Rule::Succeed => record.to_vec(),
+        Rule::Fail(_) | Rule::Succeed => record.to_vec(),
     }
 }
 
@@ -93,18 +112,22 @@ fn decided(formula: &Formula, record: &[Entry], proposal: i32) -> Vec<Entry> {
     } else {
         UNIVERSAL_DECISION
     };
-    extended(record, literal, kind)
+    extended(record, literal, kind, 0)
 }
 
-fn extended(record: &[Entry], literal: i32, kind: u8) -> Vec<Entry> {
+fn extended(record: &[Entry], literal: i32, kind: u8, reason: u32) -> Vec<Entry> {
     let mut next = record.to_vec();
-    next.push(Entry { literal, kind });
+    next.push(Entry {
+        literal,
+        kind,
+        reason,
+    });
     next
 }
 
 /// "Cut the record at its last kind 1 entry and put the opposite there, kind 0."
 fn turned(record: &[Entry], place: usize) -> Vec<Entry> {
-    extended(&record[..place], -record[place].literal, FORCED)
+    extended(&record[..place], -record[place].literal, FORCED, 0)
 }
 
 fn last_of_kind(record: &[Entry], kind: u8) -> Option<usize> {
@@ -160,24 +183,29 @@ impl<'a> Values<'a> {
         })
     }
 
+    /// The clauses with no true literal, from the lowest on.
+    fn without_truth(&self) -> impl Iterator<Item = (Clause, Left)> + '_ {
+        let all = 0..self.formula.clauses.len();
+        all.filter_map(|clause| Some((Clause(clause), self.left(clause)?)))
+    }
+
     /// "A clause is in conflict if it has no true literal and no unassigned
-    /// existential literal."
-    fn some_conflict(&self) -> bool {
-        (0..self.formula.clauses.len())
-            .filter_map(|clause| self.left(clause))
-            .any(|left| left.existential.is_empty())
+    /// existential literal." The lowest such one.
+    fn conflict(&self) -> Option<Clause> {
+        let mut clauses = self.without_truth();
+        let found = clauses.find(|(_, left)| left.existential.is_empty());
+        found.map(|(clause, _)| clause)
     }
 
     /// "the lowest clause with no true literal, exactly one unassigned
     /// existential literal l, and each unassigned universal literal at a higher
-    /// level than l".
-    fn unit(&self) -> Option<i32> {
-        (0..self.formula.clauses.len())
-            .filter_map(|clause| self.left(clause))
-            .find_map(|left| match left.existential[..] {
-                [literal] if self.all_higher(&left.universal, literal) => Some(literal),
-                _ => None,
-            })
+    /// level than l", and that l.
+    fn unit(&self) -> Option<(Clause, i32)> {
+        let mut clauses = self.without_truth();
+        clauses.find_map(|(clause, left)| match left.existential[..] {
+            [literal] if self.all_higher(&left.universal, literal) => Some((clause, literal)),
+            _ => None,
+        })
     }
 
     fn all_higher(&self, universal: &[i32], literal: i32) -> bool {

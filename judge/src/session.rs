@@ -26,41 +26,52 @@ pub struct Session {
 }
 
 /// The record as it is lent: "two lent buffers, signed words for literals and
-/// bytes for kinds".
+/// bytes for kinds"; and the [reasons], a third one beside them.
 pub struct Lent<'a> {
     pub literals: &'a mut [i32],
     pub kinds: &'a mut [u8],
+    pub reasons: &'a mut [u32],
 }
 
-/// An accepted step: the next session and the rule that was due.
+/// An accepted step: the next session, the rule that was due and its reason.
 #[derive(Clone, Copy, Debug, PartialEq, Eq)]
 pub struct Stepped {
     pub session: Session,
     pub rule: Rule,
+    pub reason: u32,
     pub hits: Hits,
 }
 
 /// An accepted run: "It answers the session and the count of accepted steps".
+/// [run.reason]: and the last one's reason, 0 if there was none.
 #[derive(Clone, Copy, Debug, PartialEq, Eq)]
 pub struct Ran {
     pub session: Session,
     pub count: u32,
+    pub reason: u32,
     pub hits: Hits,
 }
 
 /// Opening, refusals 1 to 10, 23 and 11. "Opening sets the first V places to 0."
 pub fn open(block: &[i32], lent: Lent, first_revision: u64) -> Result<Session, u8> {
     let formula = Formula::read(block)?;
-    if record::buffers_short(&formula, lent.literals, lent.kinds) {
+    if record::buffers_short(&formula, &lent.lengths()) {
         return Err(11);
     }
     lent.literals[..formula.variables()].fill(0);
     lent.kinds[..formula.variables()].fill(0);
+    lent.reasons[..formula.variables()].fill(0);
     Ok(Session {
         length: 0,
         revision: first_revision,
         state: State::Open,
     })
+}
+
+impl Lent<'_> {
+    fn lengths(&self) -> [usize; 3] {
+        [self.literals.len(), self.kinds.len(), self.reasons.len()]
+    }
 }
 
 impl Session {
@@ -82,6 +93,7 @@ impl Session {
         Ok(Stepped {
             session: search.session(self.revision + 1),
             rule,
+            reason: search.reason,
             hits: search.hits,
         })
     }
@@ -105,6 +117,7 @@ impl Session {
         Ok(Ran {
             session: search.session(self.revision + u64::from(count)),
             count,
+            reason: search.reason,
             hits: search.hits,
         })
     }
@@ -112,7 +125,12 @@ impl Session {
     /// What step and run refuse alike: rows 1 to 14, in the table's order.
     fn guard(&self, block: &[i32], lent: &Lent, seen: u64) -> Result<(Formula, Vec<Entry>), u8> {
         let formula = Formula::read(block)?;
-        let record = record::read(&formula, lent.literals, lent.kinds, self.length)?;
+        let Lent {
+            literals,
+            kinds,
+            reasons,
+        } = lent;
+        let record = record::read(&formula, literals, kinds, reasons, self.length)?;
         if self.state != State::Open {
             return Err(13);
         }
@@ -129,6 +147,8 @@ pub struct Search<'a> {
     record: Vec<Entry>,
     lent: Lent<'a>,
     pub state: State,
+    /// That of the last step, 0 before the first.
+    reason: u32,
     pub hits: Hits,
 }
 
@@ -140,6 +160,7 @@ impl<'a> Search<'a> {
             record,
             lent,
             state: State::Open,
+            reason: 0,
             hits: Hits::default(),
         }
     }
@@ -164,8 +185,9 @@ impl<'a> Search<'a> {
         let next = rules::apply(self.formula, &self.record, rule, proposal);
         self.show(&next);
         self.record = next;
+        self.reason = rule.reason();
         self.state = match rule {
-            Rule::Fail => State::Unsat,
+            Rule::Fail(_) => State::Unsat,
             Rule::Succeed => State::Valid,
             _ => State::Open,
         };
@@ -173,15 +195,17 @@ impl<'a> Search<'a> {
 
     /// Writes the next record over the last one. "A cut sets the places from
     /// the new to the old length to 0 in both buffers. [...] No other place is
-    /// written."
+    /// written." [reasons.cut]: the same holds of the reasons.
     fn show(&mut self, next: &[Entry]) {
         for (place, entry) in next.iter().enumerate() {
             self.lent.literals[place] = entry.literal;
             self.lent.kinds[place] = entry.kind;
+            self.lent.reasons[place] = entry.reason;
         }
         for place in next.len()..self.record.len() {
             self.lent.literals[place] = 0;
             self.lent.kinds[place] = 0;
+            self.lent.reasons[place] = 0;
         }
     }
 

@@ -172,7 +172,8 @@ fn of_counts(dice: &mut Dice, (variables, count, words): (usize, usize, usize)) 
     lay_out(&prefix, &clauses)
 }
 
-/// A record that the check accepts, though no search may lead to it.
+/// A record that the check accepts, though no search may lead to it. Any forced
+/// entry may have a reason.
 pub fn record(dice: &mut Dice, formula: &Formula) -> Vec<Entry> {
     let mut variables: Vec<i32> = formula.order().collect();
     if dice.chance(2, 3) {
@@ -181,9 +182,12 @@ pub fn record(dice: &mut Dice, formula: &Formula) -> Vec<Entry> {
     variables.truncate(dice.below(variables.len() + 1));
     let entry = |&variable: &i32| {
         let decision = if formula.existential(variable) { 1 } else { 2 };
+        let kind = dice.pick(&[0, decision]);
+        let some = dice.below(formula.clauses.len() + 1) as u32;
         Entry {
             literal: variable * dice.pick(&[1, -1]),
-            kind: dice.pick(&[0, decision]),
+            kind,
+            reason: if kind == 0 { some } else { 0 },
         }
     };
     variables.iter().map(entry).collect()

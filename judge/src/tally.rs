@@ -4,14 +4,15 @@
 use std::collections::BTreeMap;
 use std::fmt;
 
+use crate::blame;
 use crate::console::Desk;
 use crate::hits::NAMES;
 
 /// The commands whose answer begins with a number of the table.
 const CALLS: [&str; 5] = ["block", "open", "step", "run", "page"];
 
-const COMMANDS: [&str; 10] = [
-    "block", "lits", "kinds", "out", "session", "open", "step", "run", "page", "show",
+const COMMANDS: [&str; 11] = [
+    "block", "lits", "kinds", "reasons", "out", "session", "open", "step", "run", "page", "show",
 ];
 
 #[derive(Default)]
@@ -22,6 +23,8 @@ pub struct Tally {
     answers: BTreeMap<String, u64>,
     /// Answers to calls by number, 0 being an accepted one, and command.
     numbers: BTreeMap<(u8, String), u64>,
+    /// Refusals that the reasons buffer alone is to blame for, by what it was.
+    blames: [u64; 3],
 }
 
 impl Tally {
@@ -30,6 +33,18 @@ impl Tally {
         self.lines += 1;
         if let Some(answer) = self.desk.answer(line) {
             self.note_answer(&answer);
+            self.note_blame(&answer);
+        }
+    }
+
+    fn note_blame(&mut self, answer: &str) {
+        let row = match answer {
+            "open 11" | "step 11" | "run 11" => 11,
+            "step 12" | "run 12" => 12,
+            _ => return,
+        };
+        if let Some(place) = blame::of(&self.desk, row) {
+            self.blames[place] += 1;
         }
     }
 
@@ -74,8 +89,8 @@ fn row(f: &mut fmt::Formatter, name: &str, parts: &[(&str, u64)]) -> fmt::Result
 }
 
 /// One count to a line: `lines N`, `answers N`, `no-command N` (the answer `?`),
-/// `command NAME N`, `accepted N`, `refusal NUMBER N` and `rule NAME N`, the last
-/// three with the share of each command behind.
+/// `command NAME N`, `blame NAME N`, `accepted N`, `refusal NUMBER N` and `rule NAME N`,
+/// the last three with the share of each command behind.
 impl fmt::Display for Tally {
     fn fmt(&self, f: &mut fmt::Formatter) -> fmt::Result {
         writeln!(f, "lines {}", self.lines)?;
@@ -83,6 +98,9 @@ impl fmt::Display for Tally {
         writeln!(f, "no-command {}", self.answered("?"))?;
         for command in COMMANDS {
             writeln!(f, "command {command} {}", self.answered(command))?;
+        }
+        for (name, count) in blame::NAMES.iter().zip(self.blames) {
+            writeln!(f, "blame {name} {count}")?;
         }
         self.number_row(f, "accepted", 0)?;
         for number in (1..=21).chain([23]) {

@@ -41,28 +41,35 @@ impl Session {
     }
 }
 
-/// A run: the next session and the count of accepted steps, or the number of
-/// its refusal (1 to 15), which leaves everything as it was.
+/// The record's three buffers.
+pub struct Lent<'a> {
+    pub literals: &'a mut [i32],
+    pub kinds: &'a mut [u8],
+    pub reasons: &'a mut [u32],
+}
+
+/// A run: the next session, the count of accepted steps and the last one's
+/// reason, or the number of its refusal (1 to 15), which leaves everything as it
+/// was.
 pub fn run(
     session: Session,
     block: &[i32],
-    literals: &mut [i32],
-    kinds: &mut [u8],
+    lent: Lent,
     seen: u64,
     budget: u32,
     preferred: &[i32],
-) -> Result<(Session, u32), u8> {
+) -> Result<(Session, u32, u32), u8> {
     let parts = Parts::of(block)?;
     let mut tables = Tables::of(&parts);
-    tables.take_record(&parts, literals, kinds, session.length)?;
+    tables.take_record(&parts, &lent, session.length)?;
     session.guard(seen, budget)?;
     let mut search = Search {
         parts,
         tables,
-        literals,
-        kinds,
+        lent,
         length: session.length as usize,
         state: OPEN,
+        reason: 0,
     };
     let mut count = 0;
     while search.state == OPEN && count < budget {
@@ -74,7 +81,7 @@ pub fn run(
         revision: session.revision + u64::from(count),
         state: search.state,
     };
-    Ok((next, count))
+    Ok((next, count, search.reason))
 }
 
 /// The three parts of an accepted block.
@@ -218,21 +225,16 @@ impl Tables {
     }
 
     /// Refusals 11 and 12; the values of an accepted record.
-    fn take_record(
-        &mut self,
-        parts: &Parts,
-        literals: &[i32],
-        kinds: &[u8],
-        length: u64,
-    ) -> Result<(), u8> {
+    fn take_record(&mut self, parts: &Parts, lent: &Lent, length: u64) -> Result<(), u8> {
         let v = parts.prefix.len();
-        if literals.len() < v || kinds.len() < v {
+        if lent.literals.len() < v || lent.kinds.len() < v || lent.reasons.len() < v {
             return Err(11);
         }
         if length > v as u64 {
             return Err(12);
         }
-        for (&literal, &kind) in literals.iter().zip(kinds).take(length as usize) {
+        for place in 0..length as usize {
+            let (literal, kind) = (lent.literals[place], lent.kinds[place]);
             if !parts.names(literal) || self.value[size(literal)] != 0 {
                 return Err(12);
             }
@@ -242,6 +244,10 @@ impl Tables {
                 2
             };
             if kind != 0 && kind != decision {
+                return Err(12);
+            }
+            let most = if kind == 0 { parts.ends.len() } else { 0 };
+            if lent.reasons[place] as usize > most {
                 return Err(12);
             }
             self.set(literal);
@@ -267,38 +273,42 @@ impl Tables {
 struct Search<'a> {
     parts: Parts<'a>,
     tables: Tables,
-    literals: &'a mut [i32],
-    kinds: &'a mut [u8],
+    lent: Lent<'a>,
     length: usize,
     state: u8,
+    /// The last step's: the number of a clause plus one, or 0.
+    reason: u32,
 }
 
 impl Search<'_> {
     /// Applies the due rule.
     fn step(&mut self, preferred: &[i32]) {
-        if self.conflict() {
+        self.reason = self.conflict();
+        if self.reason != 0 {
             return self.turn(1, UNSAT);
         }
-        let unit = self.unit();
+        let (unit, reason) = self.unit();
         if unit != 0 {
-            return self.append(unit, 0);
+            self.reason = reason;
+            return self.append(unit, 0, reason);
         }
         let monotone = self.monotone();
         if monotone != 0 {
-            return self.append(monotone, 0);
+            return self.append(monotone, 0, 0);
         }
         if self.length == self.parts.prefix.len() {
             return self.turn(2, VALID);
         }
         let literal = self.choose(preferred);
         let existential = self.tables.existential[size(literal)];
-        self.append(literal, if existential { 1 } else { 2 });
+        self.append(literal, if existential { 1 } else { 2 }, 0);
     }
 
-    /// Whether some clause has no true and no unassigned existential literal.
-    fn conflict(&self) -> bool {
+    /// The reason of the lowest clause with no true and no unassigned existential
+    /// literal, 0 if there is none.
+    fn conflict(&self) -> u32 {
         let mut start = 0;
-        'clauses: for &end in self.parts.ends {
+        'clauses: for (reason, &end) in (1..).zip(self.parts.ends) {
             let clause = &self.parts.words[start..end as usize];
             start = end as usize;
             for &literal in clause {
@@ -307,15 +317,16 @@ impl Search<'_> {
                     continue 'clauses;
                 }
             }
-            return true;
+            return reason;
         }
-        false
+        0
     }
 
-    /// The literal of the lowest unit clause, 0 if there is none.
-    fn unit(&self) -> i32 {
+    /// The literal of the lowest unit clause and its reason, 0 and 0 if there is
+    /// none.
+    fn unit(&self) -> (i32, u32) {
         let mut start = 0;
-        'clauses: for &end in self.parts.ends {
+        'clauses: for (reason, &end) in (1..).zip(self.parts.ends) {
             let clause = &self.parts.words[start..end as usize];
             start = end as usize;
             let mut found = 0;
@@ -337,10 +348,10 @@ impl Search<'_> {
                 }
             }
             if found != 0 && lowest_universal > self.tables.level[size(found)] {
-                return found;
+                return (found, reason);
             }
         }
-        0
+        (0, 0)
     }
 
     /// The signs of each variable in the clauses with no true literal: 1 plus, 2
@@ -400,9 +411,10 @@ impl Search<'_> {
         first as i32
     }
 
-    fn append(&mut self, literal: i32, kind: u8) {
-        self.literals[self.length] = literal;
-        self.kinds[self.length] = kind;
+    fn append(&mut self, literal: i32, kind: u8, reason: u32) {
+        self.lent.literals[self.length] = literal;
+        self.lent.kinds[self.length] = kind;
+        self.lent.reasons[self.length] = reason;
         self.length += 1;
         self.tables.set(literal);
     }
@@ -410,7 +422,7 @@ impl Search<'_> {
     /// Goes back to the last entry of a kind and puts its opposite there; with
     /// no such entry the session ends and the record stays.
     fn turn(&mut self, kind: u8, end: u8) {
-        let record = &self.kinds[..self.length];
+        let record = &self.lent.kinds[..self.length];
         let place = match record.iter().rposition(|&other| other == kind) {
             Some(place) => place,
             None => {
@@ -418,13 +430,14 @@ impl Search<'_> {
                 return;
             }
         };
-        let opposite = -self.literals[place];
+        let opposite = -self.lent.literals[place];
         for cut in place..self.length {
-            self.tables.value[size(self.literals[cut])] = 0;
-            self.literals[cut] = 0;
-            self.kinds[cut] = 0;
+            self.tables.value[size(self.lent.literals[cut])] = 0;
+            self.lent.literals[cut] = 0;
+            self.lent.kinds[cut] = 0;
+            self.lent.reasons[cut] = 0;
         }
         self.length = place;
-        self.append(opposite, 0);
+        self.append(opposite, 0, 0);
     }
 }

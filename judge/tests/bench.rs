@@ -2,26 +2,22 @@
 
 use judge::bench::{trials, Trial, CLAUSES};
 use judge::block::{Formula, LIMITS};
-use judge::yardstick::{run, Session};
+use judge::yardstick::{run, Lent, Session};
 
 /// How many steps its run takes.
 fn steps(trial: &Trial) -> u32 {
     let v = trial.block[0] as usize;
-    let (mut literals, mut kinds) = (vec![0; v], vec![0; v]);
+    let lent = Lent {
+        literals: &mut vec![0; v],
+        kinds: &mut vec![0; v],
+        reasons: &mut vec![0; v],
+    };
     let fresh = Session {
         length: 0,
         revision: 0,
         state: 0,
     };
-    let ran = run(
-        fresh,
-        &trial.block,
-        &mut literals,
-        &mut kinds,
-        0,
-        trial.budget,
-        &[],
-    );
+    let ran = run(fresh, &trial.block, lent, 0, trial.budget, &[]);
     ran.expect("accepted").1
 }
 

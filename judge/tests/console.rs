@@ -33,30 +33,43 @@ fn check(talk: Talk) {
 }
 
 const A_WHOLE_DESK: Talk = &[
-    ("show", "show 0 0 0 lits kinds out"),
+    ("show", "show 0 0 0 lits kinds reasons out"),
     (
         "block 4 5 13 6 10 15 1 -2 3 4 3 5 7 10 13 -1 -2 3 -2 -3 3 4 1 -2 -4 2 3 -4",
         "block 0",
     ),
     ("lits 7 7 7 7 7", "lits 5"),
     ("kinds 7 7 7 7", "kinds 4"),
+    ("reasons 8 8 8 8 8 8", "reasons 6"),
     ("out 9 9", "out 2"),
     ("open 0", "open 0 0 0 0"),
     ("step 0 3", "step 17"),
-    ("step 0 1", "step 0 1 1 0"),
+    ("step 0 1", "step 0 1 1 0 0"),
     ("step 0 -2", "step 14"),
-    ("step 1 -2", "step 0 2 2 0"),
-    ("show", "show 2 2 0 lits 1 -2 0 0 7 kinds 1 2 0 0 out 9 9"),
-    ("run 2 1 -3", "run 0 3 3 0 1"),
-    ("show", "show 3 3 0 lits 1 -2 3 0 7 kinds 1 2 0 0 out 9 9"),
-    ("run 3 4294967295 -3", "run 0 4 11 2 8"),
+    ("step 1 -2", "step 0 2 2 0 0"),
+    (
+        "show",
+        "show 2 2 0 lits 1 -2 0 0 7 kinds 1 2 0 0 reasons 0 0 0 0 8 8 out 9 9",
+    ),
+    ("run 2 1 -3", "run 0 3 3 0 1 0"),
+    (
+        "show",
+        "show 3 3 0 lits 1 -2 3 0 7 kinds 1 2 0 0 reasons 0 0 0 0 8 8 out 9 9",
+    ),
+    ("run 3 4294967295 -3", "run 0 4 11 2 8 4"),
     ("step 11 0", "step 13"),
-    ("show", "show 4 11 2 lits -1 2 -3 4 7 kinds 0 2 0 0 out 9 9"),
+    (
+        "show",
+        "show 4 11 2 lits -1 2 -3 4 7 kinds 0 2 0 0 reasons 0 0 2 3 8 8 out 9 9",
+    ),
     ("page 0 100", "page 0 2 0 0"),
     ("page 0 0", "page 0 0 0 1"),
     ("page 2 0", "page 0 2 0 0"),
     ("page 3 0", "page 20"),
-    ("show", "show 4 11 2 lits 0 0 0 0 7 kinds 0 0 0 0 out 9 9"),
+    (
+        "show",
+        "show 4 11 2 lits 0 0 0 0 7 kinds 0 0 0 0 reasons 0 0 2 3 8 8 out 9 9",
+    ),
 ];
 
 #[test]
@@ -94,7 +107,7 @@ const WORDS_AND_NUMBERS: Talk = &[
     ("#", "-"),
     ("# show", "-"),
     (" # show", "?"),
-    ("  show  ", "show 0 0 0 lits kinds out"),
+    ("  show  ", "show 0 0 0 lits kinds reasons out"),
     ("Show", "?"),
     ("show 0", "?"),
     ("lits +5", "?"),
@@ -106,6 +119,9 @@ const WORDS_AND_NUMBERS: Talk = &[
     ("kinds -0 255", "kinds 2"),
     ("kinds 256", "?"),
     ("kinds -1", "?"),
+    ("reasons 0 4294967295", "reasons 2"),
+    ("reasons 4294967296", "?"),
+    ("reasons -1", "?"),
     ("lits 2147483647 -2147483648", "lits 2"),
     ("lits 2147483648", "?"),
     ("lits -2147483649", "?"),
@@ -135,7 +151,7 @@ const WORDS_AND_NUMBERS: Talk = &[
     ("page 0", "?"),
     (
         "show",
-        "show 18446744073709551615 18446744073709551615 2 lits 5 kinds 0 255 out 4294967295",
+        "show 18446744073709551615 18446744073709551615 2 lits 5 kinds 0 255 reasons 0 4294967295 out 4294967295",
     ),
 ];
 
@@ -150,6 +166,7 @@ fn room() {
         ("block", 16_384),
         ("lits", 2_048),
         ("kinds", 2_048),
+        ("reasons", 2_048),
         ("out", 8_192),
     ] {
         let full = line(command, &vec![0; most]);
@@ -161,7 +178,7 @@ fn room() {
     let long = format!("show{}", " ".repeat(LINE_ROOM - 4));
     let comment = format!("#{}", " ".repeat(LINE_ROOM));
     let got = answers(&[&long, &(long.clone() + " "), &comment]);
-    assert_eq!(got, ["show 0 0 0 lits kinds out", "?", "?"]);
+    assert_eq!(got, ["show 0 0 0 lits kinds reasons out", "?", "?"]);
 }
 
 /// On case B with the kinds 2 0: literals, session and call, everything after
@@ -183,12 +200,12 @@ const TRIES: &[[&str; 4]] = &[
         "lits 1 0",
         "session 1 LAST 0",
         "run LAST 0",
-        "run 0 1 LAST 0 0",
+        "run 0 1 LAST 0 0 0",
     ],
     ["lits 1 0", "session 1 5 0", "step 5 9", "step 16"],
     ["lits 1 0", "session 0 5 0", "step 5 2", "step 17"],
     ["lits 1 0", "session 0 5 0", "step 5 -2147483648", "step 17"],
-    ["lits 1 0", "session 0 5 0", "step 5 -1", "step 0 1 6 0"],
+    ["lits 1 0", "session 0 5 0", "step 5 -1", "step 0 1 6 0 0"],
 ];
 
 #[test]
@@ -196,11 +213,50 @@ fn refusals_11_to_17_in_order() {
     for tried in TRIES {
         let [lits, session, call, answer] =
             tried.map(|line| line.replace("LAST", &u64::MAX.to_string()));
-        let lines = ["kinds 2 0", &lits, &session, "show", &call, "show"];
+        let record = ["kinds 2 0", "reasons 0 0", &lits];
+        let lines = [&record[..], &[&session, "show", &call, "show"]].concat();
         let got = asked(&cases::b(), &lines);
-        assert_eq!(got[4], answer, "{tried:?}");
-        assert!(got[3] == got[5] || answer.contains(" 0 "), "{tried:?}");
+        assert_eq!(got[5], answer, "{tried:?}");
+        assert!(got[4] == got[6] || answer.contains(" 0 "), "{tried:?}");
     }
+}
+
+/// On case B with the literals 1 2, the kinds 2 0 and revision 5: reasons, session
+/// and call, rows 13 and 14 broken too; and the answer. C is 2.
+const REASONS: &[[&str; 4]] = &[
+    ["reasons 0", "session 3 5 1", "step 0 1", "step 11"],
+    ["reasons", "session 0 5 1", "run 0 1", "run 11"],
+    ["reasons 0 3", "session 2 5 1", "step 0 1", "step 12"],
+    ["reasons 0 4294967295", "session 2 5 1", "run 0 1", "run 12"],
+    ["reasons 1 0", "session 1 5 1", "step 0 1", "step 12"],
+    ["reasons 2 1", "session 2 5 1", "run 0 1", "run 12"],
+    ["reasons 0 2", "session 2 5 1", "step 0 1", "step 13"],
+    ["reasons 0 3", "session 1 5 1", "step 0 1", "step 13"],
+    ["reasons 3 3", "session 0 5 0", "step 4 1", "step 14"],
+    [
+        "reasons 0 2 9",
+        "session 2 5 0",
+        "step 5 0",
+        "step 0 1 6 0 0",
+    ],
+    ["reasons 0 9", "session 1 5 0", "step 5 0", "step 0 2 6 0 1"],
+    ["reasons 9 9", "session 0 5 0", "run 5 2", "run 0 2 7 0 2 1"],
+];
+
+#[test]
+fn reasons_are_looked_at_in_rows_11_and_12() {
+    let record = ["lits 1 2", "kinds 2 0"];
+    for &[reasons, session, call, answer] in REASONS {
+        let lines = [&record[..], &[reasons, session, "show", call, "show"]].concat();
+        let got = asked(&cases::b(), &lines);
+        assert_eq!(got[5], answer, "{reasons}, {session}");
+        assert!(
+            got[4] == got[6] || answer.contains(" 0 "),
+            "{reasons}, {session}"
+        );
+    }
+    let short = ["lits 0 0", "kinds 0 0", "reasons 0", "open 0"];
+    assert_eq!(asked(&cases::b(), &short)[3], "open 11");
 }
 
 #[test]

@@ -44,12 +44,27 @@ fn every_limit_is_met_and_passed() {
     assert!(passed.iter().all(|&count| count > 1), "{passed:?}");
 }
 
+/// Refusals that the reasons buffer alone is to blame for.
+#[test]
+fn every_damage_to_the_reasons_is_hit() {
+    let mut tally = Tally::default();
+    for line in lines(3, 20_000).split(|&byte| byte == b'\n') {
+        tally.note(line);
+    }
+    let told = tally.to_string();
+    let blames = told.lines().filter_map(|line| line.strip_prefix("blame "));
+    let count = |line: &str| line.split(' ').nth(1).unwrap().parse::<u64>().unwrap();
+    let counts: Vec<u64> = blames.map(count).collect();
+    assert_eq!(counts.len(), 3);
+    assert!(counts.iter().all(|&count| count >= 30), "{told}");
+}
+
 /// Every refusal number, 1 to 21 and 23, and every rule is hit often.
 #[test]
 fn every_number_and_rule_is_hit() {
     for seed in [1, 2] {
         let mut tally = Tally::default();
-        for line in lines(seed, 20_000).split(|&byte| byte == b'\n') {
+        for line in lines(seed, 25_000).split(|&byte| byte == b'\n') {
             tally.note(line);
         }
         let told = tally.to_string();

@@ -32,7 +32,7 @@ fn generated_formulas() {
         let formula = Formula::read(&desk.block).expect("accepted");
         if formula.variables() <= 8 {
             let holds = truth::truth(&formula);
-            let ran = answers[4].as_ref().expect("a run is answered");
+            let ran = answers[5].as_ref().expect("a run is answered");
             let state = if holds { "1" } else { "2" };
             assert_eq!(ran.split(' ').nth(4), Some(state), "{ran}");
             judged[usize::from(holds)] += 1;

@@ -2,7 +2,7 @@
 
 use judge::block::Formula;
 use judge::dice::Dice;
-use judge::page::{page, Ask};
+use judge::page::{page, Ask, Work};
 use judge::session::{open, Lent, Session, State};
 use judge::shapes::{self, Shape};
 use judge::truth;
@@ -27,20 +27,39 @@ fn preferences(dice: &mut Dice, variables: usize) -> Vec<i32> {
         .collect()
 }
 
+/// The record's three buffers.
+#[derive(Clone, Debug, PartialEq, Eq)]
+struct Memory {
+    literals: Vec<i32>,
+    kinds: Vec<u8>,
+    reasons: Vec<u32>,
+}
+
+impl Memory {
+    /// Of V places, none of them 0.
+    fn of(v: usize) -> Memory {
+        Memory {
+            literals: vec![3; v],
+            kinds: vec![3; v],
+            reasons: vec![3; v],
+        }
+    }
+
+    fn lend(&mut self) -> Lent<'_> {
+        Lent {
+            literals: &mut self.literals,
+            kinds: &mut self.kinds,
+            reasons: &mut self.reasons,
+        }
+    }
+}
+
 /// A whole run from a fresh session: how it ended, and after how many steps.
 fn run_of(block: &[i32], preferred: &[i32]) -> (Session, u32) {
-    let v = block[0] as usize;
-    let (mut literals, mut kinds) = (vec![0; v], vec![0; v]);
-    let lent = Lent {
-        literals: &mut literals,
-        kinds: &mut kinds,
-    };
-    let session = open(block, lent, 40).unwrap();
-    let lent = Lent {
-        literals: &mut literals,
-        kinds: &mut kinds,
-    };
-    let ran = session.run(block, lent, 40, u32::MAX, preferred).unwrap();
+    let mut memory = Memory::of(block[0] as usize);
+    let session = open(block, memory.lend(), 40).unwrap();
+    let ran = session.run(block, memory.lend(), 40, u32::MAX, preferred);
+    let ran = ran.unwrap();
     assert_eq!(ran.session.revision, 40 + u64::from(ran.count));
     (ran.session, ran.count)
 }
@@ -72,30 +91,65 @@ fn runs_are_their_steps() {
     for _ in 0..FORMULAS / 3 {
         let shape = shape(&mut dice, 7);
         let block = shapes::block(&mut dice, shape, None);
-        let (mut literals, mut kinds) = (vec![3; shape.variables], vec![3; shape.variables]);
-        let lent = Lent {
-            literals: &mut literals,
-            kinds: &mut kinds,
-        };
-        let mut session = open(&block, lent, 0).unwrap();
+        let mut memory = Memory::of(shape.variables);
+        let mut session = open(&block, memory.lend(), 0).unwrap();
         while session.state == State::Open {
-            let (mut by_run, mut run_kinds) = (literals.clone(), kinds.clone());
-            let lent = Lent {
-                literals: &mut by_run,
-                kinds: &mut run_kinds,
-            };
+            let mut by_run = memory.clone();
             let seen = session.revision;
-            let ran = session.run(&block, lent, seen, 1, &[]).unwrap();
-            let lent = Lent {
-                literals: &mut literals,
-                kinds: &mut kinds,
-            };
-            session = session.step(&block, lent, seen, 0).unwrap().session;
+            let ran = session.run(&block, by_run.lend(), seen, 1, &[]).unwrap();
+            let done = session.step(&block, memory.lend(), seen, 0).unwrap();
+            session = done.session;
             assert_eq!((session, 1), (ran.session, ran.count));
-            assert_eq!((&literals, &kinds), (&by_run, &run_kinds));
+            assert_eq!((&memory, done.reason), (&by_run, ran.reason));
         }
         assert_eq!((session, session.revision as u32), with_revision_0(&block));
     }
+}
+
+/// After each step of a history from a fresh session: an entry's reason that is
+/// not 0 names a clause with its literal, in which every other literal is false
+/// under the entries before it, or universal, unassigned and at a higher level.
+#[test]
+fn reasons_name_what_forced_the_entry() {
+    let mut dice = Dice::new(4);
+    let mut named = 0;
+    for _ in 0..FORMULAS / 6 {
+        let shape = shape(&mut dice, 7);
+        let block = shapes::block(&mut dice, shape, None);
+        let formula = Formula::read(&block).unwrap();
+        let mut memory = Memory::of(shape.variables);
+        let mut session = open(&block, memory.lend(), 0).unwrap();
+        while session.state == State::Open {
+            let preferred = preferences(&mut dice, shape.variables);
+            let seen = session.revision;
+            let ran = session.run(&block, memory.lend(), seen, 1, &preferred);
+            session = ran.unwrap().session;
+            let length = session.length as usize;
+            named += (0..length)
+                .filter(|&place| forced(&formula, &memory, place))
+                .count();
+            assert_eq!(memory.reasons[length..], vec![0; shape.variables - length]);
+        }
+    }
+    assert!(named > FORMULAS / 2, "{named}");
+}
+
+/// Whether an entry has a reason, which must then be a right one.
+fn forced(formula: &Formula, memory: &Memory, place: usize) -> bool {
+    let (before, literal) = (&memory.literals[..place], memory.literals[place]);
+    let clause = match memory.reasons[place] as usize {
+        0 => return false,
+        reason => &formula.clauses[reason - 1],
+    };
+    let harmless = |&other: &i32| {
+        let unassigned = !before.contains(&other) && !before.contains(&-other);
+        let higher = formula.level(other) > formula.level(literal);
+        before.contains(&-other) || (!formula.existential(other) && unassigned && higher)
+    };
+    let mut others = clause.iter().filter(|&&other| other != literal);
+    assert!(clause.contains(&literal) && others.all(harmless));
+    assert_eq!(memory.kinds[place], 0);
+    true
 }
 
 fn with_revision_0(block: &[i32]) -> (Session, u32) {
@@ -147,10 +201,9 @@ fn listing(dice: &mut Dice, block: &[i32], formula: &Formula) -> Vec<(u32, u32)>
                 .max(least_budget),
             preferred: &preferred,
         };
-        let (mut literals, mut kinds) = (vec![8; v], vec![8; v + 1]);
-        let work = Lent {
-            literals: &mut literals,
-            kinds: &mut kinds,
+        let work = Work {
+            literals: &mut vec![8; v],
+            kinds: &mut vec![8; v + 1],
         };
         let mut output = vec![77; 2 + dice.below(6)];
         let page = page(block, work, ask, &mut output).unwrap();

@@ -16,30 +16,35 @@ struct Ask<'a> {
     preferred: &'a [i32],
 }
 
+/// The record's three buffers.
+#[derive(Clone, Debug, PartialEq, Eq)]
+struct Memory(Vec<i32>, Vec<u8>, Vec<u32>);
+
 /// Runs both on copies of the same memory; how many steps they accepted.
-fn agree(block: &[i32], literals: &[i32], kinds: &[u8], ask: Ask) -> Result<u32, u8> {
-    let (mut lits, mut bytes) = (literals.to_vec(), kinds.to_vec());
+fn agree(block: &[i32], memory: &Memory, ask: Ask) -> Result<u32, u8> {
+    let (mut judged, mut measured) = (memory.clone(), memory.clone());
     let lent = Lent {
-        literals: &mut lits,
-        kinds: &mut bytes,
+        literals: &mut judged.0,
+        kinds: &mut judged.1,
+        reasons: &mut judged.2,
     };
-    let ran = ask
-        .session
-        .run(block, lent, ask.seen, ask.budget, ask.preferred);
-    let expected = ran.map(|ran| (plain(ran.session), ran.count));
-    let (mut its_lits, mut its_bytes) = (literals.to_vec(), kinds.to_vec());
-    let got = yardstick::run(
-        plain(ask.session),
-        block,
-        &mut its_lits,
-        &mut its_bytes,
-        ask.seen,
-        ask.budget,
-        ask.preferred,
-    );
+    let Ask {
+        session,
+        seen,
+        budget,
+        preferred,
+    } = ask;
+    let ran = session.run(block, lent, seen, budget, preferred);
+    let expected = ran.map(|ran| (plain(ran.session), ran.count, ran.reason));
+    let lent = yardstick::Lent {
+        literals: &mut measured.0,
+        kinds: &mut measured.1,
+        reasons: &mut measured.2,
+    };
+    let got = yardstick::run(plain(session), block, lent, seen, budget, preferred);
     assert_eq!(got, expected, "{block:?}");
-    assert_eq!((its_lits, its_bytes), (lits, bytes), "{block:?}");
-    got.map(|(_, count)| count)
+    assert_eq!(measured, judged, "{block:?}");
+    got.map(|(_, count, _)| count)
 }
 
 fn plain(session: Session) -> yardstick::Session {
@@ -70,7 +75,9 @@ fn on_generated_desks() {
                 budget: if desk.block.len() > 150 { 9 } else { budget },
                 preferred: &preferred,
             };
-            let steps = agree(&desk.block, &desk.literals, &desk.kinds, ask);
+            let (literals, kinds) = (desk.literals.clone(), desk.kinds.clone());
+            let memory = Memory(literals, kinds, desk.reasons.clone());
+            let steps = agree(&desk.block, &memory, ask);
             accepted += steps.unwrap_or(0);
         }
         desk.answer(line);
@@ -104,7 +111,8 @@ fn on_larger_formulas() {
             preferred: &[-3, 2, -1],
         };
         let v = shape.variables;
-        steps += agree(&block, &vec![0; v], &vec![0; v + 1], ask).unwrap();
+        let memory = Memory(vec![0; v], vec![0; v + 1], vec![9; v + 2]);
+        steps += agree(&block, &memory, ask).unwrap();
     }
     assert!(steps > 2_000, "{steps}");
 }

@@ -1,7 +1,8 @@
-//! Two administrators at one session, a listing page by page, and what happens to
-//! bad input.
+//! Two administrators at one session, why its formula is false, a listing page by
+//! page, and what happens to bad input.
 
-use mokihazureo::{check, open, page, Literal, Page, Refusal, Revision, State};
+use mokihazureo::{check, open, page, Literal, Page, Reason, Refusal, Revision, Session, State};
+use mokihazureo::{Ran, Stepped};
 
 /// Case A of docs/SPEC.md: a is 1, d is 2 (universal), b is 3, c is 4.
 const BLOCK: [i32; 28] = [
@@ -19,31 +20,70 @@ fn main() -> Result<(), Refusal> {
     Ok(())
 }
 
+/// The record that is lent to each call.
+#[derive(Debug, PartialEq, Eq)]
+struct Record {
+    lits: [i32; 4],
+    kinds: [u8; 4],
+    reasons: [u32; 4],
+}
+
+impl Record {
+    fn open(&mut self) -> Result<Session, Refusal> {
+        let Record {
+            lits,
+            kinds,
+            reasons,
+        } = self;
+        open(&BLOCK, lits, kinds, reasons, Revision(0))
+    }
+
+    fn step(&mut self, from: Session, seen: Revision, proposal: i32) -> Result<Stepped, Refusal> {
+        let Record {
+            lits,
+            kinds,
+            reasons,
+        } = self;
+        from.step(&BLOCK, lits, kinds, reasons, seen, Literal(proposal))
+    }
+
+    fn run(&mut self, from: Session, preferred: &[i32]) -> Result<Ran, Refusal> {
+        let Record {
+            lits,
+            kinds,
+            reasons,
+        } = self;
+        from.run(&BLOCK, lits, kinds, reasons, from.revision, 100, preferred)
+    }
+}
+
 fn two_administrators() -> Result<(), Refusal> {
-    let (mut lits, mut kinds) = ([9; 4], [9; 4]);
+    let mut record = Record {
+        lits: [9; 4],
+        kinds: [9; 4],
+        reasons: [9; 4],
+    };
     check(&BLOCK)?;
-    let fresh = open(&BLOCK, &mut lits, &mut kinds, Revision(0))?;
-    assert_eq!((lits, kinds), ([0; 4], [0; 4]));
+    let fresh = record.open()?;
+    assert_eq!((record.lits, record.kinds), ([0; 4], [0; 4]));
     // Ada puts variable 1 to true, as seen at revision 0.
-    let after = fresh.step(&BLOCK, &mut lits, &mut kinds, fresh.revision, Literal(1))?;
+    let after = record.step(fresh, fresh.revision, 1)?.session;
     assert_eq!((after.length, after.revision), (1, Revision(1)));
-    assert_eq!((lits, kinds), ([1, 0, 0, 0], [1, 0, 0, 0]));
+    assert_eq!((record.lits[0], record.kinds[0]), (1, 1));
     // Ben still has the page of revision 0.
-    let stale = after.step(&BLOCK, &mut lits, &mut kinds, fresh.revision, Literal(-1));
+    let stale = record.step(after, fresh.revision, -1);
     assert_eq!(stale, Err(Refusal(14)));
-    assert_eq!(lits, [1, 0, 0, 0]);
+    assert_eq!(record.lits, [1, 0, 0, 0]);
     // He looks again, and goes on from revision 1.
-    let next = after.step(&BLOCK, &mut lits, &mut kinds, after.revision, Literal(-2))?;
-    let ran = next.run(
-        &BLOCK,
-        &mut lits,
-        &mut kinds,
-        next.revision,
-        100,
-        &[3, i32::MIN],
-    )?;
+    let next = record.step(after, after.revision, -2)?.session;
+    let ran = record.run(next, &[3, i32::MIN])?;
     assert_eq!(ran.session.state, State::Unsat);
     assert_eq!(ran.session.revision, Revision(2 + u64::from(ran.steps)));
+    // Why? The clauses 1 and 2 forced -3 and 4, and so clause 3 can't be met.
+    assert_eq!(record.lits, [-1, 2, -3, 4]);
+    let clauses = record.reasons.map(|reason| Reason(reason).clause());
+    assert_eq!(clauses, [None, None, Some(1), Some(2)]);
+    assert_eq!(ran.reason.clause(), Some(3));
     Ok(())
 }
 
@@ -83,12 +123,26 @@ fn told(next: u32, entries: u32, paused: bool) -> Page {
 }
 
 fn bad_input() {
-    let (mut lits, mut kinds) = ([7; 4], [7; 4]);
+    let (mut lits, mut kinds, mut reasons) = ([7; 4], [7; 4], [7; 4]);
     let mut wrong = BLOCK;
     wrong[9] = i32::MIN;
     assert_eq!(check(&wrong), Err(Refusal(5)));
     assert_eq!(check(&[]), Err(Refusal(1)));
-    let short = open(&BLOCK, &mut lits[..3], &mut kinds, Revision(0));
+    let short = open(
+        &BLOCK,
+        &mut lits[..3],
+        &mut kinds,
+        &mut reasons,
+        Revision(0),
+    );
     assert_eq!(short, Err(Refusal(11)));
-    assert_eq!((lits, kinds), ([7; 4], [7; 4]));
+    let short = open(
+        &BLOCK,
+        &mut lits,
+        &mut kinds,
+        &mut reasons[..3],
+        Revision(0),
+    );
+    assert_eq!(short, Err(Refusal(11)));
+    assert_eq!((lits, kinds, reasons), ([7; 4], [7; 4], [7; 4]));
 }

@@ -1,7 +1,7 @@
 //! The only unsafe room: the C functions and the calls of them. A Rust slice is what
 //! they ask for: never null, as long as it says, and a mutable one overlaps no other.
 
-use crate::{Literal, Page, Ran, Refusal, Revision, Session, State};
+use crate::{Literal, Page, Ran, Reason, Refusal, Revision, Session, State, Stepped};
 
 mod c {
     extern "C" {
@@ -13,6 +13,8 @@ mod c {
             lits_length: usize,
             kinds: *mut u8,
             kinds_length: usize,
+            reasons: *mut u32,
+            reasons_length: usize,
             first: u64,
             answer: &mut [u64; 3],
         ) -> u32;
@@ -26,9 +28,11 @@ mod c {
             lits_length: usize,
             kinds: *mut u8,
             kinds_length: usize,
+            reasons: *mut u32,
+            reasons_length: usize,
             seen: u64,
             proposal: i32,
-            answer: &mut [u64; 3],
+            answer: &mut [u64; 4],
         ) -> u32;
         pub fn moki_run(
             length: usize,
@@ -40,11 +44,13 @@ mod c {
             lits_length: usize,
             kinds: *mut u8,
             kinds_length: usize,
+            reasons: *mut u32,
+            reasons_length: usize,
             seen: u64,
             budget: u32,
             preferred: *const i32,
             preferred_length: usize,
-            answer: &mut [u64; 4],
+            answer: &mut [u64; 5],
         ) -> u32;
         pub fn moki_page(
             block: *const i32,
@@ -122,10 +128,11 @@ pub fn open(
     block: &[i32],
     lits: &mut [i32],
     kinds: &mut [u8],
+    reasons: &mut [u32],
     first: Revision,
 ) -> Result<Session, Refusal> {
     let mut answer = [0; 3];
-    call!(moki_open(in block, out lits, out kinds, first.0, &mut answer))?;
+    call!(moki_open(in block, out lits, out kinds, out reasons, first.0, &mut answer))?;
     Ok(session(&answer))
 }
 
@@ -136,38 +143,45 @@ impl Session {
         block: &[i32],
         lits: &mut [i32],
         kinds: &mut [u8],
+        reasons: &mut [u32],
         seen: Revision,
         proposal: Literal,
-    ) -> Result<Session, Refusal> {
+    ) -> Result<Stepped, Refusal> {
         let (length, revision, state) = numbers(self);
-        let mut answer = [0; 3];
-        call!(moki_step(length, revision, state, in block, out lits, out kinds, seen.0, proposal.0, &mut answer))?;
-        Ok(session(&answer))
+        let mut answer = [0; 4];
+        call!(moki_step(length, revision, state, in block, out lits, out kinds, out reasons, seen.0, proposal.0, &mut answer))?;
+        Ok(Stepped {
+            session: session(&answer),
+            reason: Reason(answer[3] as u32),
+        })
     }
 
     /// At most `budget` steps; refusals 1 to 15 and 23.
+    #[allow(clippy::too_many_arguments)]
     pub fn run(
         self,
         block: &[i32],
         lits: &mut [i32],
         kinds: &mut [u8],
+        reasons: &mut [u32],
         seen: Revision,
         budget: u32,
         preferred: &[i32],
     ) -> Result<Ran, Refusal> {
         let (length, revision, state) = numbers(self);
-        let mut answer = [0; 4];
-        call!(moki_run(length, revision, state, in block, out lits, out kinds, seen.0, budget, in preferred, &mut answer))?;
+        let mut answer = [0; 5];
+        call!(moki_run(length, revision, state, in block, out lits, out kinds, out reasons, seen.0, budget, in preferred, &mut answer))?;
         Ok(Ran {
             session: session(&answer),
             steps: answer[3] as u32,
+            reason: Reason(answer[4] as u32),
         })
     }
 }
 
 /// The openings from `start` on that win, two words of output each: the opening, and
-/// how many ones its number has; refusals 1 to 11, 18 to 21 and 23. The record is for
-/// work: its first V places become 0.
+/// how many ones its number has; refusals 1 to 11, 18 to 21 and 23. The literals and
+/// kinds are for work: their first V places become 0.
 pub fn page(
     block: &[i32],
     lits: &mut [i32],

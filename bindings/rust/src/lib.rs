@@ -2,7 +2,8 @@
 //!
 //! docs/SPEC.md has the rules, the formula block and the table of refusals. Any
 //! words may be handed in; a refused call changes nothing. The caller lends all
-//! memory: the record is two buffers of at least V places.
+//! memory: the record is two buffers, literals and kinds, and the reasons are a third
+//! beside it, each of at least V places.
 
 mod door;
 
@@ -15,6 +16,18 @@ pub struct Revision(pub u64);
 /// +v or -v; 0 as a proposal leaves the choice to the solver.
 #[derive(Clone, Copy, Debug, PartialEq, Eq)]
 pub struct Literal(pub i32);
+
+/// Why an entry was forced, or a step found a conflict. In a buffer of reasons it
+/// stands as its number: that of a clause, counted from 0, plus one; 0 is none.
+#[derive(Clone, Copy, Debug, PartialEq, Eq)]
+pub struct Reason(pub u32);
+
+impl Reason {
+    /// The clause, counted from 0, if there is one.
+    pub fn clause(self) -> Option<usize> {
+        (self.0 as usize).checked_sub(1)
+    }
+}
 
 /// Whether a session goes on, or has ended with the formula true (`Valid`) or false
 /// (`Unsat`).
@@ -46,11 +59,20 @@ pub struct Session {
     pub state: State,
 }
 
-/// Where a run leads, and how many steps it took.
+/// Where a step leads, and its reason: the clause that forced its entry, or the lowest
+/// one in conflict.
+#[derive(Clone, Copy, Debug, PartialEq, Eq)]
+pub struct Stepped {
+    pub session: Session,
+    pub reason: Reason,
+}
+
+/// Where a run leads, how many steps it took, and the last one's reason.
 #[derive(Clone, Copy, Debug, PartialEq, Eq)]
 pub struct Ran {
     pub session: Session,
     pub steps: u32,
+    pub reason: Reason,
 }
 
 /// Where the next page begins, how many openings this one wrote, and whether it

@@ -1,6 +1,6 @@
 //! Cases A, G and K of docs/SPEC.md.
 
-use mokihazureo::{open, page, Literal, Page, Refusal, Revision, Session, State};
+use mokihazureo::{open, page, Literal, Page, Reason, Refusal, Revision, Session, State};
 
 const A: [i32; 28] = [
     4, 5, 13, 6, 10, 15, 1, -2, 3, 4, 3, 5, 7, 10, 13, -1, -2, 3, -2, -3, 3, 4, 1, -2, -4, 2, 3, -4,
@@ -12,25 +12,30 @@ const G: [i32; 19] = [4, 3, 6, 6, 10, 13, 1, 2, -3, 4, 2, 4, 6, 1, 2, -3, 4, 3, 
 struct Desk {
     lits: [i32; 4],
     kinds: [u8; 4],
+    reasons: [u32; 4],
     session: Session,
 }
 
 impl Desk {
     fn opened() -> Desk {
-        let (mut lits, mut kinds) = ([9; 4], [9; 4]);
-        let session = open(&A, &mut lits, &mut kinds, Revision(0)).unwrap();
+        let (mut lits, mut kinds, mut reasons) = ([9; 4], [9; 4], [9; 4]);
+        let session = open(&A, &mut lits, &mut kinds, &mut reasons, Revision(0));
         Desk {
             lits,
             kinds,
-            session,
+            reasons,
+            session: session.unwrap(),
         }
     }
 
-    fn step(&mut self, seen: u64, proposal: i32) -> Result<(), Refusal> {
-        let (lits, kinds) = (&mut self.lits, &mut self.kinds);
+    fn step(&mut self, seen: u64, proposal: i32) -> Result<Reason, Refusal> {
+        let (lits, kinds, reasons) = (&mut self.lits, &mut self.kinds, &mut self.reasons);
         let (seen, proposal) = (Revision(seen), Literal(proposal));
-        self.session = self.session.step(&A, lits, kinds, seen, proposal)?;
-        Ok(())
+        let done = self
+            .session
+            .step(&A, lits, kinds, reasons, seen, proposal)?;
+        self.session = done.session;
+        Ok(done.reason)
     }
 }
 
@@ -47,10 +52,21 @@ fn a_step_by_step() {
         [-1, 2, -3, 4],
         [-1, 2, -3, 4],
     ];
-    for (seen, record) in (0..).zip(records) {
+    // What each step answers as its reason, and the record's reasons after it.
+    let reasons = [
+        (0, [0, 0, 0, 0]),
+        (0, [0, 0, 0, 0]),
+        (1, [0, 0, 1, 0]),
+        (2, [0, 0, 0, 0]),
+        (0, [0, 0, 0, 0]),
+        (2, [0, 0, 2, 0]),
+        (3, [0, 0, 2, 3]),
+        (4, [0, 0, 2, 3]),
+    ];
+    for (seen, (record, (reason, reasons))) in (0..).zip(records.into_iter().zip(reasons)) {
         assert_eq!(desk.session.state, State::Open);
-        assert_eq!(desk.step(seen, 0), Ok(()));
-        assert_eq!(desk.lits, record);
+        assert_eq!(desk.step(seen, 0), Ok(Reason(reason)));
+        assert_eq!((desk.lits, desk.reasons), (record, reasons));
     }
     assert_eq!(desk.kinds, [0, 2, 0, 0]);
     assert_eq!(desk.session.state, State::Unsat);
@@ -60,14 +76,46 @@ fn a_step_by_step() {
 
 #[test]
 fn a_in_one_run() {
-    let Desk {
-        mut lits,
-        mut kinds,
-        session,
-    } = Desk::opened();
-    let ran = session.run(&A, &mut lits, &mut kinds, Revision(0), 100, &[]);
-    let ran = ran.unwrap();
-    assert_eq!((ran.steps, ran.session.state), (8, State::Unsat));
+    // A run answers its last step's reason, and one of no steps none.
+    for (budget, state, clause) in [
+        (0, State::Open, None),
+        (3, State::Open, Some(0)),
+        (5, State::Open, None),
+        (100, State::Unsat, Some(3)),
+    ] {
+        let Desk {
+            mut lits,
+            mut kinds,
+            mut reasons,
+            session,
+        } = Desk::opened();
+        let (lits, kinds, reasons) = (&mut lits, &mut kinds, &mut reasons);
+        let ran = session.run(&A, lits, kinds, reasons, Revision(0), budget, &[]);
+        let ran = ran.unwrap();
+        assert_eq!((ran.steps, ran.session.state), (budget.min(8), state));
+        assert_eq!(ran.reason.clause(), clause);
+    }
+}
+
+/// 5 clauses, so 6 is no reason; a decision has none; past the record any word may
+/// stand.
+#[test]
+fn reasons_in_a_record() {
+    let tried = |kind, reason, past| {
+        let session = Session {
+            length: 1,
+            ..Desk::opened().session
+        };
+        let (mut lits, mut kinds, mut reasons) = ([1, 0, 0, 0], [kind, 0, 0, 0], [past; 4]);
+        reasons[0] = reason;
+        let (lits, kinds, reasons) = (&mut lits, &mut kinds, &mut reasons);
+        let ran = session.run(&A, lits, kinds, reasons, Revision(0), 0, &[]);
+        ran.map(|ran| ran.reason)
+    };
+    assert_eq!(tried(0, 5, u32::MAX), Ok(Reason(0)));
+    assert_eq!(tried(1, 0, 1), Ok(Reason(0)));
+    assert_eq!(tried(0, 6, 0), Err(Refusal(12)));
+    assert_eq!(tried(1, 1, 0), Err(Refusal(12)));
 }
 
 fn list(start: u32, output: &mut [u32]) -> Result<Page, Refusal> {
@@ -103,11 +151,11 @@ fn k_is_refused_and_changes_nothing() {
     let fresh = desk.session;
     assert_eq!(desk.step(0, 3), Err(Refusal(17)));
     assert_eq!((desk.session, desk.lits), (fresh, [0; 4]));
-    assert_eq!(desk.step(0, 1), Ok(()));
+    assert_eq!(desk.step(0, 1), Ok(Reason(0)));
     let taken = desk.session;
     assert_eq!(desk.step(0, -2), Err(Refusal(14)));
     assert_eq!((desk.session, desk.lits), (taken, [1, 0, 0, 0]));
-    assert_eq!(desk.step(1, -2), Ok(()));
+    assert_eq!(desk.step(1, -2), Ok(Reason(0)));
     assert_eq!(desk.lits, [1, -2, 0, 0]);
     assert_eq!(desk.kinds, [1, 2, 0, 0]);
 }

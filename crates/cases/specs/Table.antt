@@ -12,22 +12,26 @@ pub data Asked : Type 0 where
   run : ℕ → ℕ → List ℤ → Asked
   page : ℕ → ℕ → List ℕ → Asked
 
--- what is said of a call: the rule that a step took with the literal that it wrote; a run's steps and the last literal of the record; a
--- page's next, entries, paused or not, and output; or the number that the call was refused with
+-- what is said of a call: the rule that a step took with the literal that it wrote, and the number of the clause that decided it, plus one, if one
+-- did; a run's steps, the last literal of the record, and the reason; a page's next, entries, paused or not, and output; or the number that the
+-- call was refused with
 pub data Said : Type 0 where
-  decide unit monotone backtrack-exists backtrack-forall : ℤ → Said
-  fail succeed : Said
-  ran : ℕ → ℤ → Said
+  decide monotone backtrack-forall : ℤ → Said
+  unit backtrack-exists : ℤ → ℕ → Said
+  fail : ℕ → Said
+  succeed : Said
+  ran : ℕ → ℤ → ℕ → Said
   listed : ℕ → ℕ → Bool → List ℕ → Said
   refused : ℕ → Said
 
 -- opened at revision 0; each call, and what is said of it (of the opening too, where that is refused); how the session stands
--- after them, open where none was opened
+-- after them, open where none was opened, and what the reasons are then, none where none was opened
 pub record Case : Type 0 where
   pub block : List ℤ
   pub calls : List Asked
   pub said : List Said
   pub state : State
+  pub reasons : List ℕ
 
 abbrev neg : ℕ → ℤ
 neg n = negℤ (pos n)
@@ -41,13 +45,16 @@ all-0 r (suc n) = step r (pos 0) ∷ all-0 (r + 1) n
 unfoldable pub blockA : List ℤ
 blockA = pos 4 ∷ pos 5 ∷ pos 13 ∷ pos 6 ∷ pos 10 ∷ pos 15 ∷ pos 1 ∷ neg 2 ∷ pos 3 ∷ pos 4 ∷ pos 3 ∷ pos 5 ∷ pos 7 ∷ pos 10 ∷ pos 13 ∷ neg 1 ∷ neg 2 ∷ pos 3 ∷ neg 2 ∷ neg 3 ∷ pos 3 ∷ pos 4 ∷ pos 1 ∷ neg 2 ∷ neg 4 ∷ pos 2 ∷ pos 3 ∷ neg 4 ∷ []
 
--- [case.a]
+-- [case.a] The clauses are 0 {-1,-2,3}, 1 {-2,-3}, 2 {3,4}, 3 {1,-2,-4}, 4 {2,3,-4}, and a reason is one more. After 1 and 2 only 3 is left of clause
+-- 0: Unit 3, by 1. Clause 1 is then in conflict, and no lower one is: 2. After -1 and 2 clause 0 is true, and only -3 is left of clause 1: 2. Then only 4
+-- is left of clause 2: 3. Clause 3 is then in conflict, the first three being true: 4. The entries -1 and 2 have no reason, -3 and 4 have their units'
 unfoldable pub caseA : Case
 caseA = record {
   block = blockA;
   calls = all-0 0 8;
-  said = decide (pos 1) ∷ decide (pos 2) ∷ unit (pos 3) ∷ backtrack-exists (neg 1) ∷ decide (pos 2) ∷ unit (neg 3) ∷ unit (pos 4) ∷ fail ∷ [];
+  said = decide (pos 1) ∷ decide (pos 2) ∷ unit (pos 3) 1 ∷ backtrack-exists (neg 1) 2 ∷ decide (pos 2) ∷ unit (neg 3) 2 ∷ unit (pos 4) 3 ∷ fail 4 ∷ [];
   state = Unsat;
+  reasons = 0 ∷ 0 ∷ 2 ∷ 3 ∷ [];
 }
 
 -- [case.a.monotone]
@@ -57,6 +64,7 @@ caseA-monotone = record {
   calls = step 0 (pos 1) ∷ step 1 (neg 2) ∷ step 2 (pos 0) ∷ [];
   said = decide (pos 1) ∷ decide (neg 2) ∷ monotone (pos 3) ∷ [];
   state = Open;
+  reasons = 0 ∷ 0 ∷ 0 ∷ 0 ∷ [];
 }
 
 -- [case.b]
@@ -64,8 +72,9 @@ unfoldable pub caseB : Case
 caseB = record {
   block = pos 2 ∷ pos 2 ∷ pos 4 ∷ pos 6 ∷ pos 8 ∷ pos 10 ∷ neg 1 ∷ pos 2 ∷ pos 2 ∷ pos 4 ∷ pos 2 ∷ neg 1 ∷ neg 2 ∷ pos 1 ∷ [];
   calls = all-0 0 5;
-  said = decide (pos 1) ∷ unit (pos 2) ∷ backtrack-forall (neg 1) ∷ unit (neg 2) ∷ succeed ∷ [];
+  said = decide (pos 1) ∷ unit (pos 2) 1 ∷ backtrack-forall (neg 1) ∷ unit (neg 2) 2 ∷ succeed ∷ [];
   state = Valid;
+  reasons = 0 ∷ 2 ∷ [];
 }
 
 -- [case.c]
@@ -75,6 +84,7 @@ caseC = record {
   calls = [];
   said = refused 7 ∷ [];
   state = Open;
+  reasons = [];
 }
 
 -- [case.d]
@@ -82,8 +92,9 @@ unfoldable pub caseD : Case
 caseD = record {
   block = pos 3 ∷ pos 2 ∷ pos 4 ∷ pos 6 ∷ pos 9 ∷ pos 11 ∷ pos 1 ∷ neg 2 ∷ pos 3 ∷ pos 2 ∷ pos 4 ∷ pos 1 ∷ neg 2 ∷ neg 1 ∷ pos 2 ∷ [];
   calls = all-0 0 2;
-  said = unit (pos 1) ∷ fail ∷ [];
+  said = unit (pos 1) 1 ∷ fail 2 ∷ [];
   state = Unsat;
+  reasons = 1 ∷ 0 ∷ 0 ∷ [];
 }
 
 -- [case.e]
@@ -93,6 +104,7 @@ caseE = record {
   calls = all-0 0 1;
   said = succeed ∷ [];
   state = Valid;
+  reasons = [];
 }
 
 -- [case.f]
@@ -100,8 +112,9 @@ unfoldable pub caseF : Case
 caseF = record {
   block = pos 0 ∷ pos 1 ∷ pos 0 ∷ pos 6 ∷ pos 6 ∷ pos 7 ∷ pos 0 ∷ [];
   calls = all-0 0 1;
-  said = fail ∷ [];
+  said = fail 1 ∷ [];
   state = Unsat;
+  reasons = [];
 }
 
 unfoldable pub blockG : List ℤ
@@ -114,6 +127,7 @@ caseG = record {
   calls = page 0 100 (9 ∷ 9 ∷ 9 ∷ 9 ∷ 9 ∷ 9 ∷ 9 ∷ 9 ∷ []) ∷ page 0 100 (9 ∷ 9 ∷ 9 ∷ 9 ∷ []) ∷ [];
   said = listed 4 3 false (1 ∷ 1 ∷ 2 ∷ 1 ∷ 3 ∷ 2 ∷ 9 ∷ 9 ∷ []) ∷ listed 3 2 false (1 ∷ 1 ∷ 2 ∷ 1 ∷ []) ∷ [];
   state = Open;
+  reasons = 0 ∷ 0 ∷ 0 ∷ 0 ∷ [];
 }
 
 -- [case.h]
@@ -123,6 +137,7 @@ caseH = record {
   calls = page 0 0 (9 ∷ 9 ∷ []) ∷ page 4 0 (9 ∷ 9 ∷ []) ∷ [];
   said = listed 0 0 true (9 ∷ 9 ∷ []) ∷ listed 4 0 false (9 ∷ 9 ∷ []) ∷ [];
   state = Open;
+  reasons = 0 ∷ 0 ∷ 0 ∷ 0 ∷ [];
 }
 
 -- [case.i]
@@ -130,8 +145,9 @@ unfoldable pub caseI : Case
 caseI = record {
   block = pos 2 ∷ pos 2 ∷ pos 4 ∷ pos 6 ∷ pos 8 ∷ pos 10 ∷ neg 1 ∷ pos 2 ∷ pos 2 ∷ pos 4 ∷ pos 2 ∷ pos 1 ∷ neg 2 ∷ neg 1 ∷ [];
   calls = all-0 0 5;
-  said = decide (pos 1) ∷ unit (neg 2) ∷ backtrack-forall (neg 1) ∷ unit (pos 2) ∷ succeed ∷ [];
+  said = decide (pos 1) ∷ unit (neg 2) 2 ∷ backtrack-forall (neg 1) ∷ unit (pos 2) 1 ∷ succeed ∷ [];
   state = Valid;
+  reasons = 0 ∷ 1 ∷ [];
 }
 
 -- [case.j]
@@ -139,8 +155,9 @@ unfoldable pub caseJ : Case
 caseJ = record {
   block = pos 2 ∷ pos 1 ∷ pos 1 ∷ pos 6 ∷ pos 8 ∷ pos 9 ∷ neg 1 ∷ pos 2 ∷ pos 1 ∷ pos 1 ∷ [];
   calls = all-0 0 1;
-  said = fail ∷ [];
+  said = fail 1 ∷ [];
   state = Unsat;
+  reasons = 0 ∷ 0 ∷ [];
 }
 
 -- [case.k]
@@ -150,6 +167,7 @@ caseK = record {
   calls = step 0 (pos 3) ∷ step 0 (pos 1) ∷ step 0 (neg 2) ∷ step 1 (neg 2) ∷ [];
   said = refused 17 ∷ decide (pos 1) ∷ refused 14 ∷ decide (neg 2) ∷ [];
   state = Open;
+  reasons = 0 ∷ 0 ∷ 0 ∷ 0 ∷ [];
 }
 
 -- [case.l] as a literal word; as a proposal, and as a preference
@@ -162,14 +180,16 @@ caseL = record {
   calls = [];
   said = refused 9 ∷ [];
   state = Open;
+  reasons = [];
 }
 
 unfoldable pub caseL-calls : Case
 caseL-calls = record {
   block = blockA;
   calls = step 0 leastWord ∷ run 0 1 (leastWord ∷ neg 1 ∷ []) ∷ [];
-  said = refused 17 ∷ ran 1 (neg 1) ∷ [];
+  said = refused 17 ∷ ran 1 (neg 1) 0 ∷ [];
   state = Open;
+  reasons = 0 ∷ 0 ∷ 0 ∷ 0 ∷ [];
 }
 
 -- [case.m] the counts of a block with nothing after its header, and the refusal
@@ -179,6 +199,7 @@ caseM v c t n = record {
   calls = [];
   said = refused n ∷ [];
   state = Open;
+  reasons = [];
 }
 
 -- [case.n] prefix 1, 2 and clauses {1,1} {2,-1}: refused with 23
@@ -188,6 +209,7 @@ caseN = record {
   calls = [];
   said = refused 23 ∷ [];
   state = Open;
+  reasons = [];
 }
 
 -- [case.o] prefix 1, 2 and clauses {1,1} {2,-2}: refused with 10, though the clause before repeats a literal
@@ -197,6 +219,7 @@ caseO = record {
   calls = [];
   said = refused 10 ∷ [];
   state = Open;
+  reasons = [];
 }
 
 unfoldable pub table : List Case

@@ -19,85 +19,93 @@ use Rattle.rules.specs.declared.rule.Rule.{Rule}
 use Rattle.rules.specs.declared.rule.Rule.the-variants.{BacktrackExists, Fail, Unit, Monotone, Decide, BacktrackForall, Succeed}
 use Rattle.rules.specs.Due.{literal, due, lowest, last, candidate, lowestUnit, firstOf, firstMonotone, firstUnassigned}
 use Rattle.rules.specs.Preferred.{firstOpen}
-use Rattle.rules.specs.Trail.{recordOf, wiped, Trail, entries}
+use Rattle.rules.specs.Trail.{recordOf, wiped, entries}
 use Rattle.rules.specs.Apply.{apply}
 use Rattle.rules.specs.Check.{badEntries, badRecord}
 use Rattle.session.specs.declared.Session.{Session}
 use Rattle.session.specs.declared.Answer.{Answer}
 use Rattle.session.specs.declared.Answer.the-variants.{To, Refused}
+use Rattle.session.specs.declared.Stepped.{Stepped}
+use Rattle.session.specs.declared.Stepped.the-variants.{Next, Not}
 use Rattle.session.specs.declared.Ran.{Ran}
 use Rattle.session.specs.declared.Ran.the-variants.{Until, Stopped}
 use Rattle.session.specs.Refusals.{openRefusal, stepRefusal, runRefusal}
 use Rattle.session.specs.Memory.{Memory, memory}
 use Rattle.session.specs.Outcome.{openOutcome, stepOutcome}
-use Rattle.session.specs.Run.{advance, runFrom, runOf}
+use Rattle.session.specs.Reasons.{badReasons}
+use Rattle.session.specs.Run.{advance, runFrom, whyFrom, runOf}
 use Rattle.listing.specs.declared.Paged as paged
 use Rattle.listing.specs.Opening.{valuesOf, openingStart}
 use Rattle.listing.specs.Page.{PageMemory, pageRefusal, pageFrom, pageOf}
 use Rattle.cases.specs.Table as said
 use Rattle.cases.specs.Table.{Asked, Said, Case, table, all-0, blockA, blockG, caseA, caseA-monotone, caseB, caseC, caseD, caseE, caseF, caseG, caseH, caseI, caseJ, caseK, leastWord, caseL, caseL-calls, caseM, caseN, caseO}
 
--- a rule by its name, with the literal that it wrote
-abbrev pub named : Rule → ℤ → Said
-named (BacktrackExists i c) l = said.backtrack-exists l
-named (Fail c) l = said.fail
-named (Unit x c) l = said.unit l
-named (Monotone x) l = said.monotone l
-named (Decide x) l = said.decide l
-named (BacktrackForall i) l = said.backtrack-forall l
-named Succeed l = said.succeed
+-- a rule by its name, with the literal that it wrote; where a clause decided it, with the reason that the step answered
+abbrev pub named : Rule → ℤ → ℕ → Said
+named (BacktrackExists i c) l w = said.backtrack-exists l w
+named (Fail c) l w = said.fail w
+named (Unit x c) l w = said.unit l w
+named (Monotone x) l w = said.monotone l
+named (Decide x) l w = said.decide l
+named (BacktrackForall i) l w = said.backtrack-forall l
+named Succeed l w = said.succeed
 
 pub record Seen : Type 0 where
   pub heard : List Said
   pub state : State
+  pub reasons : List ℕ
 
-abbrev pub seen : List Said → State → Seen
-seen s t = record { heard = s; state = t }
+abbrev pub seen : List Said → State → List ℕ → Seen
+seen s t ws = record { heard = s; state = t; reasons = ws }
 
 -- the next thing said, and what is said of the rest of the calls
 abbrev pub next : Said → Seen → Seen
-next x u = seen (x ∷ u .heard) (u .state)
+next x u = seen (x ∷ u .heard) (u .state) (u .reasons)
 
-abbrev pub stepped : Session → Rule → Outcome Memory Answer → Answer → (Session → Trail → Seen) → Seen
-stepped s r o (To t) rest = next (named r (getD (o .memory .trail .lits) (t .length - 1) (pos 0))) (rest t (o .memory .trail))
-stepped s r o (Refused n) rest = next (said.refused n) (rest s (o .memory .trail))
+-- the last literal of a record of n entries
+abbrev pub lastOf : Memory → ℕ → ℤ
+lastOf m n = getD (m .trail .lits) (n - 1) (pos 0)
 
-abbrev pub run-as : Session → Outcome Memory Ran → Ran → (Session → Trail → Seen) → Seen
-run-as s o (Until t n) rest = next (said.ran n (getD (o .memory .trail .lits) (t .length - 1) (pos 0))) (rest t (o .memory .trail))
-run-as s o (Stopped n) rest = next (said.refused n) (rest s (o .memory .trail))
+abbrev pub stepped : Session → Rule → Memory → Stepped → (Session → Memory → Seen) → Seen
+stepped s r m (Next t w) rest = next (named r (lastOf m (t .length)) w) (rest t m)
+stepped s r m (Not n) rest = next (said.refused n) (rest s m)
+
+abbrev pub run-as : Session → Memory → Ran → (Session → Memory → Seen) → Seen
+run-as s m (Until t n w) rest = next (said.ran n (lastOf m (t .length)) w) (rest t m)
+run-as s m (Stopped n) rest = next (said.refused n) (rest s m)
 
 abbrev pub paged-as : PageMemory → paged.Paged → Said
 paged-as m (paged.the-variants.Page n e p) = said.listed n e p (m .output)
 paged-as m (paged.the-variants.Refused n) = said.refused n
 
-pub calling : List ℤ → List Asked → Session → Trail → Seen
-calling b [] s t = seen [] (s .state)
-calling b (said.step rev l ∷ rest) s t =
-    let o = stepOutcome limits s b (record { trail = t }) (record { 0 = rev }) (literal l) in
-    stepped s (due (formulaOf b) (recordOf t (s .length))) o (o .answer) (calling b rest)
-calling b (said.run rev budget preferred ∷ rest) s t =
-    let o = runOf limits s b (record { trail = t }) (record { 0 = rev }) budget preferred in
-    run-as s o (o .answer) (calling b rest)
-calling b (said.page start budget out ∷ rest) s t =
-    let o = pageOf limits b (record { work = t; output = out }) start [] budget in
-    next (paged-as (o .memory) (o .answer)) (calling b rest s (o .memory .work))
+pub calling : List ℤ → List Asked → Session → Memory → Seen
+calling b [] s m = seen [] (s .state) (m .reasons)
+calling b (said.step rev l ∷ rest) s m =
+    let o = stepOutcome limits s b m (record { 0 = rev }) (literal l) in
+    stepped s (due (formulaOf b) (recordOf (m .trail) (s .length))) (o .memory) (o .answer) (calling b rest)
+calling b (said.run rev budget preferred ∷ rest) s m =
+    let o = runOf limits s b m (record { 0 = rev }) budget preferred in
+    run-as s (o .memory) (o .answer) (calling b rest)
+calling b (said.page start budget out ∷ rest) s m =
+    let o = pageOf limits b (record { work = m .trail; output = out }) start [] budget in
+    next (paged-as (o .memory) (o .answer)) (calling b rest s (record { trail = o .memory .work; reasons = m .reasons }))
 
 -- from the opening, on buffers of V places that hold something
 abbrev pub opened : List ℤ → List Asked → Outcome Memory Answer → Answer → Seen
-opened b calls o (To s) = calling b calls s (o .memory .trail)
-opened b calls o (Refused n) = seen (said.refused n ∷ []) Open
+opened b calls o (To s) = calling b calls s (o .memory)
+opened b calls o (Refused n) = seen (said.refused n ∷ []) Open []
 
 pub worked : Case → Seen
 worked c =
     let v = variablesOf (c .block) in
-    let o = openOutcome limits (c .block) (memory (replicate v (pos 7)) (replicate v 7)) (record { 0 = 0 }) in
+    let o = openOutcome limits (c .block) (memory (replicate v (pos 7)) (replicate v 7) (replicate v 7)) (record { 0 = 0 }) in
     opened (c .block) (c .calls) o (o .answer)
 
-pub worked-by-hand : map worked table ≡ map (λ (c : Case). seen (c .said) (c .state)) table
-unfolding table caseA caseA-monotone caseB caseC caseD caseE caseF caseG caseH caseI caseJ caseK leastWord caseL caseL-calls caseM caseN caseO blockA blockG all-0 worked calling stepOutcome openOutcome runOf stepRefusal openRefusal runRefusal pageOf pageRefusal pageFrom valuesOf openingStart advance runFrom refusal limits twice badEnds bothSigns repeats all any eqZ mem formulaOf clausesFrom existential universal change levelOf level run firstGroup literals assigned unassignedE unassignedU inConflict unitOn occurs oneSign untrueOf isMonotone isOpen due lowest last candidate lowestUnit firstOf firstMonotone firstUnassigned firstOpen entries zipWith recordOf wiped apply badEntries badRecord ones
+pub worked-by-hand : map worked table ≡ map (λ (c : Case). seen (c .said) (c .state) (c .reasons)) table
+unfolding table caseA caseA-monotone caseB caseC caseD caseE caseF caseG caseH caseI caseJ caseK leastWord caseL caseL-calls caseM caseN caseO blockA blockG all-0 worked calling stepOutcome openOutcome runOf stepRefusal openRefusal runRefusal pageOf pageRefusal pageFrom valuesOf openingStart advance runFrom whyFrom badReasons refusal limits twice badEnds bothSigns repeats all any eqZ mem formulaOf clausesFrom existential universal change levelOf level run firstGroup literals assigned unassignedE unassignedU inConflict unitOn occurs oneSign untrueOf isMonotone isOpen due lowest last candidate lowestUnit firstOf firstMonotone firstUnassigned firstOpen entries zipWith recordOf wiped apply badEntries badRecord ones
 worked-by-hand = refl
 
 -- [case.n] the same on record buffers of no places: 23 is looked at before 11
-pub without-places : openOutcome limits (caseN .block) (memory [] []) (record { 0 = 0 }) .answer ≡ Refused 23
+pub without-places : openOutcome limits (caseN .block) (memory [] [] []) (record { 0 = 0 }) .answer ≡ Refused 23
 unfolding caseN openOutcome openRefusal refusal limits twice badEnds bothSigns repeats all any eqZ mem clausesFrom
 without-places = refl

@@ -27,13 +27,13 @@ textBytes = 524288
 
 -- the list of names; a number in an answer, with its sign and the space before it; as many as an answer has before a buffer's words
 abbrev pub namesBytes : ℕ
-namesBytes = 54
+namesBytes = 62
 
 abbrev pub numberBytes : ℕ
 numberBytes = 22
 
 abbrev pub answerNumbers : ℕ
-answerNumbers = 5
+answerNumbers = 6
 
 -- the largest word, the largest size of one below 0, and the largest number of 64 bits
 abbrev pub wordMost : ℕ

@@ -3,7 +3,6 @@ ghost use lib.ListN.{length};
 ghost use Rattle.console.specs.Desk.{Within};
 use crate::command::Command;
 use crate::desk::Counts;
-use crate::names;
 use crate::reply;
 use crate::reply::Reply;
 use session::Session;
@@ -16,24 +15,23 @@ fn call(
     block: &[i32],
     literals: &mut [i32],
     kinds: &mut [u8],
+    reasons: &mut [u32],
     output: &mut [u32],
     preferred: &[i32],
 ) -> Reply {
     match command {
         Command::Block(_) => reply::checked(session, formula::check(block)),
-        Command::Open(first) => reply::answered(
+        Command::Open(first) => reply::opened(
             session,
-            names::OPEN,
-            session::open(block, literals, kinds, first),
+            session::open(block, literals, kinds, reasons, first),
         ),
-        Command::Step { seen, proposal } => reply::answered(
+        Command::Step { seen, proposal } => reply::stepped(
             session,
-            names::STEP,
-            session.step(block, literals, kinds, seen, proposal),
+            session.step(block, literals, kinds, reasons, seen, proposal),
         ),
         Command::Run { seen, budget, .. } => reply::ran(
             session,
-            session.run(block, literals, kinds, seen, budget, preferred),
+            session.run(block, literals, kinds, reasons, seen, budget, preferred),
         ),
         Command::Page { start, budget, .. } => reply::paged(
             session,
@@ -51,14 +49,16 @@ pub(crate) fn act(
     block: &[i32],
     literals: &mut [i32],
     kinds: &mut [u8],
+    reasons: &mut [u32],
     output: &mut [u32],
     preferred: &[i32],
 ) -> Reply
-    requires { ⌜ Within counts (length (now block)) (length (now literals)) (length (now kinds)) (length (now output)) (length (now preferred)) ⌝ }
+    requires { ⌜ Within counts (length (now block)) (length (now literals)) (length (now kinds)) (length (now reasons)) (length (now output)) (length (now preferred)) ⌝ }
 {
     let b = counts.block;
     let l = counts.literals;
     let k = counts.kinds;
+    let r = counts.reasons;
     let o = counts.output;
     let p = counts.preferred;
     call(
@@ -68,6 +68,7 @@ pub(crate) fn act(
         &block[0..b],
         &mut literals[0..l],
         &mut kinds[0..k],
+        &mut reasons[0..r],
         &mut output[0..o],
         &preferred[0..p],
     )

@@ -30,6 +30,7 @@ pub(crate) enum Command {
     Block(usize),
     Literals(usize),
     Kinds(usize),
+    Reasons(usize),
     Output(usize),
     Session(Session),
     Open(Revision),
@@ -129,6 +130,10 @@ fn behind(name: Name, line: &[u8], from: usize) -> Command {
         names::KINDS => only(
             all_fit(line, from, NONE_BELOW, KIND_MOST, RECORD_PLACES),
             Command::Kinds(from),
+        ),
+        names::REASONS => only(
+            all_fit(line, from, NONE_BELOW, COUNT_MOST, RECORD_PLACES),
+            Command::Reasons(from),
         ),
         names::OUTPUT => only(
             all_fit(line, from, NONE_BELOW, COUNT_MOST, OUTPUT_WORDS),

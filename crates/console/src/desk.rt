@@ -9,6 +9,7 @@ pub(crate) struct Counts {
     pub(crate) block: usize,
     pub(crate) literals: usize,
     pub(crate) kinds: usize,
+    pub(crate) reasons: usize,
     pub(crate) output: usize,
     pub(crate) preferred: usize,
 }
@@ -29,6 +30,7 @@ pub(crate) fn empty() -> Desk
             block: 0,
             literals: 0,
             kinds: 0,
+            reasons: 0,
             output: 0,
             preferred: 0,
         },

@@ -27,6 +27,7 @@ use room::LINE_BYTES;
 use room::OUTPUT_WORDS;
 use room::PART_BYTES;
 use room::PREFERRED_WORDS;
+use room::REASON_WORDS;
 use room::RECORD_PLACES;
 use room::TEXT_BYTES;
 
@@ -38,6 +39,7 @@ fn serve_line(
     block: &mut [i32; BLOCK_WORDS],
     literals: &mut [i32; RECORD_PLACES],
     kinds: &mut [u8; RECORD_PLACES],
+    reasons: &mut [u32; REASON_WORDS],
     output: &mut [u32; OUTPUT_WORDS],
     preferred: &mut [i32; PREFERRED_WORDS],
     text: &mut [u8; TEXT_BYTES],
@@ -51,7 +53,17 @@ fn serve_line(
     let asks = asked(line, taken.long);
     let old = desk.counts;
     let before = desk.session;
-    let counts = set::buffers(asks, line, old, block, literals, kinds, output, preferred);
+    let counts = set::buffers(
+        asks,
+        line,
+        old,
+        block,
+        literals,
+        kinds,
+        reasons,
+        output,
+        preferred,
+    );
     let reply = act(
         asks,
         before,
@@ -59,10 +71,11 @@ fn serve_line(
         block,
         literals,
         kinds,
+        reasons,
         output,
         preferred,
     );
-    let written = text::write(text, reply, counts, literals, kinds, output);
+    let written = text::write(text, reply, counts, literals, kinds, reasons, output);
     let session = reply.session;
     Desk {
         counts,
@@ -78,6 +91,7 @@ fn serve(
     block: &mut [i32; BLOCK_WORDS],
     literals: &mut [i32; RECORD_PLACES],
     kinds: &mut [u8; RECORD_PLACES],
+    reasons: &mut [u32; REASON_WORDS],
     output: &mut [u32; OUTPUT_WORDS],
     preferred: &mut [i32; PREFERRED_WORDS],
     text: &mut [u8; TEXT_BYTES],
@@ -95,6 +109,7 @@ fn serve(
             block,
             literals,
             kinds,
+            reasons,
             output,
             preferred,
             text,
@@ -112,6 +127,7 @@ fn main() {
     let mut block = [0; BLOCK_WORDS];
     let mut literals = [0; RECORD_PLACES];
     let mut kinds = [0; RECORD_PLACES];
+    let mut reasons = [0; REASON_WORDS];
     let mut output = [0; OUTPUT_WORDS];
     let mut preferred = [0; PREFERRED_WORDS];
     let mut text = [0; TEXT_BYTES];
@@ -121,6 +137,7 @@ fn main() {
         &mut block,
         &mut literals,
         &mut kinds,
+        &mut reasons,
         &mut output,
         &mut preferred,
         &mut text,

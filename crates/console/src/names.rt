@@ -15,28 +15,30 @@ pub(crate) const LITERALS: Name = 1;
 
 pub(crate) const KINDS: Name = 2;
 
-pub(crate) const OUTPUT: Name = 3;
+pub(crate) const REASONS: Name = 3;
 
-pub(crate) const SESSION: Name = 4;
+pub(crate) const OUTPUT: Name = 4;
 
-pub(crate) const OPEN: Name = 5;
+pub(crate) const SESSION: Name = 5;
 
-pub(crate) const STEP: Name = 6;
+pub(crate) const OPEN: Name = 6;
 
-pub(crate) const RUN: Name = 7;
+pub(crate) const STEP: Name = 7;
 
-pub(crate) const PAGE: Name = 8;
+pub(crate) const RUN: Name = 8;
 
-pub(crate) const SHOW: Name = 9;
+pub(crate) const PAGE: Name = 9;
 
-pub(crate) const UNKNOWN: Name = 10;
+pub(crate) const SHOW: Name = 10;
+
+pub(crate) const UNKNOWN: Name = 11;
 
 // Behind the list: a line that gets no answer has none.
-pub(crate) const NOTHING: Name = 11;
+pub(crate) const NOTHING: Name = 12;
 
 // The names in one line, each at its place.
 pub(crate) fn list() -> [u8; NAMES_BYTES] {
-    *b"block lits kinds out session open step run page show ?"
+    *b"block lits kinds reasons out session open step run page show ?"
 }
 
 // Where a name stands in the list.

@@ -9,6 +9,7 @@ use listing::Paged;
 use session::Answer;
 use session::Ran;
 use session::Session;
+use session::Stepped;
 use session::number_of;
 
 // The words that follow an answer's numbers.
@@ -20,7 +21,7 @@ pub(crate) enum After {
     Desk,
 }
 
-// The session; a name, the first few of five numbers, and the words that follow.
+// The session; a name, the first few of six numbers, and the words that follow.
 pub(crate) struct Reply {
     pub(crate) session: Session,
     pub(crate) name: Name,
@@ -35,7 +36,7 @@ fn short(session: Session, name: Name, count: usize, n: u64) -> Reply {
         session,
         name,
         count,
-        numbers: [n, 0, 0, 0, 0],
+        numbers: [n, 0, 0, 0, 0, 0],
         after: After::Nothing,
     }
 }
@@ -54,13 +55,14 @@ fn shown(session: Session) -> Reply {
             number_of(state) as u64,
             0,
             0,
+            0,
         ],
         after: After::Desk,
     }
 }
 
-// `NAME 0 LENGTH REVISION STATE`, and for a run its count of steps.
-fn reached(session: Session, name: Name, count: usize, steps: u32) -> Reply {
+// `NAME 0 LENGTH REVISION STATE`, and up to two numbers more.
+fn reached(session: Session, name: Name, count: usize, first: u32, second: u32) -> Reply {
     let state = session.state;
     let revision = session.revision;
     Reply {
@@ -72,25 +74,39 @@ fn reached(session: Session, name: Name, count: usize, steps: u32) -> Reply {
             session.length as u64,
             revision.0,
             number_of(state) as u64,
-            steps as u64,
+            first as u64,
+            second as u64,
         ],
         after: After::Nothing,
     }
 }
 
-pub(crate) fn answered(session: Session, name: Name, answer: Answer) -> Reply {
+pub(crate) fn opened(session: Session, answer: Answer) -> Reply {
     match answer {
-        Answer::To(next) => reached(next, name, 4, 0),
-        Answer::Refused(n) => short(session, name, 1, n as u64),
+        Answer::To(next) => reached(next, names::OPEN, 4, 0, 0),
+        Answer::Refused(n) => short(session, names::OPEN, 1, n as u64),
     }
 }
 
+// A step tells its reason.
+pub(crate) fn stepped(session: Session, answer: Stepped) -> Reply {
+    match answer {
+        Stepped::Next {
+            session: next,
+            reason,
+        } => reached(next, names::STEP, 5, reason, 0),
+        Stepped::Not(n) => short(session, names::STEP, 1, n as u64),
+    }
+}
+
+// A run tells its count of steps, and the reason of the last one.
 pub(crate) fn ran(session: Session, answer: Ran) -> Reply {
     match answer {
         Ran::Until {
             session: next,
             steps,
-        } => reached(next, names::RUN, 5, steps),
+            reason,
+        } => reached(next, names::RUN, 6, steps, reason),
         Ran::Stopped(n) => short(session, names::RUN, 1, n as u64),
     }
 }
@@ -106,7 +122,7 @@ pub(crate) fn paged(session: Session, answer: Paged) -> Reply {
             session,
             name: names::PAGE,
             count: 4,
-            numbers: [0, next as u64, entries as u64, paused as u64, 0],
+            numbers: [0, next as u64, entries as u64, paused as u64, 0, 0],
             after: After::Output(2 * (entries as usize)),
         },
         Paged::Refused(n) => short(session, names::PAGE, 1, n as u64),
@@ -126,6 +142,7 @@ pub(crate) fn told(command: Command, session: Session, counts: Counts) -> Reply 
     match command {
         Command::Literals(_) => short(session, names::LITERALS, 1, counts.literals as u64),
         Command::Kinds(_) => short(session, names::KINDS, 1, counts.kinds as u64),
+        Command::Reasons(_) => short(session, names::REASONS, 1, counts.reasons as u64),
         Command::Output(_) => short(session, names::OUTPUT, 1, counts.output as u64),
         Command::Session(next) => short(next, names::SESSION, 0, 0),
         Command::Show => shown(session),

@@ -7,6 +7,9 @@ pub(crate) const RECORD_PLACES: usize = 2048;
 
 pub(crate) const OUTPUT_WORDS: usize = BLOCK_WORDS / 2;
 
+// The buffer of reasons is an array like the output's, so that the same functions serve both; its lines have no more words than there are places.
+pub(crate) const REASON_WORDS: usize = OUTPUT_WORDS;
+
 pub(crate) const LINE_BYTES: usize = 262144;
 
 // A line has at most half as many words as bytes, which is room enough for preferences.
@@ -15,17 +18,17 @@ pub(crate) const PREFERRED_WORDS: usize = LINE_BYTES / 2;
 // The input is read in parts of so many bytes.
 pub(crate) const PART_BYTES: usize = LINE_BYTES / 4;
 
-// No answer is cut short: a number takes at most 22 bytes, with its sign and the space before it, and the buffers have 12,288 words.
+// No answer is cut short: a number takes at most 22 bytes, with its sign and the space before it, and the buffers have 20,480 words.
 pub(crate) const TEXT_BYTES: usize = 524288;
 
 // A number of 64 bits has at most so many digits.
 pub(crate) const DIGITS: usize = 20;
 
 // The numbers that stand in an answer before the words of a buffer: at most so many.
-pub(crate) const ANSWER_NUMBERS: usize = 5;
+pub(crate) const ANSWER_NUMBERS: usize = 6;
 
 // The bytes of the list of names.
-pub(crate) const NAMES_BYTES: usize = 54;
+pub(crate) const NAMES_BYTES: usize = 62;
 
 // The largest number of each place: "i32 words, u8 kinds, u64 revisions and lengths, u32 budgets, starts and outputs", and a session's state.
 pub(crate) const WORD_MOST: u64 = 2147483647;

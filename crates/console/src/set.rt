@@ -8,6 +8,7 @@ use crate::fill::store_words;
 use crate::room::BLOCK_WORDS;
 use crate::room::OUTPUT_WORDS;
 use crate::room::PREFERRED_WORDS;
+use crate::room::REASON_WORDS;
 use crate::room::RECORD_PLACES;
 
 // Preferred words are in use for the line of their run or page alone.
@@ -18,6 +19,7 @@ pub(crate) fn buffers(
     block: &mut [i32; BLOCK_WORDS],
     literals: &mut [i32; RECORD_PLACES],
     kinds: &mut [u8; RECORD_PLACES],
+    reasons: &mut [u32; REASON_WORDS],
     output: &mut [u32; OUTPUT_WORDS],
     preferred: &mut [i32; PREFERRED_WORDS],
 ) -> Counts
@@ -30,6 +32,7 @@ pub(crate) fn buffers(
         Command::Block(from) => counts.block = store_words(line, from, block),
         Command::Literals(from) => counts.literals = store_words(line, from, literals),
         Command::Kinds(from) => counts.kinds = store_kinds(line, from, kinds),
+        Command::Reasons(from) => counts.reasons = store_counts(line, from, reasons),
         Command::Output(from) => counts.output = store_counts(line, from, output),
         Command::Run { from, .. } => counts.preferred = store_words(line, from, preferred),
         Command::Page { from, .. } => counts.preferred = store_words(line, from, preferred),

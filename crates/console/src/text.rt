@@ -13,6 +13,7 @@ use crate::reply::Reply;
 use crate::room::ANSWER_NUMBERS;
 use crate::room::DIGITS;
 use crate::room::OUTPUT_WORDS;
+use crate::room::REASON_WORDS;
 use crate::room::RECORD_PLACES;
 use crate::room::TEXT_BYTES;
 use libc::STDOUT_FILENO;
@@ -128,13 +129,14 @@ fn name(text: &mut [u8; TEXT_BYTES], at: usize, name: Name) -> usize
     put(text, at, &names[start..end])
 }
 
-// Puts ` lits W.. kinds B.. out W..`.
+// Puts ` lits W.. kinds B.. reasons W.. out W..`.
 fn buffers(
     text: &mut [u8; TEXT_BYTES],
     from: usize,
     used: Counts,
     literals: &[i32; RECORD_PLACES],
     bytes: &[u8; RECORD_PLACES],
+    reasons: &[u32; REASON_WORDS],
     output: &[u32; OUTPUT_WORDS],
 ) -> usize
     requires { ⌜ from ≤ namesBytes + numberBytes * answerNumbers ⌝ }
@@ -144,7 +146,9 @@ fn buffers(
     let second = words(text, first, literals, used.literals);
     let third = put(text, second, b" kinds");
     let fourth = kinds(text, third, bytes, used.kinds);
-    let last = put(text, fourth, b" out");
+    let fifth = put(text, fourth, b" reasons");
+    let sixth = counts(text, fifth, reasons, used.reasons);
+    let last = put(text, sixth, b" out");
     counts(text, last, output, used.output)
 }
 
@@ -156,6 +160,7 @@ fn words_after(
     used: Counts,
     literals: &[i32; RECORD_PLACES],
     bytes: &[u8; RECORD_PLACES],
+    reasons: &[u32; REASON_WORDS],
     output: &[u32; OUTPUT_WORDS],
 ) -> usize
     requires { ⌜ from ≤ namesBytes + numberBytes * answerNumbers ⌝ }
@@ -164,7 +169,7 @@ fn words_after(
     match after {
         After::Nothing => from,
         After::Output(count) => counts(text, from, output, count),
-        After::Desk => buffers(text, from, used, literals, bytes, output),
+        After::Desk => buffers(text, from, used, literals, bytes, reasons, output),
     }
 }
 
@@ -182,6 +187,7 @@ pub(crate) fn write(
     used: Counts,
     literals: &[i32; RECORD_PLACES],
     bytes: &[u8; RECORD_PLACES],
+    reasons: &[u32; REASON_WORDS],
     output: &[u32; OUTPUT_WORDS],
 ) -> bool {
     let first = reply.name;
@@ -192,7 +198,7 @@ pub(crate) fn write(
     let ns = reply.numbers;
     let from = numbers(text, named, ns, reply.count);
     let after = reply.after;
-    let end = words_after(text, from, after, used, literals, bytes, output);
+    let end = words_after(text, from, after, used, literals, bytes, reasons, output);
     let size = put(text, end, b"\n");
     written(text, size)
 }

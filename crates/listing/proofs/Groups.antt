@@ -17,7 +17,7 @@ use Rattle.words.specs.Laws.Lists.{next, ended}
 use Rattle.words.specs.Words.{negative, opposite}
 use Rattle.words.specs.Laws.Words.{opposite-is}
 use Rattle.formula.specs.Formula.{run, firstGroup, variablesOf, prefixOf, formulaOf}
-use Rattle.formula.specs.Limits.{limits}
+use Rattle.formula.specs.Limits.{limits, maxVariables}
 use Rattle.formula.specs.Laws.Limits.{group-small, variables-are}
 use Rattle.formula.specs.Laws.Accepted.{accepted, variables-most, prefix-named, prefix-length, Accepted}
 use Rattle.rules.specs.declared.rule.State.the-variants.{Open}
@@ -86,6 +86,10 @@ module _ (n : ℕ) (g ls : List ℤ) (i : ℕ) where
 
 -- ---- where an opening's search starts
 module _ {b : List ℤ} {work : Trail} {k : ℕ} (o : OnGroup b work k) where
+  -- an array of as many places as the limit of variables has one for each
+  pub in-table : variablesOf b ≤ maxVariables
+  in-table = omega (arith, variables-are, variables-most (accepted limits b (o .on .block)))
+
   -- the group as it is lent
   module _ {p g : List ℤ} (cut : p ≡ prefixOf b) (taken : g ≡ take k p) where
     group-is-first : g ≡ take (firstGroup (prefixOf b)) (prefixOf b)

@@ -13,8 +13,9 @@ use Rattle.words.specs.Laws.Rows.{stops, goes-on}
 use Rattle.words.specs.Words.{negative}
 use Rattle.formula.specs.Formula.{word, formulaOf, firstGroup, prefixOf}
 use Rattle.rules.specs.Inner.Ready.{formula}
+use Rattle.session.specs.Memory.{recordPlaces}
 use Rattle.session.specs.Refusals.{openRows, openRefusal}
-use Rattle.listing.specs.Page.{workOf, ofPage, pageRefusal, PageMemory}
+use Rattle.listing.specs.Page.{ofPage, pageRefusal, PageMemory}
 use Rattle.formula.specs.Limits.{limits}
 
 -- ---- rows 18 to 21
@@ -46,11 +47,11 @@ module _ (p : List ℤ) (start : ℕ) (out : List ℕ) {u : Bool} (is : u ≡ ne
         openings-pass r = rw (first-word p, ← is, x, ← e, le-ltb (limits .group) k h, ← t, le-ltb m start l, le-ltb (length out) 2 r)
 
 -- ---- the block's rows and row 11, and then these
-module _ (b : List ℤ) (m : PageMemory) (start : ℕ) {r : ℕ} (e : r ≡ openRefusal limits b (workOf m)) where
+module _ (b : List ℤ) (m : PageMemory) (start : ℕ) {n r : ℕ} (have : n ≡ recordPlaces (m .work)) (e : r ≡ openRefusal limits b n) where
   pub page-buffers : (r ≡ 0 → ⊥) → r ≡ pageRefusal limits b m start
   unfolding pageRefusal openRefusal
-  page-buffers f = stops (openRows limits b (workOf m)) (ofPage limits (formulaOf b) start (m .output)) e f
+  page-buffers f = stops (openRows limits b (recordPlaces (m .work))) (ofPage limits (formulaOf b) start (m .output)) (rw have at e) f
 
   pub page-openings : (z : r ≡ 0) {p : List ℤ} → p ≡ prefixOf b → {q : ℕ} → q ≡ refusalOf (rowsOf p start (m .output)) → q ≡ pageRefusal limits b m start
   unfolding pageRefusal openRefusal formulaOf
-  page-openings z is p = p ∙ rw is (sym (goes-on (openRows limits b (workOf m)) (ofPage limits (formulaOf b) start (m .output)) refl (sym e ∙ z)))
+  page-openings z is p = p ∙ rw is (sym (goes-on (openRows limits b (recordPlaces (m .work))) (ofPage limits (formulaOf b) start (m .output)) refl (rw have at (sym e ∙ z))))

@@ -8,11 +8,12 @@ use Rattle.words.specs.Outcomes.{Outcome, unless}
 use Rattle.formula.specs.Formula.{formulaOf}
 use Rattle.formula.specs.Limits.{Limits}
 use Rattle.rules.specs.declared.rule.State.{State}
+use Rattle.session.specs.Memory.{recordPlaces}
 use Rattle.session.specs.Refusals.{short}
 use Rattle.listing.specs.declared.Paged.{Paged}
 use Rattle.listing.specs.declared.Paged.the-variants.{Refused}
 use Rattle.listing.specs.Opening.{openings, openingEnd}
-use Rattle.listing.specs.Page.{workOf, PageMemory, pageRefusal, paged, pageFrom, sheetOf, pageOf}
+use Rattle.listing.specs.Page.{PageMemory, pageRefusal, paged, pageFrom, sheetOf, pageOf}
 use Rattle.listing.specs.Rows.{page-guarded, page-binds}
 use Rattle.listing.specs.Laws.Beyond.{same-end}
 
@@ -22,7 +23,7 @@ pub record SamePage (o o′ : Outcome PageMemory Paged) : Type 0 where
   pub output : o .memory .output ≡ o′ .memory .output
 
 -- two memories with the same output, of which both or none break row 11
-module _ (L : Limits) (b : List ℤ) (m m′ : PageMemory) (buffers : short b (workOf m) ≡ short b (workOf m′)) (output : m .output ≡ m′ .output) (start : ℕ) where
+module _ (L : Limits) (b : List ℤ) (m m′ : PageMemory) (buffers : short b (recordPlaces (m .work)) ≡ short b (recordPlaces (m′ .work))) (output : m .output ≡ m′ .output) (start : ℕ) where
   same-refusal : pageRefusal L b m start ≡ pageRefusal L b m′ start
   unfolding pageRefusal
   same-refusal = rw (buffers, output)

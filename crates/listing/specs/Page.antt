@@ -14,7 +14,7 @@ use Rattle.rules.specs.declared.rule.State.the-variants.{Open, Valid, Unsat}
 use Rattle.rules.specs.Trail.{Trail, trail, wipedTrail}
 use Rattle.words.specs.Outcomes.{Outcome, outcome, unless}
 use Rattle.formula.specs.Limits.{Limits}
-use Rattle.session.specs.Memory.{Memory}
+use Rattle.session.specs.Memory.{recordPlaces}
 use Rattle.session.specs.Refusals.{openRows}
 use Rattle.listing.specs.declared.Paged.{Paged}
 use Rattle.listing.specs.declared.Paged.the-variants.{Page, Refused}
@@ -28,11 +28,7 @@ pub record PageMemory : Type 0 where
 abbrev pub pageMemory : List ℤ → List ℕ → List ℕ → PageMemory
 pageMemory ls ks out = record { work = trail ls ks; output = out }
 
--- the work record, as a session's memory
-abbrev pub workOf : PageMemory → Memory
-workOf m = record { trail = m .work }
-
--- ---- [calls.page] when a page is refused: rows 18 to 21, after those of an opening
+-- ---- [calls.page] when a page is refused: rows 18 to 21, after those of an opening on the work record's buffers
 -- [row.18]
 abbrev pub firstUniversal : Formula → Bool
 firstUniversal F = ltb 0 (length (F .prefix)) && negative (word (F .prefix) 0)
@@ -47,7 +43,7 @@ ofPage L F start out =
     ∷ []
 
 abbrev pub pageRows : Limits → List ℤ → PageMemory → ℕ → List Row
-pageRows L b m start = openRows L b (workOf m) ++ ofPage L (formulaOf b) start (m .output)
+pageRows L b m start = openRows L b (recordPlaces (m .work)) ++ ofPage L (formulaOf b) start (m .output)
 
 unfoldable pub pageRefusal : Limits → List ℤ → PageMemory → ℕ → ℕ
 pageRefusal L b m start = refusalOf (pageRows L b m start)

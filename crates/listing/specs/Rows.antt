@@ -14,9 +14,10 @@ use Rattle.formula.specs.Formula.{formulaOf, prefixOf, firstGroup}
 use Rattle.formula.specs.Block.{refusal}
 use Rattle.session.specs.Refusals.{openRows, openRefusal}
 use Rattle.session.specs.Rows.{openNumbers}
-use Rattle.session.specs.Laws.Accepted.{opened, open-passes}
+use Rattle.session.specs.Memory.{recordPlaces}
+use Rattle.session.specs.Laws.Accepted.{opened, open-passes, record-room, room-record}
 use Rattle.listing.specs.Opening.{openings}
-use Rattle.listing.specs.Page.{workOf, firstUniversal, ofPage, pageRows, pageRefusal, PageMemory}
+use Rattle.listing.specs.Page.{firstUniversal, ofPage, pageRows, pageRefusal, PageMemory}
 use Rattle.rules.specs.Inner.Ready.{Binds, Room}
 use Rattle.rules.specs.Laws.Accepted.{prefix-length, accepted-binds}
 
@@ -41,7 +42,8 @@ module _ (L : Limits) (b : List ℤ) (m : PageMemory) (start : ℕ) where
   pub page-guarded : pageRefusal L b m start ≡ 0 → PageGuarded
   unfolding pageRefusal openRefusal formulaOf
   page-guarded e =
-      let o = opened L b (workOf m) (first-part (openRows L b (workOf m)) (ofPage L (formulaOf b) start (m .output)) e) in
+      let n = recordPlaces (m .work) in
+      let o = record-room (m .work) (opened L b n (first-part (openRows L b n) (ofPage L (formulaOf b) start (m .output)) e)) in
       let r = passed (pageRows L b m start) refl e in
       record {
         block = o .block;
@@ -56,8 +58,9 @@ module _ (L : Limits) (b : List ℤ) (m : PageMemory) (start : ℕ) where
   pub page-passes : PageGuarded → pageRefusal L b m start ≡ 0
   unfolding pageRefusal openRefusal formulaOf
   page-passes g =
-      let o = open-passes L b (workOf m) (record { block = g .block; room = rw (← prefix-length L b (g .block)) (g .lent) }) in
-      goes-on (openRows L b (workOf m)) (ofPage L (formulaOf b) start (m .output)) refl o
+      let n = recordPlaces (m .work) in
+      let o = open-passes L b n (room-record (m .work) (record { block = g .block; room = rw (← prefix-length L b (g .block)) (g .lent) })) in
+      goes-on (openRows L b n) (ofPage L (formulaOf b) start (m .output)) refl o
       ∙ rw (
         g .exists,
         le-ltb (L .group) (firstGroup (prefixOf b)) (g .narrow),

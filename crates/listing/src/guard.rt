@@ -37,7 +37,7 @@ pub(crate) fn page_refusal(
 ) -> u32
     ensures { λ r. ⌜ r ≡ pageRefusal limits (now (block .entry)) (pageMemory (now (lits .entry)) (now (kinds .entry)) (now (output .entry))) start ⌝ }
 {
-    let refused = session::open_refusal(block, lits, kinds);
+    let refused = session::open_refusal(block, session::record_places(lits, kinds));
     if refused != 0 {
         return refused;
     }

@@ -3,7 +3,7 @@ ghost use mathlib.Core.Path.{_≡_};
 ghost use Prim.Native.Nat.{_^_, _/_, _%_, _≤_, _<_};
 ghost use lib.Dec.{eqb};
 ghost use lib.IntN.{pos};
-ghost use lib.ListN.{getD};
+ghost use lib.ListN.{length, getD};
 ghost use lib.Seq.{sets};
 ghost use Rattle.formula.specs.Limits.{limits};
 ghost use Rattle.formula.specs.Formula.{formulaOf, firstGroup};
@@ -13,8 +13,10 @@ ghost use Rattle.rules.specs.declared.rule.State.the-variants.{Open};
 ghost use Rattle.listing.specs.Opening.{valueAt, valuesOf, openingStart, openingSearch};
 ghost use Rattle.listing.specs.Inner.Pages.{OnGroup, WritableAt, Writable};
 ghost use Rattle.words.specs.Outcomes.{outcome};
+ghost use Rattle.formula.specs.Limits.{maxVariables};
 ghost use Rattle.rules.specs.Inner.Ready.{LentTables};
 use formula::LITERAL_PLACES;
+use formula::MAX_VARIABLES;
 use rules::PLACES;
 use rules::Reached;
 
@@ -85,7 +87,8 @@ fn begin(block: &[i32], lits: &mut [i32], kinds: &mut [u8], k: usize, n: u32)
     write_values(words::take(formula::prefix(block), k), n, lits);
 }
 
-// The search of the opening n, within the budget.
+// The search of the opening n, within the budget. A page is lent no reasons: the search writes them to a table of its own, and they are not
+// looked at.
 pub(crate) fn try_opening(
     block: &[i32],
     lits: &mut [i32],
@@ -96,12 +99,25 @@ pub(crate) fn try_opening(
     budget: u32,
     levels: &[u16; PLACES],
     statuses: &mut [u8; LITERAL_PLACES],
+    reasons: &mut [u32; MAX_VARIABLES],
 ) -> Reached
     requires { ⌜ OnGroup (now block) (trail (now lits) (now kinds)) k ⌝ }
     requires { ⌜ LentTables (now block) (now levels) (now statuses) ⌝ }
+    requires { ⌜ length (now reasons) ≡ maxVariables ⌝ }
     ensures { λ r. ⌜ outcome (reached r (trail (now (lits .exit)) (now (kinds .exit)))) (now (statuses .exit)) ≡ outcome (openingSearch (formulaOf (now (block .entry))) (now (preferred .entry)) budget (trail (now (lits .entry)) (now (kinds .entry))) n) (now (statuses .entry)) ⌝ }
+    ensures { λ r. ⌜ length (now (reasons .exit)) ≡ maxVariables ⌝ }
 {
     begin(block, lits, kinds, k, n);
-    let found = session::search(block, lits, kinds, k, budget, preferred, levels, statuses);
+    let found = session::search(
+        block,
+        lits,
+        kinds,
+        reasons,
+        k,
+        budget,
+        preferred,
+        levels,
+        statuses,
+    );
     found.reached
 }

@@ -9,6 +9,7 @@ ghost use Rattle.listing.specs.Inner.Pages.{OnPage, wipedOutcome};
 use crate::Paged;
 use crate::openings;
 use formula::LITERAL_PLACES;
+use formula::MAX_VARIABLES;
 use rules::State;
 
 // An answer.
@@ -48,6 +49,7 @@ pub(crate) fn fill(
 {
     let levels = rules::levels(block);
     let mut statuses = [0u8; LITERAL_PLACES];
+    let mut reasons = [0u32; MAX_VARIABLES];
     let total = openings::count(k);
     let mut n = start;
     let mut entries = 0;
@@ -65,6 +67,7 @@ pub(crate) fn fill(
             budget,
             &levels,
             &mut statuses,
+            &mut reasons,
         );
         let next = n + 1;
         let state = reached.state;

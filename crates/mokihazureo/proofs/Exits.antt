@@ -9,7 +9,7 @@ use mir.Val.{boolByte}
 use Rattle.words.specs.Outcomes.{Outcome, outcome}
 use Rattle.rules.specs.Due.{literal}
 use Rattle.session.specs.declared.Session.{Session}
-use Rattle.session.specs.declared.Answer.{Answer}
+use Rattle.session.specs.declared.Stepped.{Stepped}
 use Rattle.session.specs.declared.Ran.{Ran}
 use Rattle.session.specs.Memory.{Memory}
 use Rattle.session.specs.Outcome.{stepOutcome}
@@ -28,7 +28,7 @@ tells status numbers a e p q = rw (← e, p, q)
 
 -- the session of the three numbers
 module _ {s t : Session} (same : s ≡ t) (b : List ℤ) (m : Memory) (seen : ℕ) where
-  pub step-of : {l k : ℤ} → l ≡ k → {o : Outcome Memory Answer} → o ≡ stepOutcome limits s b m (revision seen) (literal l) → o ≡ stepOutcome limits t b m (revision seen) (literal k)
+  pub step-of : {l k : ℤ} → l ≡ k → {o : Outcome Memory Stepped} → o ≡ stepOutcome limits s b m (revision seen) (literal l) → o ≡ stepOutcome limits t b m (revision seen) (literal k)
   step-of kept e = rw (← same, ← kept) e
 
   pub run-of : (budget : ℕ) (preferred : List ℤ) {o : Outcome Memory Ran} → o ≡ runOf limits s b m (revision seen) budget preferred → o ≡ runOf limits t b m (revision seen) budget preferred

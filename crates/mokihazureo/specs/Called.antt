@@ -2,7 +2,7 @@
 -- crates below, by the same definitions.
 use Prim.Native.Nat.{ℕ}
 use mathlib.Core.Bool.{cond}
-use mathlib.Core.List.{List, [], _∷_}
+use mathlib.Core.List.{List, [], _∷_, _++_}
 use lib.IntN.{ℤ}
 use lib.Seq.{sets}
 use Rattle.words.specs.Outcomes.{Outcome, outcome}
@@ -12,6 +12,8 @@ use Rattle.session.specs.declared.Revision.{Revision}
 use Rattle.session.specs.declared.Session.{Session}
 use Rattle.session.specs.declared.Answer.{Answer}
 use Rattle.session.specs.declared.Answer.the-variants.{To, Refused}
+use Rattle.session.specs.declared.Stepped.{Stepped}
+use Rattle.session.specs.declared.Stepped.the-variants.{Next, Not}
 use Rattle.session.specs.declared.Ran.{Ran}
 use Rattle.session.specs.declared.Ran.the-variants.{Until, Stopped}
 use Rattle.session.specs.Memory.{Memory}
@@ -43,28 +45,37 @@ numbersOf s = s .length ∷ s .revision .0 ∷ numberOf (s .state) ∷ []
 abbrev pub revision : ℕ → Revision
 revision n = record { 0 = n }
 
--- ---- opening and a step: status 0 and the next session's numbers, or the refusal's number and none
-abbrev pub statusOf : Answer → ℕ
-statusOf (To s) = 0
-statusOf (Refused n) = n
+-- ---- opening: status 0 and the session's numbers, or the refusal's number and none
+abbrev pub openedStatus : Answer → ℕ
+openedStatus (To s) = 0
+openedStatus (Refused n) = n
 
-abbrev pub answerNumbers : Answer → List ℕ
-answerNumbers (To s) = numbersOf s
-answerNumbers (Refused n) = []
+abbrev pub openedNumbers : Answer → List ℕ
+openedNumbers (To s) = numbersOf s
+openedNumbers (Refused n) = []
 
 abbrev pub openCall : Limits → List ℤ → Memory → ℕ → List ℕ → Outcome (Lent Memory) ℕ
-openCall L b m first a = told statusOf answerNumbers a (openOutcome L b m (revision first))
+openCall L b m first a = told openedStatus openedNumbers a (openOutcome L b m (revision first))
+
+-- ---- a step: its reason is a fourth number
+abbrev pub steppedStatus : Stepped → ℕ
+steppedStatus (Next s w) = 0
+steppedStatus (Not n) = n
+
+abbrev pub steppedNumbers : Stepped → List ℕ
+steppedNumbers (Next s w) = numbersOf s ++ w ∷ []
+steppedNumbers (Not n) = []
 
 abbrev pub stepCall : Limits → Session → List ℤ → Memory → ℕ → ℤ → List ℕ → Outcome (Lent Memory) ℕ
-stepCall L s b m seen l a = told statusOf answerNumbers a (stepOutcome L s b m (revision seen) (literal l))
+stepCall L s b m seen l a = told steppedStatus steppedNumbers a (stepOutcome L s b m (revision seen) (literal l))
 
--- ---- a run: the count of accepted steps is a fourth number
+-- ---- a run: the count of accepted steps is a fourth number, and the last one's reason a fifth
 abbrev pub ranStatus : Ran → ℕ
-ranStatus (Until s n) = 0
+ranStatus (Until s n w) = 0
 ranStatus (Stopped n) = n
 
 abbrev pub ranNumbers : Ran → List ℕ
-ranNumbers (Until s n) = s .length ∷ s .revision .0 ∷ numberOf (s .state) ∷ n ∷ []
+ranNumbers (Until s n w) = numbersOf s ++ n ∷ w ∷ []
 ranNumbers (Stopped n) = []
 
 abbrev pub runCall : Limits → Session → List ℤ → Memory → ℕ → ℕ → List ℤ → List ℕ → Outcome (Lent Memory) ℕ

@@ -8,15 +8,16 @@ use Rattle.words.specs.Outcomes.{Outcome, unless}
 use Rattle.formula.specs.Limits.{Limits}
 use Rattle.session.specs.declared.Session.{Session}
 use Rattle.session.specs.declared.Answer.the-variants.{Refused}
+use Rattle.session.specs.declared.Stepped.the-variants.{Not}
 use Rattle.session.specs.declared.Ran.the-variants.{Stopped}
-use Rattle.session.specs.Memory.{Memory}
+use Rattle.session.specs.Memory.{Memory, places}
 use Rattle.session.specs.Refusals.{openRefusal, stepRefusal, runRefusal}
 use Rattle.session.specs.Outcome.{openOutcome, stepOutcome}
 use Rattle.session.specs.Run.{runOf}
 use Rattle.rules.specs.Due.{literal}
 use Rattle.listing.specs.declared.Paged as paged
 use Rattle.listing.specs.Page.{PageMemory, pageRefusal, pageOf}
-use Rattle.mokihazureo.specs.Called.{Lent, lent, told, revision, statusOf, answerNumbers, ranStatus, ranNumbers, pagedStatus, pagedNumbers, openCall, stepCall, runCall, pageCall}
+use Rattle.mokihazureo.specs.Called.{Lent, lent, told, revision, openedStatus, openedNumbers, steppedStatus, steppedNumbers, ranStatus, ranNumbers, pagedStatus, pagedNumbers, openCall, stepCall, runCall, pageCall}
 
 -- the status is the table's number n, and unless that is 0 all is as it was
 pub record Stated {M : Type 0} (n : ℕ) (m : M) (a : List ℕ) (u : Outcome (Lent M) ℕ) : Type 0 where
@@ -28,14 +29,14 @@ stated : {M A : Type 0} (status : A → ℕ) (numbers : A → List ℕ) (number 
 stated status numbers number tells none zero m a o e = record { status = e; leaves = λ f. absurd (f refl) }
 stated status numbers number tells none (suc n) m a o e = record { status = tells (suc n); leaves = λ f. rw (none (suc n)) }
 
-pub open-stated : (L : Limits) → (b : List ℤ) (m : Memory) (first : ℕ) (a : List ℕ) → Stated (openRefusal L b m) m a (openCall L b m first a)
+pub open-stated : (L : Limits) → (b : List ℤ) (m : Memory) (first : ℕ) (a : List ℕ) → Stated (openRefusal L b (places m)) m a (openCall L b m first a)
 unfolding openOutcome
-open-stated L b m first a = stated statusOf answerNumbers Refused (λ n. refl) (λ n. refl) (openRefusal L b m) m a _ refl
+open-stated L b m first a = stated openedStatus openedNumbers Refused (λ n. refl) (λ n. refl) (openRefusal L b (places m)) m a _ refl
 
 module _ (L : Limits) (s : Session) (b : List ℤ) (m : Memory) (seen : ℕ) (a : List ℕ) where
   pub step-stated : (l : ℤ) → Stated (stepRefusal L s b m (revision seen) (literal l)) m a (stepCall L s b m seen l a)
   unfolding stepOutcome
-  step-stated l = stated statusOf answerNumbers Refused (λ n. refl) (λ n. refl) (stepRefusal L s b m (revision seen) (literal l)) m a _ refl
+  step-stated l = stated steppedStatus steppedNumbers Not (λ n. refl) (λ n. refl) (stepRefusal L s b m (revision seen) (literal l)) m a _ refl
 
   pub run-stated : (budget : ℕ) (preferred : List ℤ) → Stated (runRefusal L s b m (revision seen) budget) m a (runCall L s b m seen budget preferred a)
   unfolding runOf

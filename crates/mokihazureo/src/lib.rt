@@ -27,16 +27,17 @@ pub extern "C" fn moki_open(
     block: &[i32],
     lits: &mut [i32],
     kinds: &mut [u8],
+    reasons: &mut [u32],
     first: u64,
     answer: &mut [u64; 3],
 ) -> u32
-    ensures { λ r. ⌜ OpenPromise (now (block .entry)) (memory (now (lits .entry)) (now (kinds .entry))) first (now (answer .entry)) r (lent (memory (now (lits .exit)) (now (kinds .exit))) (now (answer .exit))) ⌝ }
+    ensures { λ r. ⌜ OpenPromise (now (block .entry)) (memory (now (lits .entry)) (now (kinds .entry)) (now (reasons .entry))) first (now (answer .entry)) r (lent (memory (now (lits .exit)) (now (kinds .exit)) (now (reasons .exit))) (now (answer .exit))) ⌝ }
 {
-    let outcome = session::open(block, lits, kinds, Revision(first));
-    numbers::answered(outcome, answer)
+    let outcome = session::open(block, lits, kinds, reasons, Revision(first));
+    numbers::opened(outcome, answer)
 }
 
-// One step of the session that the first three numbers are.
+// One step of the session that the first three numbers are; its reason is the answer's fourth number.
 #[no_mangle]
 pub extern "C" fn moki_step(
     length: usize,
@@ -45,18 +46,26 @@ pub extern "C" fn moki_step(
     block: &[i32],
     lits: &mut [i32],
     kinds: &mut [u8],
+    reasons: &mut [u32],
     seen: u64,
     proposal: i32,
-    answer: &mut [u64; 3],
+    answer: &mut [u64; 4],
 ) -> u32
-    ensures { λ r. ⌜ StepPromise (sessionOf length revision state) (now (block .entry)) (memory (now (lits .entry)) (now (kinds .entry))) seen proposal (now (answer .entry)) r (lent (memory (now (lits .exit)) (now (kinds .exit))) (now (answer .exit))) ⌝ }
+    ensures { λ r. ⌜ StepPromise (sessionOf length revision state) (now (block .entry)) (memory (now (lits .entry)) (now (kinds .entry)) (now (reasons .entry))) seen proposal (now (answer .entry)) r (lent (memory (now (lits .exit)) (now (kinds .exit)) (now (reasons .exit))) (now (answer .exit))) ⌝ }
 {
     let before = numbers::session_of(length, revision, state);
-    let outcome = before.step(block, lits, kinds, Revision(seen), Literal(proposal));
-    numbers::answered(outcome, answer)
+    let outcome = before.step(
+        block,
+        lits,
+        kinds,
+        reasons,
+        Revision(seen),
+        Literal(proposal),
+    );
+    numbers::stepped(outcome, answer)
 }
 
-// At most `budget` steps; the count of accepted steps is the answer's fourth number.
+// At most `budget` steps; the count of accepted steps is the answer's fourth number, and the last one's reason the fifth.
 #[no_mangle]
 pub extern "C" fn moki_run(
     length: usize,
@@ -65,15 +74,17 @@ pub extern "C" fn moki_run(
     block: &[i32],
     lits: &mut [i32],
     kinds: &mut [u8],
+    reasons: &mut [u32],
     seen: u64,
     budget: u32,
     preferred: &[i32],
-    answer: &mut [u64; 4],
+    answer: &mut [u64; 5],
 ) -> u32
-    ensures { λ r. ⌜ RunPromise (sessionOf length revision state) (now (block .entry)) (memory (now (lits .entry)) (now (kinds .entry))) seen budget (now (preferred .entry)) (now (answer .entry)) r (lent (memory (now (lits .exit)) (now (kinds .exit))) (now (answer .exit))) ⌝ }
+    ensures { λ r. ⌜ RunPromise (sessionOf length revision state) (now (block .entry)) (memory (now (lits .entry)) (now (kinds .entry)) (now (reasons .entry))) seen budget (now (preferred .entry)) (now (answer .entry)) r (lent (memory (now (lits .exit)) (now (kinds .exit)) (now (reasons .exit))) (now (answer .exit))) ⌝ }
 {
     let before = numbers::session_of(length, revision, state);
-    let outcome = before.run(block, lits, kinds, Revision(seen), budget, preferred);
+    let at = Revision(seen);
+    let outcome = before.run(block, lits, kinds, reasons, at, budget, preferred);
     numbers::ran(outcome, answer)
 }
 

@@ -1,12 +1,13 @@
 // A session as three numbers, its record's length, its revision and its state's number; and what the calls answer.
 ghost use mathlib.Core.Path.{_≡_};
 ghost use lib.Seq.{sets};
-ghost use Rattle.mokihazureo.specs.Called.{sessionOf, statusOf, answerNumbers, ranStatus, ranNumbers, pagedStatus, pagedNumbers};
+ghost use Rattle.mokihazureo.specs.Called.{sessionOf, openedStatus, openedNumbers, steppedStatus, steppedNumbers, ranStatus, ranNumbers, pagedStatus, pagedNumbers};
 use listing::Paged;
 use session::Answer;
 use session::Ran;
 use session::Revision;
 use session::Session;
+use session::Stepped;
 
 pub(crate) fn session_of(length: usize, revision: u64, state: u32) -> Session
     ensures { λ r. ⌜ r ≡ sessionOf length revision state ⌝ }
@@ -18,9 +19,9 @@ pub(crate) fn session_of(length: usize, revision: u64, state: u32) -> Session
     }
 }
 
-// What opening and a step answer: 0 and the next session's numbers, or the refusal's number alone.
-pub(crate) fn answered(outcome: Answer, answer: &mut [u64; 3]) -> u32
-    ensures { λ r. ⌜ (r ≡ statusOf outcome) × (now (answer .exit) ≡ sets (now (answer .entry)) 0 (answerNumbers outcome)) ⌝ }
+// What opening answers: 0 and the session's numbers, or the refusal's number alone.
+pub(crate) fn opened(outcome: Answer, answer: &mut [u64; 3]) -> u32
+    ensures { λ r. ⌜ (r ≡ openedStatus outcome) × (now (answer .exit) ≡ sets (now (answer .entry)) 0 (openedNumbers outcome)) ⌝ }
 {
     match outcome {
         Answer::To(next) => {
@@ -36,14 +37,37 @@ pub(crate) fn answered(outcome: Answer, answer: &mut [u64; 3]) -> u32
     }
 }
 
-// What a run answers: the count of accepted steps stands in a fourth place.
-pub(crate) fn ran(outcome: Ran, answer: &mut [u64; 4]) -> u32
+// What a step answers: the reason stands in a fourth place.
+pub(crate) fn stepped(outcome: Stepped, answer: &mut [u64; 4]) -> u32
+    ensures { λ r. ⌜ (r ≡ steppedStatus outcome) × (now (answer .exit) ≡ sets (now (answer .entry)) 0 (steppedNumbers outcome)) ⌝ }
+{
+    match outcome {
+        Stepped::Next {
+            session: next,
+            reason,
+        } => {
+            let size = next.length;
+            let revision = next.revision.0;
+            let state = next.state;
+            answer[0] = size as u64;
+            answer[1] = revision;
+            answer[2] = session::number_of(state) as u64;
+            answer[3] = reason as u64;
+            0
+        }
+        Stepped::Not(number) => number,
+    }
+}
+
+// What a run answers: the count of accepted steps stands in a fourth place, and the last one's reason in a fifth.
+pub(crate) fn ran(outcome: Ran, answer: &mut [u64; 5]) -> u32
     ensures { λ r. ⌜ (r ≡ ranStatus outcome) × (now (answer .exit) ≡ sets (now (answer .entry)) 0 (ranNumbers outcome)) ⌝ }
 {
     match outcome {
         Ran::Until {
             session: next,
             steps,
+            reason,
         } => {
             let size = next.length;
             let revision = next.revision.0;
@@ -52,6 +76,7 @@ pub(crate) fn ran(outcome: Ran, answer: &mut [u64; 4]) -> u32
             answer[1] = revision;
             answer[2] = session::number_of(state) as u64;
             answer[3] = steps as u64;
+            answer[4] = reason as u64;
             0
         }
         Ran::Stopped(number) => number,

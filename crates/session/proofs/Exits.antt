@@ -1,6 +1,6 @@
 -- The ways out of opening, a step and a run: one law for each, from the facts on that path.
 use Prim.Native.Nat.{ℕ, _+_, _-_, _≤_, _<_}
-use mathlib.Core.Path.{_≡_, sym, _∙_}
+use mathlib.Core.Path.{_≡_, sym, ap, _∙_}
 use mathlib.Core.List.{List}
 use native.Mathlib.Omega.{arith}
 use lib.IntN.{ℤ}
@@ -17,44 +17,52 @@ use Rattle.rules.specs.declared.rule.Reached.{Reached}
 use Rattle.rules.specs.declared.rule.Rule.{Rule}
 use Rattle.rules.specs.Due.{due}
 use Rattle.rules.specs.Search.{Search, search, reached}
-use Rattle.rules.specs.Trail.{recordOf, Trail, wipedTrail}
+use Rattle.rules.specs.Trail.{recordOf, Trail, wiped, wipedTrail}
 use Rattle.rules.specs.Apply.{apply}
 use Rattle.rules.specs.Laws.Accepted.{kept-true}
 use Rattle.rules.specs.Inner.Ready.{OnBlock}
 use Rattle.session.specs.declared.Revision.{Revision}
 use Rattle.session.specs.declared.Session.{Session}
 use Rattle.session.specs.declared.Answer.the-variants.{To, Refused}
+use Rattle.session.specs.declared.Stepped.the-variants.{Next, Not}
 use Rattle.session.specs.declared.Ran.the-variants.{Until, Stopped}
-use Rattle.session.specs.Memory.{Memory}
+use Rattle.session.specs.Memory.{Memory, places}
+use Rattle.session.specs.Reasons.{Why, why, told}
 use Rattle.session.specs.Refusals.{lastRevision, openRefusal, sessionRows, ofStep, stepRefusal, ofRun, runRefusal}
 use Rattle.session.specs.Outcome.{session, openOutcome, stepOutcome}
-use Rattle.session.specs.Run.{trip, runFrom, runOf}
+use Rattle.session.specs.Run.{trip, runFrom, whyFrom, runOf}
 use Rattle.session.specs.Laws.Accepted.{guarded, step-from-15, run-from-15}
 use Rattle.session.specs.Laws.Runs.{travelled}
 use Rattle.session.specs.Inner.Guards.{sessionRefusal, proposalRefusal}
+use Rattle.session.specs.Inner.Reasons.{OnMemory}
 use Rattle.formula.specs.Limits.{limits}
 
 -- ---- opening
-module _ (b : List ℤ) (m : Memory) (rev : Revision) {r : ℕ} (e : r ≡ openRefusal limits b m) where
+module _ (b : List ℤ) (m : Memory) (rev : Revision) {k r : ℕ} (have : k ≡ places m) (e : r ≡ openRefusal limits b k) where
   pub open-stops : (r ≡ 0 → ⊥) → outcome (Refused r) m ≡ openOutcome limits b m rev
   unfolding openOutcome
-  open-stops f = rw (← e) (unless-number Refused r m _ f)
+  open-stops f = rw (← have, ← e) (unless-number Refused r m _ f)
 
-  pub open-clears : r ≡ 0 → {n : ℕ} → n ≡ variablesOf b → {t′ : Trail} → t′ ≡ wipedTrail (m .trail) 0 n → outcome (To (session 0 (rev .0) Open)) (record { trail = t′ }) ≡ openOutcome limits b m rev
+  pub open-clears : r ≡ 0 → {n : ℕ} → n ≡ variablesOf b → {t′ : Trail} → t′ ≡ wipedTrail (m .trail) 0 n → {ws : List ℕ} → ws ≡ wiped 0 (m .reasons) 0 n
+      → outcome (To (session 0 (rev .0) Open)) (record { trail = t′; reasons = ws }) ≡ openOutcome limits b m rev
   unfolding openOutcome
-  open-clears z is w = rw (← e, z, ← is, ← w)
+  open-clears z is w v = rw (← have, ← e, z, ← is, ← w, ← v)
+
+-- ---- where the rows that a step and a run share have passed
+pub on-memory : (s : Session) (b : List ℤ) (m : Memory) (seen : Revision) {r : ℕ} → r ≡ sessionRefusal limits s b m seen → r ≡ 0 → OnMemory b m (s .length)
+on-memory s b m seen e z = let g = guarded limits s b m seen (sym e ∙ z) in record { on = g .on; places = g .sound .places }
 
 -- ---- a step
 module _ (s : Session) (b : List ℤ) (m : Memory) (seen : Revision) (l : Literal) {r : ℕ} (e : r ≡ sessionRefusal limits s b m seen) where
-  pub step-stops : (r ≡ 0 → ⊥) → outcome (Refused r) m ≡ stepOutcome limits s b m seen l
+  pub step-stops : (r ≡ 0 → ⊥) → outcome (Not r) m ≡ stepOutcome limits s b m seen l
   unfolding stepOutcome stepRefusal sessionRefusal
-  step-stops f = rw (← stops (sessionRows limits s b m seen) (ofStep s b m seen l) e f) (unless-number Refused r m _ f)
+  step-stops f = rw (← stops (sessionRows limits s b m seen) (ofStep s b m seen l) e f) (unless-number Not r m _ f)
 
   module _ (z : r ≡ 0) where
     from-15 : stepRefusal limits s b m seen l ≡ refusalOf (ofStep s b m seen l)
     from-15 = step-from-15 limits s b m seen l (sym e ∙ z)
 
-    pub step-last : s .revision .0 ≡ lastRevision → outcome (Refused 15) m ≡ stepOutcome limits s b m seen l
+    pub step-last : s .revision .0 ≡ lastRevision → outcome (Not 15) m ≡ stepOutcome limits s b m seen l
     unfolding stepOutcome
     step-last h = rw (from-15, eq-eqb (s .revision .0) lastRevision h)
 
@@ -69,18 +77,21 @@ module _ (s : Session) (b : List ℤ) (m : Memory) (seen : Revision) (l : Litera
             let g = guarded limits s b m seen (sym e ∙ z) in
             rw (from-15, ne-eqb (s .revision .0) lastRevision below, kept-true (prefixOf b) (m .trail) (s .length) (g .on .kept), ← is, proper)
 
-        pub step-improper : (q ≡ 0 → ⊥) → outcome (Refused q) m ≡ stepOutcome limits s b m seen l
+        pub step-improper : (q ≡ 0 → ⊥) → outcome (Not q) m ≡ stepOutcome limits s b m seen l
         unfolding stepOutcome
-        step-improper f = rw step-from-16 (unless-number Refused q m _ f)
+        step-improper f = rw step-from-16 (unless-number Not q m _ f)
 
         pub step-moves : q ≡ 0 → (t : Reached) (t′ : Trail)
             → reached t t′ ≡ apply (prefixOf b) rule (l .0) (search (m .trail) (s .length) Open)
             → {s′ : Session} → s′ ≡ session (t .count) (s .revision .0 + 1) (t .state)
-            → outcome (To s′) (record { trail = t′ }) ≡ stepOutcome limits s b m seen l
+            → (ws : List ℕ) (w : ℕ) → why ws w ≡ told rule (s .length) (m .reasons)
+            → outcome (Next s′ w) (record { trail = t′; reasons = ws }) ≡ stepOutcome limits s b m seen l
         unfolding stepOutcome
-        step-moves y t t′ a is′ =
+        step-moves y t t′ a is′ ws w v =
             let g = guarded limits s b m seen (sym e ∙ z) in
-            rw (step-from-16, y, g .live, ← is, ← a, is′)
+            let x = ap (λ (w : Why). w .reasons) v in
+            let q = ap (λ (w : Why). w .last) v in
+            rw (step-from-16, y, g .live, ← is, ← a, is′, ← x, ← q)
 
 -- ---- a run
 module _ (s : Session) (b : List ℤ) (m : Memory) (seen : Revision) (budget : ℕ) (preferred : List ℤ) {r : ℕ} (e : r ≡ sessionRefusal limits s b m seen) where
@@ -95,12 +106,13 @@ module _ (s : Session) (b : List ℤ) (m : Memory) (seen : Revision) (budget : �
 
     pub run-moves : s .revision .0 ≤ lastRevision → budget ≤ lastRevision - s .revision .0
         → (t : Reached) (steps : ℕ) (t′ : Trail) → trip (reached t t′) steps ≡ runFrom (formulaOf b) preferred budget (search (m .trail) (s .length) Open) 0
+        → (ws : List ℕ) (w : ℕ) → why ws w ≡ whyFrom (formulaOf b) preferred budget (search (m .trail) (s .length) Open) (why (m .reasons) 0)
         → {s′ : Session} → s′ ≡ session (t .count) (s .revision .0 + steps) (t .state)
-        → outcome (Until s′ steps) (record { trail = t′ }) ≡ runOf limits s b m seen budget preferred
+        → outcome (Until s′ steps w) (record { trail = t′; reasons = ws }) ≡ runOf limits s b m seen budget preferred
     unfolding runOf
-    run-moves low h t steps t′ a d =
+    run-moves low h t steps t′ a ws w v d =
         let g = guarded limits s b m seen (sym e ∙ z) in
-        rw (run-from-15 limits s b m seen budget (sym e ∙ z), le-ltb lastRevision (s .revision .0 + budget) (omega arith), g .live, ← a, d)
+        rw (run-from-15 limits s b m seen budget (sym e ∙ z), le-ltb lastRevision (s .revision .0 + budget) (omega arith), g .live, ← a, ← v, d)
 
 -- a run's steps are at most its budget
 pub steps-within : {b : List ℤ} {t : Trail} {n : ℕ} → OnBlock limits b t n → (budget : ℕ) (preferred : List ℤ) {u : Search} {steps : ℕ}

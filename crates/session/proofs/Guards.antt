@@ -1,18 +1,18 @@
 -- Which row turns a call away, one law for each way out of the guard: the rows passed so far do not hold, the next one does.
-use Prim.Native.Nat.{ℕ, zero, suc}
+use Prim.Native.Nat.{ℕ, zero, suc, _≤_, _<_}
 use mathlib.Core.Path.{_≡_, sym, _∙_}
 use mathlib.Core.Bool.{Bool, true, false, not}
 use mathlib.Core.List.{List}
 use native.Mathlib.Omega.{arith}
 use lib.IntN.{ℤ, natAbs}
-use borrow.Author.Tests.{eq-eqb, ne-eqb}
+use borrow.Author.Tests.{eq-eqb, ne-eqb, lt-ltb, le-ltb}
 use Rattle.words.specs.Rows.{refusalOf}
 use Rattle.words.specs.Laws.Rows.{stops}
 use Rattle.words.specs.declared.Literal.{Literal}
 use Rattle.formula.specs.declared.Checked.{Checked}
 use Rattle.formula.specs.declared.Checked.the-variants.{Accepted, Refused}
 use Rattle.formula.specs.Limits.{limits}
-use Rattle.formula.specs.Formula.{prefixOf}
+use Rattle.formula.specs.Formula.{variablesOf, clauseCountOf, prefixOf}
 use Rattle.formula.specs.Block.{rows, refusal}
 use Rattle.formula.specs.Check.{checkedOf}
 use Rattle.formula.specs.Laws.Check.{checked-accepted, checked-refused}
@@ -21,11 +21,16 @@ use Rattle.theory.specs.Tests.{isOpen}
 use Rattle.rules.specs.declared.rule.Rule.{Rule}
 use Rattle.rules.specs.Check.{badRecord}
 use Rattle.rules.specs.Preferred.{decides}
+use Rattle.rules.specs.Inner.Ready.{OnBuffers}
+use Rattle.rules.specs.Laws.Records.{good}
+use Rattle.rules.specs.Laws.Accepted.{prefix-length}
 use Rattle.session.specs.declared.Revision.{Revision}
 use Rattle.session.specs.declared.Session.{Session}
-use Rattle.session.specs.Memory.{Memory}
-use Rattle.session.specs.Refusals.{short, over, ofBuffers, openRows, openRefusal, ofSession}
-use Rattle.session.specs.Laws.Accepted.{from-11, from-12}
+use Rattle.session.specs.Memory.{Memory, places}
+use Rattle.session.specs.Reasons.{badReasons}
+use Rattle.session.specs.Refusals.{over, ofBuffers, openRows, openRefusal, ofSession}
+use Rattle.session.specs.Laws.Accepted.{Opened, opened, buffers-room, reasons-room, from-11, from-12}
+use Rattle.session.specs.Inner.Reasons.{Beside}
 use Rattle.session.specs.Inner.Guards.{sessionRefusal, proposalRefusal}
 
 -- ---- the block's rows and row 11
@@ -34,45 +39,62 @@ unfolding checkedOf
 refused-some zero k e z = let y : _≡_ {A = ℕ} 0 1 = cc in omega arith
 refused-some (suc n) k e z = let y : k ≡ suc n = cc in omega arith
 
-module _ (b : List ℤ) (m : Memory) {r : Checked} (e : r ≡ checkedOf (refusal limits b)) where
-  pub block-refused : (k : ℕ) → r ≡ Refused k → k ≡ openRefusal limits b m
+module _ (b : List ℤ) (n : ℕ) {r : Checked} (e : r ≡ checkedOf (refusal limits b)) where
+  pub block-refused : (k : ℕ) → r ≡ Refused k → k ≡ openRefusal limits b n
   unfolding openRefusal refusal
-  block-refused k h = stops (rows limits b) (ofBuffers b m) (sym (checked-refused (refusal limits b) k (sym e ∙ h))) (refused-some (refusal limits b) k (sym e ∙ h))
+  block-refused k h = stops (rows limits b) (ofBuffers b n) (sym (checked-refused (refusal limits b) k (sym e ∙ h))) (refused-some (refusal limits b) k (sym e ∙ h))
 
-  module _ (h : r ≡ Accepted) {t : Bool} (tested : t ≡ short b m) where
-    block-passed : openRefusal limits b m ≡ refusalOf (ofBuffers b m)
-    block-passed = from-11 limits b m (checked-accepted (refusal limits b) (sym e ∙ h))
+  module _ (h : r ≡ Accepted) {v : ℕ} (is : v ≡ variablesOf b) where
+    block-passed : openRefusal limits b n ≡ refusalOf (ofBuffers b n)
+    block-passed = from-11 limits b n (checked-accepted (refusal limits b) (sym e ∙ h))
 
-    pub buffers-short : t ≡ true → 11 ≡ openRefusal limits b m
-    buffers-short x = rw (block-passed, ← tested, x)
+    pub buffers-short : n < v → 11 ≡ openRefusal limits b n
+    buffers-short x = rw (block-passed, ← is, lt-ltb n v x)
 
-    pub buffers-pass : t ≡ false → 0 ≡ openRefusal limits b m
-    buffers-pass x = rw (block-passed, ← tested, x)
+    pub buffers-pass : v ≤ n → 0 ≡ openRefusal limits b n
+    buffers-pass x = rw (block-passed, ← is, le-ltb n v x)
 
 -- ---- rows 1 to 14
-module _ (s : Session) (b : List ℤ) (m : Memory) (seen : Revision) {r : ℕ} (e : r ≡ openRefusal limits b m) where
+module _ (s : Session) (b : List ℤ) (m : Memory) (seen : Revision) {n r : ℕ} (is : n ≡ places m) (e : r ≡ openRefusal limits b n) where
   pub session-buffers : (r ≡ 0 → ⊥) → r ≡ sessionRefusal limits s b m seen
   unfolding openRefusal sessionRefusal
-  session-buffers f = stops (openRows limits b m) (ofSession s b m seen) e f
+  session-buffers f = stops (openRows limits b (places m)) (ofSession s b m seen) (rw is at e) f
 
   module _ (z : r ≡ 0) where
     buffers-passed : sessionRefusal limits s b m seen ≡ refusalOf (ofSession s b m seen)
-    buffers-passed = from-12 limits s b m seen (sym e ∙ z)
+    buffers-passed = from-12 limits s b m seen (rw is at (sym e ∙ z))
+
+    buffers-open : Opened limits b (places m)
+    buffers-open = opened limits b (places m) (rw is at (sym e ∙ z))
+
+    pub record-asked : OnBuffers limits b (m .trail)
+    record-asked = buffers-room m buffers-open
 
     module _ {t : Bool} (bad : t ≡ badRecord (prefixOf b) (m .trail) (s .length)) where
+      -- the record is within all buffers
+      pub reasons-asked : t ≡ false → Beside (s .length) (m .trail .kinds) (m .reasons)
+      reasons-asked x =
+          let few = good (prefixOf b) (m .trail) (s .length) (sym bad ∙ x) .few in
+          let v = prefix-length limits b (buffers-open .block) in
+          record { kinds = omega (arith, few, v, record-asked .room .kinds); reasons = omega (arith, few, v, reasons-room m buffers-open) }
+
       pub session-record : t ≡ true → 12 ≡ sessionRefusal limits s b m seen
       session-record x = rw (buffers-passed, ← bad, x)
 
-      module _ (x : t ≡ false) {u : Bool} (ended : u ≡ over (s .state)) where
-        pub session-over : u ≡ true → 13 ≡ sessionRefusal limits s b m seen
-        session-over y = rw (buffers-passed, ← bad, x, ← ended, y)
+      module _ (x : t ≡ false) {w : Bool} (wrong : w ≡ badReasons (clauseCountOf b) (m .trail .kinds) (m .reasons) (s .length)) where
+        pub session-reasons : w ≡ true → 12 ≡ sessionRefusal limits s b m seen
+        session-reasons v = rw (buffers-passed, ← bad, x, ← wrong, v)
 
-        module _ (y : u ≡ false) where
-          pub session-stale : (seen .0 ≡ s .revision .0 → ⊥) → 14 ≡ sessionRefusal limits s b m seen
-          session-stale f = rw (buffers-passed, ← bad, x, ← ended, y, ne-eqb (seen .0) (s .revision .0) f)
+        module _ (v : w ≡ false) {u : Bool} (ended : u ≡ over (s .state)) where
+          pub session-over : u ≡ true → 13 ≡ sessionRefusal limits s b m seen
+          session-over y = rw (buffers-passed, ← bad, x, ← wrong, v, ← ended, y)
 
-          pub session-passes : seen .0 ≡ s .revision .0 → 0 ≡ sessionRefusal limits s b m seen
-          session-passes q = rw (buffers-passed, ← bad, x, ← ended, y, eq-eqb (seen .0) (s .revision .0) q)
+          module _ (y : u ≡ false) where
+            pub session-stale : (seen .0 ≡ s .revision .0 → ⊥) → 14 ≡ sessionRefusal limits s b m seen
+            session-stale f = rw (buffers-passed, ← bad, x, ← wrong, v, ← ended, y, ne-eqb (seen .0) (s .revision .0) f)
+
+            pub session-passes : seen .0 ≡ s .revision .0 → 0 ≡ sessionRefusal limits s b m seen
+            session-passes q = rw (buffers-passed, ← bad, x, ← wrong, v, ← ended, y, eq-eqb (seen .0) (s .revision .0) q)
 
 -- ---- rows 16 and 17
 module _ (p : List ℤ) (ρ : Assignment) (rule : Rule) (l : Literal) {n : ℕ} (sized : n ≡ natAbs (l .0)) where

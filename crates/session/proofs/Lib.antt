@@ -1,4 +1,5 @@
 -- What only the proofs of this crate need.
 pub mod Guards
 pub mod Exits
+pub mod Noted
 pub mod Rounds

@@ -7,6 +7,7 @@ use mathlib.Core.Bool.{Bool, true, false}
 use mathlib.Core.List.{List, [], _∷_}
 use native.Mathlib.Omega.{arith}
 use lib.IntN.{ℤ, pos}
+use lib.ListN.{getD}
 use Rattle.words.specs.Outcomes.{Outcome}
 use Rattle.words.specs.declared.Literal.{Literal}
 use Rattle.formula.specs.Limits.{Limits}
@@ -27,15 +28,19 @@ use Rattle.rules.specs.Inner.Ready.{KeptIn}
 use Rattle.rules.specs.Laws.Accepted.{prefix-length, accepted-binds}
 use Rattle.session.specs.declared.Revision.{Revision}
 use Rattle.session.specs.declared.Session.{Session}
-use Rattle.session.specs.declared.Answer.{Answer}
-use Rattle.session.specs.declared.Answer.the-variants.{To, Refused}
+use Rattle.session.specs.declared.Answer.the-variants.{To}
+use Rattle.session.specs.declared.Stepped.{Stepped}
+use Rattle.session.specs.declared.Stepped.the-variants.{Next, Not}
 use Rattle.session.specs.declared.Ran.{Ran}
 use Rattle.session.specs.declared.Ran.the-variants.{Until, Stopped}
-use Rattle.session.specs.Memory.{Memory}
+use Rattle.session.specs.Memory.{Memory, places}
+use Rattle.session.specs.Forced.{Forced, Explained}
+use Rattle.session.specs.Reasons.{badReasons}
 use Rattle.session.specs.Refusals.{lastRevision, openRefusal}
 use Rattle.session.specs.Outcome.{session, openOutcome}
 use Rattle.session.specs.Calls.{Desk, desk, Call, step, run, afterStep, stepAt, runAt, call, play}
-use Rattle.session.specs.Laws.Accepted.{opened, Guarded, step-last, run-last, step-passes}
+use Rattle.session.specs.Laws.Accepted.{opened, buffers-room, reasons-room, Sound, Guarded, step-last, run-last, step-passes}
+use Rattle.session.specs.Laws.Each.{Each}
 use Rattle.session.specs.Refused.{unless-to, step-refused, run-refused, step-refused-leaves}
 use Rattle.session.specs.Stepped.{accepted-is, accepted-step}
 use Rattle.session.specs.RunSteps.{searchAt, handed, byHand, hand-used, run-is-steps, run-pauses}
@@ -58,10 +63,10 @@ pub record Demand (L : Limits) (b : List ℤ) (first : ℕ) (d : Desk) : Type 0 
   pub unsat-false : d .latest .state ≡ Unsat → true? (formulaOf b) ≡ false
   -- [demand.2.goes-on]
   pub accepted : d .latest .state ≡ Open → (d .latest .revision .0 ≡ lastRevision → ⊥)
-      → (s : Session) × (stepAt L b d (d .latest .revision) (literal (pos 0)) .answer ≡ To s)
+      → (s : Session) × (w : ℕ) × (stepAt L b d (d .latest .revision) (literal (pos 0)) .answer ≡ Next s w)
   -- [demand.2.last] whatever is proposed; and so is a run that would go past the last revision
   pub refused : d .latest .state ≡ Open → d .latest .revision .0 ≡ lastRevision
-      → (l : Literal) → stepAt L b d (d .latest .revision) l .answer ≡ Refused 15
+      → (l : Literal) → stepAt L b d (d .latest .revision) l .answer ≡ Not 15
   pub run-stopped : d .latest .state ≡ Open → (budget : ℕ) → lastRevision < d .latest .revision .0 + budget
       → (preferred : List ℤ) → runAt L b d (d .latest .revision) budget preferred .answer ≡ Stopped 15
 
@@ -69,6 +74,8 @@ pub record Demand (L : Limits) (b : List ℤ) (first : ℕ) (d : Desk) : Type 0 
 record Invariant (b : List ℤ) (first : ℕ) (d : Desk) : Type 0 where
   path : Path (formulaOf b) (d .steps) (going []) (standingOf (searchAt d))
   kept : KeptIn (prefixOf b) (searchAt d)
+  sound : Sound b (d .memory) (d .latest .length)
+  explained : Each (Explained (formulaOf b)) (searchAt d) (d .memory .reasons)
   revision : d .latest .revision .0 ≡ first + d .steps
 
 module _ (L : Limits) (b : List ℤ) (first : ℕ) where
@@ -77,14 +84,14 @@ module _ (L : Limits) (b : List ℤ) (first : ℕ) where
   unfolding call
   step-holds d seen l r = go (stepAt L b d seen l .answer) refl
     where
-      go : (a : Answer) → stepAt L b d seen l .answer ≡ a → Invariant b first (afterStep d a (stepAt L b d seen l .memory))
-      go (To s′) e =
-          let f = accepted-step L (d .latest) b (d .memory) seen l s′ e in
+      go : (a : Stepped) → stepAt L b d seen l .answer ≡ a → Invariant b first (afterStep d a (stepAt L b d seen l .memory))
+      go (Next s′ w) e =
+          let f = accepted-step L (d .latest) b (d .memory) seen l s′ w e in
           let x : d .steps + 1 ≡ suc (d .steps) = omega arith in
           let y = r .revision in
           let z = f .revision in
-          record { path = rw x (path-snoc (formulaOf b) (rw (f .live) at (r .path)) (f .step)); kept = f .kept; revision = omega arith }
-      go (Refused n) e = let w = step-refused-leaves L (d .latest) b (d .memory) seen l n e in rw (w .memory) r
+          record { path = rw x (path-snoc (formulaOf b) (rw (f .live) at (r .path)) (f .step)); kept = f .kept; sound = f .sound; explained = f .explained (r .explained); revision = omega arith }
+      go (Not n) e = let w = step-refused-leaves L (d .latest) b (d .memory) seen l n e in rw (w .memory) r
 
   hand-holds : (preferred : List ℤ) (c : ℕ) (d : Desk) → Invariant b first d → Invariant b first (byHand L b preferred c d)
   unfolding byHand handed
@@ -108,7 +115,7 @@ module _ (L : Limits) (b : List ℤ) (first : ℕ) where
 -- ---- what is kept is what is asked
 module _ (L : Limits) (b : List ℤ) (block : refusal L b ≡ 0) (first : ℕ) where
   guard : (d : Desk) → Invariant b first d → d .latest .state ≡ Open → Guarded L (d .latest) b (d .memory) (d .latest .revision)
-  guard d r o = record { on = record { block = block; kept = r .kept }; live = o; current = refl }
+  guard d r o = record { on = record { block = block; kept = r .kept }; sound = r .sound; live = o; current = refl }
 
   demand : (d : Desk) → Invariant b first d → Demand L b first d
   unfolding formulaOf
@@ -122,8 +129,8 @@ module _ (L : Limits) (b : List ℤ) (block : refusal L b ≡ 0) (first : ℕ) w
         unsat-false = λ e. any .right false (rw e at (r .path));
         accepted = λ o h.
             let e = step-passes L _ _ _ _ (guard d r o) h (literal (pos 0)) (inl refl) (inl refl) in
-            (_, ap (λ (o : Outcome Memory Answer). o .answer) (accepted-is L _ _ _ _ _ e));
-        refused = λ o h l. ap (λ (o : Outcome Memory Answer). o .answer) (step-refused L _ _ _ _ l 14 (step-last L _ _ _ _ (guard d r o) h l));
+            (_, _, ap (λ (o : Outcome Memory Stepped). o .answer) (accepted-is L _ _ _ _ _ e));
+        refused = λ o h l. ap (λ (o : Outcome Memory Stepped). o .answer) (step-refused L _ _ _ _ l 14 (step-last L _ _ _ _ (guard d r o) h l));
         run-stopped = λ o budget h preferred. ap (λ (o : Outcome Memory Ran). o .answer) (run-refused L _ _ _ _ budget preferred 14 (run-last L _ _ _ _ (guard d r o) budget h));
       }
 
@@ -139,20 +146,21 @@ module _ (L : Limits) (b : List ℤ) (block : refusal L b ≡ 0) (first : ℕ) w
 -- ---- after an accepted opening
 -- the desk that it leaves
 abbrev pub freshDesk : Limits → List ℤ → Memory → Revision → Session → Desk
-freshDesk L b m rev s = desk s (openOutcome L b m rev .memory) 0
+freshDesk L b m rev s = desk s (openOutcome L b m rev .memory) 0 0
 
 module _ (L : Limits) (b : List ℤ) (m : Memory) (rev : Revision) (s : Session) (a : openOutcome L b m rev .answer ≡ To s) where
-  open-passed : openRefusal L b m ≡ 0
+  open-passed : openRefusal L b (places m) ≡ 0
   unfolding openOutcome
-  open-passed = unless-to (openRefusal L b m) m _ s a
+  open-passed = unless-to (openRefusal L b (places m)) m _ s a
 
   block : refusal L b ≡ 0
-  block = opened L b m open-passed .block
+  block = opened L b (places m) open-passed .block
 
   begun : Invariant b (rev .0) (freshDesk L b m rev s)
-  unfolding openOutcome formulaOf recordOf
+  unfolding openOutcome formulaOf recordOf badReasons
   begun =
-      let room = opened L b m open-passed .room in
+      let o = opened L b (places m) open-passed in
+      let room = buffers-room m o .room in
       let bound = accepted-binds L b block in
       let n = prefix-length L b block in
       let a′ = rw open-passed at a in
@@ -165,6 +173,8 @@ module _ (L : Limits) (b : List ℤ) (m : Memory) (rev : Revision) (s : Session)
           room = record { lits = rw (wiped-length, n) (room .lits); kinds = rw (wiped-length, n) (room .kinds) };
           good = good-kept (formulaOf b) (wipedTrail (m .trail) 0 (variablesOf b)) 0 bound (omega arith) (good-none (formulaOf b));
         };
+        sound = record { places = rw (wiped-length 0 (m .reasons) 0 (variablesOf b)) (reasons-room m o); good = refl };
+        explained = λ j h. absurd (omega arith);
         revision = omega arith;
       })
 
@@ -175,21 +185,27 @@ module _ (L : Limits) (b : List ℤ) (m : Memory) (rev : Revision) (s : Session)
   pub history-path : (calls : List Call) → let d = play L b (freshDesk L b m rev s) calls in Path (formulaOf b) (d .steps) (going []) (standingOf (searchAt d))
   history-path calls = kept-after calls .path
 
+  -- [demand.2.reasons] each reason that is not 0 names a clause that did force its entry's literal, given the entries before it
+  pub reasons-forced : (calls : List Call) → let d = play L b (freshDesk L b m rev s) calls in
+      (j c : ℕ) → j < d .latest .length → getD (d .memory .reasons) j 0 ≡ suc c
+      → Forced (formulaOf b) (recordOf (d .memory .trail) j) (getD (d .memory .trail .lits) j (pos 0)) c
+  reasons-forced calls j c h e = kept-after calls .explained j h c e
+
   -- [demand.2.history] whatever is called
   pub any-history : (calls : List Call) → Demand L b (rev .0) (play L b (freshDesk L b m rev s) calls)
   any-history calls = demand L b block (rev .0) _ (kept-after calls)
 
   -- [demand.2.steps] so an accepted run ends the session, with the truth, if the steps so far and its budget are together at least 2^(V+1) - 1. A
   -- budget has 32 bits: with 32 variables or more none is so large, and a fresh session may need more runs than one
-  pub enough-ends : (calls : List Call) (seen : Revision) (budget : ℕ) (preferred : List ℤ) (s′ : Session) (c : ℕ) → let d = play L b (freshDesk L b m rev s) calls in
-      runAt L b d seen budget preferred .answer ≡ Until s′ c → 2 ^ suc (variablesOf b) ≤ suc (d .steps + budget) → s′ .state ≡ verdictOf (true? (formulaOf b))
+  pub enough-ends : (calls : List Call) (seen : Revision) (budget : ℕ) (preferred : List ℤ) (s′ : Session) (c w : ℕ) → let d = play L b (freshDesk L b m rev s) calls in
+      runAt L b d seen budget preferred .answer ≡ Until s′ c w → 2 ^ suc (variablesOf b) ≤ suc (d .steps + budget) → s′ .state ≡ verdictOf (true? (formulaOf b))
   unfolding call
-  enough-ends calls seen budget preferred s′ c e h =
+  enough-ends calls seen budget preferred s′ c w e h =
       let d = play L b (freshDesk L b m rev s) calls in
       let r = rw e at (call-holds L b (rev .0) d (run seen budget preferred) (kept-after calls)) in
       decided L b block (rev .0) _ r
       (λ o.
-      let u = run-pauses L b d seen budget preferred s′ c e .used o in
+      let u = run-pauses L b d seen budget preferred s′ c w e .used o in
       let l = demand L b block (rev .0) _ r .open-fewer o in
       omega arith)
 
@@ -202,7 +218,7 @@ module _ (L : Limits) (b : List ℤ) (m : Memory) (rev : Revision) (s : Session)
       let first = begun .revision in
       decided L b block (rev .0) _ r
       (λ o.
-      let u = hand-used L b preferred block n (freshDesk L b m rev s) (begun .kept) (omega arith) o in
+      let u = hand-used L b preferred block n (freshDesk L b m rev s) (begun .kept) (begun .sound) (omega arith) o in
       let l = demand L b block (rev .0) _ r .open-fewer o in
       omega arith)
 

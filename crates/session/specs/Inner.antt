@@ -1,2 +1,3 @@
 -- What the functions of a call say to each other.
 pub mod Guards
+pub mod Reasons

@@ -3,6 +3,7 @@
 -- what is lent; when a call is refused; what it answers and leaves
 pub mod Memory
 pub mod States
+pub mod Reasons
 pub mod Refusals
 pub mod Outcome
 pub mod Run
@@ -16,7 +17,10 @@ pub mod Opened
 pub mod Stepped
 pub mod Calls
 pub mod RunSteps
--- any history of calls
+-- reasons influence nothing else
+pub mod Apart
+-- any history of calls, and what its reasons say
+pub mod Forced
 pub mod History
 -- what functions say to each other; what is proved of all these
 pub mod Inner

@@ -4,11 +4,10 @@ use mathlib.Core.Bool.{Bool, true, false, not, _&&_, _||_}
 use mathlib.Core.List.{List, [], _∷_, _++_}
 use lib.Dec.{eqb, ltb}
 use lib.IntN.{ℤ, natAbs}
-use lib.ListN.{length}
 use Rattle.words.specs.Rows.{Row, row, refusalOf}
 use Rattle.words.specs.declared.Literal.{Literal}
 use Rattle.formula.specs.Limits.{Limits}
-use Rattle.formula.specs.Formula.{formulaOf, variablesOf, prefixOf}
+use Rattle.formula.specs.Formula.{formulaOf, variablesOf, clauseCountOf, prefixOf}
 use Rattle.formula.specs.Block.{rows}
 use Rattle.theory.specs.Record.{Assignment, trueIn}
 use Rattle.theory.specs.Tests.{isOpen}
@@ -21,15 +20,20 @@ use Rattle.rules.specs.Preferred.{decides}
 use Rattle.rules.specs.Check.{badRecord}
 use Rattle.session.specs.declared.Revision.{Revision}
 use Rattle.session.specs.declared.Session.{Session}
-use Rattle.session.specs.Memory.{Memory}
+use Rattle.session.specs.Memory.{Memory, places}
+use Rattle.session.specs.Reasons.{badReasons}
 
 -- the largest revision, 2^64 - 1
 abbrev pub lastRevision : ℕ
 lastRevision = 18446744073709551615
 
--- [row.11] a buffer has fewer than V places
-abbrev pub short : List ℤ → Memory → Bool
-short b m = ltb (length (m .trail .lits)) (variablesOf b) || ltb (length (m .trail .kinds)) (variablesOf b)
+-- [row.11] a buffer has fewer than V places, n being those that each of them has
+abbrev pub short : List ℤ → ℕ → Bool
+short b n = ltb n (variablesOf b)
+
+-- [row.12] the record of n entries is broken, or one of its reasons is wrong
+abbrev pub broken : List ℤ → Memory → ℕ → Bool
+broken b m n = badRecord (prefixOf b) (m .trail) n || badReasons (clauseCountOf b) (m .trail .kinds) (m .reasons) n
 
 -- [row.13] the session has ended
 abbrev pub over : State → Bool
@@ -46,15 +50,15 @@ abbrev pub proposed : Literal → Bool
 proposed l = not (eqb (natAbs (l .0)) 0)
 
 -- ---- each call's table
-abbrev pub ofBuffers : List ℤ → Memory → List Row
-ofBuffers b m = row 11 (short b m) ∷ []
+abbrev pub ofBuffers : List ℤ → ℕ → List Row
+ofBuffers b n = row 11 (short b n) ∷ []
 
--- [calls.open]
-abbrev pub openRows : Limits → List ℤ → Memory → List Row
-openRows L b m = rows L b ++ ofBuffers b m
+-- [calls.open] on buffers of n places
+abbrev pub openRows : Limits → List ℤ → ℕ → List Row
+openRows L b n = rows L b ++ ofBuffers b n
 
-unfoldable pub openRefusal : Limits → List ℤ → Memory → ℕ
-openRefusal L b m = refusalOf (openRows L b m)
+unfoldable pub openRefusal : Limits → List ℤ → ℕ → ℕ
+openRefusal L b n = refusalOf (openRows L b n)
 
 -- [row.16] [row.17] a proposal, where a rule is due
 abbrev pub ofProposal : List ℤ → Assignment → Rule → Literal → List Row
@@ -67,7 +71,7 @@ module _ (s : Session) (b : List ℤ) (m : Memory) (seen : Revision) where
   -- [row.12] [row.13] [row.14] what a step and a run share
   abbrev pub ofSession : List Row
   ofSession =
-      row 12 (badRecord (prefixOf b) (m .trail) (s .length))
+      row 12 (broken b m (s .length))
       ∷ row 13 (over (s .state))
       ∷ row 14 (stale s seen)
       ∷ []
@@ -86,7 +90,7 @@ module _ (s : Session) (b : List ℤ) (m : Memory) (seen : Revision) where
 
 module _ (L : Limits) (s : Session) (b : List ℤ) (m : Memory) (seen : Revision) where
   abbrev pub sessionRows : List Row
-  sessionRows = openRows L b m ++ ofSession s b m seen
+  sessionRows = openRows L b (places m) ++ ofSession s b m seen
 
   -- [calls.step]
   abbrev pub stepRows : Literal → List Row

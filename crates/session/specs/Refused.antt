@@ -18,9 +18,11 @@ use Rattle.session.specs.declared.Revision.{Revision}
 use Rattle.session.specs.declared.Session.{Session}
 use Rattle.session.specs.declared.Answer.{Answer}
 use Rattle.session.specs.declared.Answer.the-variants.{To, Refused}
+use Rattle.session.specs.declared.Stepped.{Stepped}
+use Rattle.session.specs.declared.Stepped.the-variants.{Next, Not}
 use Rattle.session.specs.declared.Ran.{Ran}
 use Rattle.session.specs.declared.Ran.the-variants.{Until, Stopped}
-use Rattle.session.specs.Memory.{Memory}
+use Rattle.session.specs.Memory.{Memory, places}
 use Rattle.session.specs.Refusals.{lastRevision, over, openRefusal, stepRows, stepRefusal, runRows, runRefusal}
 use Rattle.session.specs.Outcome.{openOutcome, stepOutcome}
 use Rattle.session.specs.Run.{runOf}
@@ -28,37 +30,44 @@ use Rattle.session.specs.Run.{runOf}
 accepted-none : (s : Session) (n : ℕ) → To s ≡ Refused n → ⊥
 accepted-none s n e = let z : _≡_ {A = ℕ} 0 1 = cc in omega arith
 
-ran-none : (s : Session) (c n : ℕ) → Until s c ≡ Stopped n → ⊥
-ran-none s c n e = let z : _≡_ {A = ℕ} 0 1 = cc in omega arith
+stepped-none : (s : Session) (w n : ℕ) → Next s w ≡ Not n → ⊥
+stepped-none s w n e = let z : _≡_ {A = ℕ} 0 1 = cc in omega arith
+
+ran-none : (s : Session) (c w n : ℕ) → Until s c w ≡ Stopped n → ⊥
+ran-none s c w n e = let z : _≡_ {A = ℕ} 0 1 = cc in omega arith
 
 -- and a session is answered only where no row applies
 pub unless-to : (n : ℕ) (m : Memory) (o : Outcome Memory Answer) (s : Session) → unless Refused n m o .answer ≡ To s → n ≡ 0
 unless-to zero m o s e = refl
 unless-to (suc n) m o s e = absurd (accepted-none s (suc n) (sym e))
 
-pub unless-until : (n : ℕ) (m : Memory) (o : Outcome Memory Ran) (s : Session) (c : ℕ) → unless Stopped n m o .answer ≡ Until s c → n ≡ 0
-unless-until zero m o s c e = refl
-unless-until (suc n) m o s c e = absurd (ran-none s c (suc n) (sym e))
+pub unless-next : (n : ℕ) (m : Memory) (o : Outcome Memory Stepped) (s : Session) (w : ℕ) → unless Not n m o .answer ≡ Next s w → n ≡ 0
+unless-next zero m o s w e = refl
+unless-next (suc n) m o s w e = absurd (stepped-none s w (suc n) (sym e))
 
--- ---- a refused call leaves both buffers as they were
+pub unless-until : (n : ℕ) (m : Memory) (o : Outcome Memory Ran) (s : Session) (c w : ℕ) → unless Stopped n m o .answer ≡ Until s c w → n ≡ 0
+unless-until zero m o s c w e = refl
+unless-until (suc n) m o s c w e = absurd (ran-none s c w (suc n) (sym e))
+
+-- ---- a refused call leaves all buffers as they were
 pub open-refused-leaves : (L : Limits) → (b : List ℤ) (m : Memory) (rev : Revision) (n : ℕ) → let o = openOutcome L b m rev in
-    o .answer ≡ Refused n → Left (openRefusal L b m) n m (o .memory)
+    o .answer ≡ Refused n → Left (openRefusal L b (places m)) n m (o .memory)
 unfolding openOutcome
-open-refused-leaves L b m rev n = unless-left Refused (λ j k e. cc) (openRefusal L b m) m _ n (accepted-none _ n)
+open-refused-leaves L b m rev n = unless-left Refused (λ j k e. cc) (openRefusal L b (places m)) m _ n (accepted-none _ n)
 
 module _ (L : Limits) (s : Session) (b : List ℤ) (m : Memory) (seen : Revision) where
   pub step-refused-leaves : (l : Literal) (n : ℕ) → let o = stepOutcome L s b m seen l in
-      o .answer ≡ Refused n → Left (stepRefusal L s b m seen l) n m (o .memory)
+      o .answer ≡ Not n → Left (stepRefusal L s b m seen l) n m (o .memory)
   unfolding stepOutcome
-  step-refused-leaves l n = unless-left Refused (λ j k e. cc) (stepRefusal L s b m seen l) m _ n (accepted-none _ n)
+  step-refused-leaves l n = unless-left Not (λ j k e. cc) (stepRefusal L s b m seen l) m _ n (stepped-none _ _ n)
 
   pub run-refused-leaves : (budget : ℕ) (preferred : List ℤ) (n : ℕ) → let o = runOf L s b m seen budget preferred in
       o .answer ≡ Stopped n → Left (runRefusal L s b m seen budget) n m (o .memory)
   unfolding runOf
-  run-refused-leaves budget preferred n = unless-left Stopped (λ j k e. cc) (runRefusal L s b m seen budget) m _ n (ran-none _ _ n)
+  run-refused-leaves budget preferred n = unless-left Stopped (λ j k e. cc) (runRefusal L s b m seen budget) m _ n (ran-none _ _ _ n)
 
   -- ---- a number other than 0 is answered
-  pub step-refused : (l : Literal) (n : ℕ) → stepRefusal L s b m seen l ≡ suc n → stepOutcome L s b m seen l ≡ outcome (Refused (suc n)) m
+  pub step-refused : (l : Literal) (n : ℕ) → stepRefusal L s b m seen l ≡ suc n → stepOutcome L s b m seen l ≡ outcome (Not (suc n)) m
   unfolding stepOutcome
   step-refused l n e = rw e
 
@@ -68,7 +77,7 @@ module _ (L : Limits) (s : Session) (b : List ℤ) (m : Memory) (seen : Revision
 
   -- ---- a row that applies: the call is refused, with its number or that of a row before it
   abbrev pub StepRefusedBy : ℕ → Literal → Type 0
-  StepRefusedBy k l = (n : ℕ) × In (suc n) (upTo k (stepRows L s b m seen l)) × (stepOutcome L s b m seen l ≡ outcome (Refused (suc n)) m)
+  StepRefusedBy k l = (n : ℕ) × In (suc n) (upTo k (stepRows L s b m seen l)) × (stepOutcome L s b m seen l ≡ outcome (Not (suc n)) m)
 
   abbrev pub RunRefusedBy : ℕ → ℕ → List ℤ → Type 0
   RunRefusedBy k budget preferred = (n : ℕ) × In (suc n) (upTo k (runRows L s b m seen budget)) × (runOf L s b m seen budget preferred ≡ outcome (Stopped (suc n)) m)

@@ -18,14 +18,14 @@ use Rattle.session.specs.Refusals.{openRows, openRefusal, stepRows, step
 abbrev pub openNumbers : List ℕ
 openNumbers = blockNumbers ++ 11 ∷ []
 
-module _ (L : Limits) (b : List ℤ) (m : Memory) where
-  pub open-numbered : Numbered (openRows L b m) (openRefusal L b m)
+module _ (L : Limits) (b : List ℤ) (n : ℕ) where
+  pub open-numbered : Numbered (openRows L b n) (openRefusal L b n)
   unfolding openRefusal
-  open-numbered = numbered (openRows L b m) refl
+  open-numbered = numbered (openRows L b n) refl
 
-  pub open-gives : In (openRefusal L b m) (0 ∷ openNumbers)
+  pub open-gives : In (openRefusal L b n) (0 ∷ openNumbers)
   unfolding openRefusal
-  open-gives = given (openRows L b m)
+  open-gives = given (openRows L b n)
 
 module _ (L : Limits) (s : Session) (b : List ℤ) (m : Memory) (seen : Revision) where
   pub step-numbered : (l : Literal) → Numbered (stepRows L s b m seen l) (stepRefusal L s b m seen l)

@@ -1,4 +1,5 @@
--- [run] [run.answer] A run: one step after the other until the session has ended or the budget is used, and how many steps these are.
+-- [run] [run.answer] [run.reason] A run: one step after the other until the session has ended or the budget is used, how many steps these are, and
+-- the reasons.
 use Prim.Native.Nat.{ℕ, zero, suc, _+_}
 use mathlib.Core.List.{List}
 use lib.IntN.{ℤ}
@@ -17,6 +18,7 @@ use Rattle.session.specs.declared.Session.{Session}
 use Rattle.session.specs.declared.Ran.{Ran}
 use Rattle.session.specs.declared.Ran.the-variants.{Until, Stopped}
 use Rattle.session.specs.Memory.{Memory, memoryOf}
+use Rattle.session.specs.Reasons.{Why, why, told}
 use Rattle.session.specs.Refusals.{runRefusal}
 use Rattle.session.specs.Outcome.{moved, searchOf}
 
@@ -28,7 +30,7 @@ pub record Trip : Type 0 where
 abbrev pub trip : Search → ℕ → Trip
 trip t n = record { reached = t; steps = n }
 
-abbrev pub whileOpen : State → Trip → Trip → Trip
+abbrev pub whileOpen : {A : Type 0} → State → A → A → A
 whileOpen Open a b = a
 whileOpen Valid a b = b
 whileOpen Unsat a b = b
@@ -45,10 +47,15 @@ module _ (F : Formula) (preferred : List ℤ) where
   runFrom zero t steps = trip t steps
   runFrom (suc n) t steps = whileOpen (t .state) (runFrom n (advance t) (steps + 1)) (trip t steps)
 
-abbrev pub ran : Session → Trip → Outcome Memory Ran
-ran s u = outcome (Until (moved s (u .steps) (u .reached)) (u .steps)) (memoryOf (u .reached))
+  -- the reasons of these steps, laid over the same searches: what they were before has no part in where the steps lead
+  unfoldable pub whyFrom : ℕ → Search → Why → Why
+  whyFrom zero t w = w
+  whyFrom (suc n) t w = whileOpen (t .state) (whyFrom n (advance t) (told (due F (recordIn t)) (t .count) (w .reasons))) w
+
+abbrev pub ran : Session → Trip → Why → Outcome Memory Ran
+ran s u w = outcome (Until (moved s (u .steps) (u .reached)) (u .steps) (w .last)) (memoryOf (u .reached) (w .reasons))
 
 unfoldable pub runOf : Limits → Session → List ℤ → Memory → Revision → ℕ → List ℤ → Outcome Memory Ran
 runOf L s b m seen budget preferred =
     unless Stopped (runRefusal L s b m seen budget) m
-    (ran s (runFrom (formulaOf b) preferred budget (searchOf s m) 0))
+    (ran s (runFrom (formulaOf b) preferred budget (searchOf s m) 0) (whyFrom (formulaOf b) preferred budget (searchOf s m) (why (m .reasons) 0)))

@@ -4,39 +4,54 @@ ghost use lib.ListN.{take};
 ghost use Rattle.formula.specs.Limits.{limits};
 ghost use Rattle.formula.specs.Formula.{prefixOf};
 ghost use Rattle.theory.specs.Record.{among};
-ghost use Rattle.session.specs.Memory.{memory};
+ghost use Rattle.session.specs.Memory.{memory, places};
+ghost use Rattle.rules.specs.Trail.{trail};
 ghost use Rattle.rules.specs.Preferred.{decides};
 ghost use Rattle.rules.specs.Inner.Ready.{HeldOn};
 ghost use Rattle.rules.specs.Inner.Tables.{Levels};
-ghost use Rattle.session.specs.Refusals.{short, over};
-ghost use Rattle.session.specs.Promises.{OpenRefusalPromise};
+ghost use Rattle.session.specs.Refusals.{over};
+ghost use Rattle.session.specs.Promises.{RecordPlacesPromise, OpenRefusalPromise};
 ghost use Rattle.session.specs.Inner.Guards.{sessionRefusal, proposalRefusal};
 use crate::Revision;
 use crate::Session;
+use crate::reasons;
 use formula::Checked;
 use rules::PLACES;
 use rules::Rule;
 use rules::State;
 use words::Literal;
 
-// Whether a buffer has fewer than V places.
-fn is_short(block: &[i32], lits: &[i32], kinds: &[u8]) -> bool
-    ensures { λ r. ⌜ r ≡ short (now (block .entry)) (memory (now (lits .entry)) (now (kinds .entry))) ⌝ }
+// How many places each of the record's two buffers has, and each of all three.
+pub fn record_places(lits: &[i32], kinds: &[u8]) -> usize
+    ensures { λ r. ⌜ RecordPlacesPromise (trail (now (lits .entry)) (now (kinds .entry))) r ⌝ }
 {
-    let n = words::size_at(block, 0);
-    if lits.len() < n {
-        return true;
+    if lits.len() < kinds.len() {
+        return lits.len();
     }
-    kinds.len() < n
+    kinds.len()
 }
 
-// The block's rows and row 11: the number of the first that applies, 0 if none does. A page asks them too.
-pub fn open_refusal(block: &[i32], lits: &[i32], kinds: &[u8]) -> u32
-    ensures { λ r. ⌜ OpenRefusalPromise (now (block .entry)) (memory (now (lits .entry)) (now (kinds .entry))) r ⌝ }
+pub(crate) fn places(lits: &[i32], kinds: &[u8], reasons: &[u32]) -> usize
+    ensures { λ r. ⌜ r ≡ places (memory (now (lits .entry)) (now (kinds .entry)) (now (reasons .entry))) ⌝ }
+{
+    let both = record_places(lits, kinds);
+    if both < reasons.len() {
+        return both;
+    }
+    reasons.len()
+}
+
+// The block's rows and row 11, on buffers of so many places: the number of the first that applies, 0 if none does. A page asks them too.
+pub fn open_refusal(block: &[i32], places: usize) -> u32
+    ensures { λ r. ⌜ OpenRefusalPromise (now (block .entry)) places r ⌝ }
 {
     match formula::check(block) {
         Checked::Refused(number) => number,
-        Checked::Accepted => if is_short(block, lits, kinds) { 11 } else { 0 },
+        Checked::Accepted => if places < words::size_at(block, 0) {
+            11
+        } else {
+            0
+        },
     }
 }
 
@@ -75,16 +90,20 @@ pub(crate) fn session_refusal(
     block: &[i32],
     lits: &[i32],
     kinds: &[u8],
+    reasons: &[u32],
     seen: Revision,
 ) -> u32
-    ensures { λ r. ⌜ r ≡ sessionRefusal limits session (now (block .entry)) (memory (now (lits .entry)) (now (kinds .entry))) seen ⌝ }
+    ensures { λ r. ⌜ r ≡ sessionRefusal limits session (now (block .entry)) (memory (now (lits .entry)) (now (kinds .entry)) (now (reasons .entry))) seen ⌝ }
 {
-    let refused = open_refusal(block, lits, kinds);
+    let refused = open_refusal(block, places(lits, kinds, reasons));
     if refused != 0 {
         return refused;
     }
     let count = session.length;
     if rules::bad_record(block, lits, kinds, count) {
+        return 12;
+    }
+    if reasons::bad_reasons(block, kinds, reasons, count) {
         return 12;
     }
     let state = session.state;

@@ -6,11 +6,13 @@ ghost use Rattle.session.specs.Outcome.{session};
 ghost use Rattle.session.specs.Promises.{OpenPromise, StepPromise, RunPromise};
 
 mod guard; // which row of the table turns a call away, but for row 15
+mod reasons; // why an entry was made
 mod searches; // rule after rule
 mod states; // a state as a number
 
 use formula::LITERAL_PLACES;
 pub use guard::open_refusal;
+pub use guard::record_places;
 use rules::Reached;
 use rules::State;
 pub use searches::Searched;
@@ -32,27 +34,45 @@ pub struct Session {
     pub state: State,
 }
 
-// What opening and a step answer.
+// What opening answers.
 pub enum Answer {
     To(Session),
     Refused(u32),
 }
 
-// What a run answers: the session and the count of accepted steps. A run has paused if its session is still open.
+// What a step answers: the session, and the reason of its rule.
+pub enum Stepped {
+    Next { session: Session, reason: u32 },
+    Not(u32),
+}
+
+// What a run answers: the session, the count of accepted steps, and the reason of the last one. A run has paused if its session is still open.
 pub enum Ran {
-    Until { session: Session, steps: u32 },
+    Until {
+        session: Session,
+        steps: u32,
+        reason: u32,
+    },
     Stopped(u32),
 }
 
-// A fresh session at the given revision. The first V places of the record are set to 0.
-pub fn open(block: &[i32], lits: &mut [i32], kinds: &mut [u8], first: Revision) -> Answer
-    ensures { λ r. ⌜ OpenPromise (now (block .entry)) (memory (now (lits .entry)) (now (kinds .entry))) first r (memory (now (lits .exit)) (now (kinds .exit))) ⌝ }
+// A fresh session at the given revision. The first V places of the record and of the reasons are set to 0.
+pub fn open(
+    block: &[i32],
+    lits: &mut [i32],
+    kinds: &mut [u8],
+    reasons: &mut [u32],
+    first: Revision,
+) -> Answer
+    ensures { λ r. ⌜ OpenPromise (now (block .entry)) (memory (now (lits .entry)) (now (kinds .entry)) (now (reasons .entry))) first r (memory (now (lits .exit)) (now (kinds .exit)) (now (reasons .exit))) ⌝ }
 {
-    let refused = open_refusal(block, lits, kinds);
+    let refused = open_refusal(block, guard::places(lits, kinds, reasons));
     if refused != 0 {
         return Answer::Refused(refused);
     }
-    rules::clear(lits, kinds, words::size_at(block, 0));
+    let n = words::size_at(block, 0);
+    rules::clear(lits, kinds, n);
+    reasons::wipe(reasons, 0, n);
     Answer::To(Session {
         length: 0,
         revision: first,
@@ -67,18 +87,19 @@ impl Session {
         block: &[i32],
         lits: &mut [i32],
         kinds: &mut [u8],
+        reasons: &mut [u32],
         seen: Revision,
         proposal: Literal,
-    ) -> Answer
-        ensures { λ r. ⌜ StepPromise self (now (block .entry)) (memory (now (lits .entry)) (now (kinds .entry))) seen proposal r (memory (now (lits .exit)) (now (kinds .exit))) ⌝ }
+    ) -> Stepped
+        ensures { λ r. ⌜ StepPromise self (now (block .entry)) (memory (now (lits .entry)) (now (kinds .entry)) (now (reasons .entry))) seen proposal r (memory (now (lits .exit)) (now (kinds .exit)) (now (reasons .exit))) ⌝ }
     {
-        let refused = guard::session_refusal(self, block, lits, kinds, seen);
+        let refused = guard::session_refusal(self, block, lits, kinds, reasons, seen);
         if refused != 0 {
-            return Answer::Refused(refused);
+            return Stepped::Not(refused);
         }
         let revision = self.revision.0;
         if revision == LAST_REVISION {
-            return Answer::Refused(15);
+            return Stepped::Not(15);
         }
         let count = self.length;
         let levels = rules::levels(block);
@@ -86,10 +107,14 @@ impl Session {
         let rule = rules::due(block, lits, kinds, count, &levels, &mut statuses);
         let improper = guard::proposal_refusal(block, lits, count, rule, proposal, &levels);
         if improper != 0 {
-            return Answer::Refused(improper);
+            return Stepped::Not(improper);
         }
+        let reason = reasons::tell(reasons, rule, count);
         let reached = rules::apply(block, lits, kinds, count, rule, proposal);
-        Answer::To(moved(reached, revision + 1))
+        Stepped::Next {
+            session: moved(reached, revision + 1),
+            reason: reason,
+        }
     }
 
     // At most `budget` steps, with the preferred literals proposed.
@@ -98,13 +123,14 @@ impl Session {
         block: &[i32],
         lits: &mut [i32],
         kinds: &mut [u8],
+        reasons: &mut [u32],
         seen: Revision,
         budget: u32,
         preferred: &[i32],
     ) -> Ran
-        ensures { λ r. ⌜ RunPromise self (now (block .entry)) (memory (now (lits .entry)) (now (kinds .entry))) seen budget (now (preferred .entry)) r (memory (now (lits .exit)) (now (kinds .exit))) ⌝ }
+        ensures { λ r. ⌜ RunPromise self (now (block .entry)) (memory (now (lits .entry)) (now (kinds .entry)) (now (reasons .entry))) seen budget (now (preferred .entry)) r (memory (now (lits .exit)) (now (kinds .exit)) (now (reasons .exit))) ⌝ }
     {
-        let refused = guard::session_refusal(self, block, lits, kinds, seen);
+        let refused = guard::session_refusal(self, block, lits, kinds, reasons, seen);
         if refused != 0 {
             return Ran::Stopped(refused);
         }
@@ -120,6 +146,7 @@ impl Session {
             block,
             lits,
             kinds,
+            reasons,
             count,
             budget,
             preferred,
@@ -128,9 +155,11 @@ impl Session {
         );
         let reached = found.reached;
         let steps = found.steps;
+        let reason = found.reason;
         Ran::Until {
             session: moved(reached, revision + (steps as u64)),
             steps: steps,
+            reason: reason,
         }
     }
 }

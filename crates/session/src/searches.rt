@@ -1,20 +1,23 @@
 // A search: rule after rule on checked input.
 ghost use mathlib.Core.Path.{_≡_};
 ghost use lib.ListN.{take};
-ghost use Rattle.formula.specs.Limits.{limits};
 ghost use Rattle.formula.specs.Formula.{prefixOf, formulaOf};
 ghost use Rattle.theory.specs.Record.{among};
-ghost use Rattle.rules.specs.Due.{literal};
-ghost use Rattle.rules.specs.Trail.{trail};
+ghost use Rattle.rules.specs.Due.{literal, due};
+ghost use Rattle.rules.specs.Trail.{trail, recordOf};
 ghost use Rattle.rules.specs.Search as rules;
 ghost use Rattle.rules.specs.Preferred.{proposalOf};
-ghost use Rattle.rules.specs.Inner.Ready.{OnBlock, HeldOn, LentTables};
-ghost use Rattle.rules.specs.Inner.Tables.{Levels};
 ghost use Rattle.words.specs.Outcomes.{outcome};
+ghost use Rattle.rules.specs.Inner.Tables.{Levels};
+ghost use Rattle.rules.specs.Inner.Ready.{HeldOn, LentTables};
 ghost use Rattle.rules.specs.declared.rule.State.the-variants.{Open};
+ghost use Rattle.session.specs.Memory.{memory};
+ghost use Rattle.session.specs.Reasons.{why, told};
 ghost use Rattle.session.specs.Run.{advance};
+ghost use Rattle.session.specs.Inner.Reasons.{OnMemory};
 ghost use Rattle.session.specs.Promises.{SearchPromise};
 use crate::guard;
+use crate::reasons;
 use formula::LITERAL_PLACES;
 use rules::PLACES;
 use rules::Reached;
@@ -22,10 +25,17 @@ use rules::Rule;
 use rules::State;
 use words::Literal;
 
-// Where a number of steps lead, and how many they are.
+// Where a number of steps lead, how many they are, and the reason of the last one, 0 if there is none.
 pub struct Searched {
     pub reached: Reached,
     pub steps: u32,
+    pub reason: u32,
+}
+
+// Where one step leads, and its reason.
+pub(crate) struct Advanced {
+    reached: Reached,
+    reason: u32,
 }
 
 // What is proposed to a rule: at Decide the first open preferred literal, else 0.
@@ -53,18 +63,24 @@ fn advance(
     block: &[i32],
     lits: &mut [i32],
     kinds: &mut [u8],
+    reasons: &mut [u32],
     count: usize,
     preferred: &[i32],
     levels: &[u16; PLACES],
     statuses: &mut [u8; LITERAL_PLACES],
-) -> Reached
-    requires { ⌜ OnBlock limits (now block) (trail (now lits) (now kinds)) count ⌝ }
+) -> Advanced
+    requires { ⌜ OnMemory (now block) (memory (now lits) (now kinds) (now reasons)) count ⌝ }
     requires { ⌜ LentTables (now block) (now levels) (now statuses) ⌝ }
-    ensures { λ r. ⌜ outcome (rules.reached r (trail (now (lits .exit)) (now (kinds .exit)))) (now (statuses .exit)) ≡ outcome (advance (formulaOf (now (block .entry))) (now (preferred .entry)) (rules.search (trail (now (lits .entry)) (now (kinds .entry))) count Open)) (now (statuses .entry)) ⌝ }
+    ensures { λ r. ⌜ (outcome (rules.reached (r .reached) (trail (now (lits .exit)) (now (kinds .exit)))) (now (statuses .exit)) ≡ outcome (advance (formulaOf (now (block .entry))) (now (preferred .entry)) (rules.search (trail (now (lits .entry)) (now (kinds .entry))) count Open)) (now (statuses .entry))) × (why (now (reasons .exit)) (r .reason) ≡ told (due (formulaOf (now (block .entry))) (recordOf (trail (now (lits .entry)) (now (kinds .entry))) count)) count (now (reasons .entry))) ⌝ }
 {
     let rule = rules::due(block, lits, kinds, count, levels, statuses);
     let literal = proposal(block, lits, count, rule, preferred, levels);
-    rules::apply(block, lits, kinds, count, rule, literal)
+    let reason = reasons::tell(reasons, rule, count);
+    let reached = rules::apply(block, lits, kinds, count, rule, literal);
+    Advanced {
+        reached: reached,
+        reason: reason,
+    }
 }
 
 // At most `budget` steps from an open search, on tables that are lent as `rules::due` asks. A page asks it for each opening.
@@ -72,35 +88,50 @@ pub fn search(
     block: &[i32],
     lits: &mut [i32],
     kinds: &mut [u8],
+    reasons: &mut [u32],
     count: usize,
     budget: u32,
     preferred: &[i32],
     levels: &[u16; PLACES],
     statuses: &mut [u8; LITERAL_PLACES],
 ) -> Searched
-    requires { ⌜ OnBlock limits (now block) (trail (now lits) (now kinds)) count ⌝ }
+    requires { ⌜ OnMemory (now block) (memory (now lits) (now kinds) (now reasons)) count ⌝ }
     requires { ⌜ LentTables (now block) (now levels) (now statuses) ⌝ }
-    ensures { λ r. ⌜ SearchPromise (now (block .entry)) (trail (now (lits .entry)) (now (kinds .entry))) count budget (now (preferred .entry)) (now (statuses .entry)) r (trail (now (lits .exit)) (now (kinds .exit))) (now (statuses .exit)) ⌝ }
+    ensures { λ r. ⌜ SearchPromise (now (block .entry)) (memory (now (lits .entry)) (now (kinds .entry)) (now (reasons .entry))) count budget (now (preferred .entry)) (now (statuses .entry)) r (memory (now (lits .exit)) (now (kinds .exit)) (now (reasons .exit))) (now (statuses .exit)) ⌝ }
 {
     let mut at = Reached {
         count: count,
         state: State::Open,
     };
     let mut steps: u32 = 0;
+    let mut reason: u32 = 0;
     while steps < budget {
         let state = at.state;
         if guard::is_over(state) {
             return Searched {
                 reached: at,
                 steps: steps,
+                reason: reason,
             };
         }
         let here = at.count;
-        at = advance(block, lits, kinds, here, preferred, levels, statuses);
+        let next = advance(
+            block,
+            lits,
+            kinds,
+            reasons,
+            here,
+            preferred,
+            levels,
+            statuses,
+        );
+        at = next.reached;
+        reason = next.reason;
         steps += 1;
     }
     Searched {
         reached: at,
         steps: steps,
+        reason: reason,
     }
 }

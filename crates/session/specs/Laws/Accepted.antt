@@ -1,19 +1,21 @@
--- What the rows that a call has passed show: the block's formula is proper and its prefix bound, the record is one that the rules keep.
+-- What the rows that a call has passed show: the block's formula is proper and its prefix bound, the record is one that the rules keep, and its
+-- reasons are right.
 use Prim.Native.Nat.{ℕ, _+_, _≤_, _<_}
 use mathlib.Core.Path.{_≡_, refl}
 use mathlib.Core.Logic.{_⊎_, inl, inr}
 use mathlib.Core.Bool.{Bool, true, false, not, _&&_, and-false}
 use mathlib.Core.List.{List}
-use lib.Dec.{eqb, ltb}
+use lib.Dec.{eqb}
 use lib.IntN.{ℤ, natAbs}
 use lib.ListN.{length}
+use native.Mathlib.Omega.{arith}
 use borrow.Author.Tests.{eqb-true, ltb-false, not-false, le-ltb, lt-ltb, eq-eqb, ne-eqb}
 use Rattle.words.specs.Laws.Bools.{clash, or-fl, or-fr}
 use Rattle.words.specs.Rows.{refusalOf}
 use Rattle.words.specs.Laws.Rows.{goes-on, first-part, passed}
 use Rattle.words.specs.declared.Literal.{Literal}
 use Rattle.formula.specs.Limits.{Limits}
-use Rattle.formula.specs.Formula.{variablesOf, prefixOf, formulaOf}
+use Rattle.formula.specs.Formula.{variablesOf, clauseCountOf, prefixOf, formulaOf}
 use Rattle.formula.specs.Block.{rows, refusal}
 use Rattle.theory.specs.Record.{trueIn}
 use Rattle.theory.specs.Tests.{isOpen}
@@ -23,45 +25,66 @@ use Rattle.rules.specs.Due.{due}
 use Rattle.rules.specs.Preferred.{decides}
 use Rattle.rules.specs.Trail.{Trail, recordOf}
 use Rattle.rules.specs.Search.{search, recordIn}
+use Rattle.rules.specs.Check.{badRecord}
 use Rattle.rules.specs.Inner.Ready.{OnBuffers, OnBlock, Fitting, Permitted}
 use Rattle.rules.specs.Laws.Accepted.{prefix-length, on-block}
 use Rattle.rules.specs.Laws.Steps.{due-fits}
 use Rattle.session.specs.declared.Revision.{Revision}
 use Rattle.session.specs.declared.Session.{Session}
-use Rattle.session.specs.Memory.{Memory}
-use Rattle.session.specs.Refusals.{lastRevision, short, over, proposed, ofBuffers, openRows, openRefusal, ofSession, sessionRows, ofStep, stepRows, stepRefusal, ofRun, runRows, runRefusal}
+use Rattle.session.specs.Memory.{Memory, recordPlaces, places}
+use Rattle.session.specs.Reasons.{badReasons}
+use Rattle.session.specs.Refusals.{lastRevision, over, proposed, ofBuffers, openRows, openRefusal, ofSession, sessionRows, ofStep, stepRows, stepRefusal, ofRun, runRows, runRefusal}
 use Rattle.session.specs.Inner.Guards.{sessionRefusal}
 use Rattle.session.specs.Outcome.{searchOf}
 
 -- ---- the block's rows and row 11: the buffers have a place for each variable
-module _ (L : Limits) (b : List ℤ) (m : Memory) where
-  pub from-11 : refusal L b ≡ 0 → openRefusal L b m ≡ refusalOf (ofBuffers b m)
-  unfolding refusal openRefusal
-  from-11 = goes-on (rows L b) (ofBuffers b m) refl
+pub record Opened (L : Limits) (b : List ℤ) (n : ℕ) : Type 0 where
+  pub block : refusal L b ≡ 0
+  pub enough : variablesOf b ≤ n
 
-  pub opened : openRefusal L b m ≡ 0 → OnBuffers L b (m .trail)
+module _ (L : Limits) (b : List ℤ) (n : ℕ) where
+  pub from-11 : refusal L b ≡ 0 → openRefusal L b n ≡ refusalOf (ofBuffers b n)
   unfolding refusal openRefusal
-  opened e =
-      let n = variablesOf b in
-      let ls = length (m .trail .lits) in
-      let ks = length (m .trail .kinds) in
-      let r : short b m ≡ false = passed (openRows L b m) refl e 11 in
-      record {
-        block = first-part (rows L b) (ofBuffers b m) e;
-        room = record { lits = ltb-false ls n (or-fl (ltb ls n) (ltb ks n) r); kinds = ltb-false ks n (or-fr (ltb ls n) (ltb ks n) r) };
-      }
+  from-11 = goes-on (rows L b) (ofBuffers b n) refl
 
-  pub open-passes : OnBuffers L b (m .trail) → openRefusal L b m ≡ 0
-  open-passes o = rw (from-11 (o .block), le-ltb (length (m .trail .lits)) (variablesOf b) (o .room .lits), le-ltb (length (m .trail .kinds)) (variablesOf b) (o .room .kinds))
+  pub opened : openRefusal L b n ≡ 0 → Opened L b n
+  unfolding refusal openRefusal
+  opened e = record { block = first-part (rows L b) (ofBuffers b n) e; enough = ltb-false n (variablesOf b) (passed (openRows L b n) refl e 11) }
+
+  pub open-passes : Opened L b n → openRefusal L b n ≡ 0
+  open-passes o = rw (from-11 (o .block), le-ltb n (variablesOf b) (o .enough))
+
+-- the record's two buffers, and all three
+pub record-room : {L : Limits} {b : List ℤ} (t : Trail) → Opened L b (recordPlaces t) → OnBuffers L b t
+record-room t o = let h = o .enough in record { block = o .block; room = record { lits = omega arith; kinds = omega arith } }
+
+pub room-record : {L : Limits} {b : List ℤ} (t : Trail) → OnBuffers L b t → Opened L b (recordPlaces t)
+room-record t o = record { block = o .block; enough = omega (arith, o .room .lits, o .room .kinds) }
+
+module _ {L : Limits} {b : List ℤ} (m : Memory) where
+  pub buffers-room : Opened L b (places m) → OnBuffers L b (m .trail)
+  buffers-room o = let h = o .enough in record-room (m .trail) (record { block = o .block; enough = omega arith })
+
+  pub reasons-room : Opened L b (places m) → variablesOf b ≤ length (m .reasons)
+  reasons-room o = let h = o .enough in omega arith
+
+  pub room-buffers : OnBuffers L b (m .trail) → variablesOf b ≤ length (m .reasons) → Opened L b (places m)
+  room-buffers o h = record { block = o .block; enough = omega (arith, room-record (m .trail) o .enough) }
 
 -- ---- rows 1 to 12: the due rule has a place to write to
 pub fitting : {L : Limits} {b : List ℤ} {t : Trail} {n : ℕ} → OnBlock L b t n → Fitting (prefixOf b) n (due (formulaOf b) (recordOf t n))
 unfolding formulaOf
 fitting {L} {b} {t} {n} o = due-fits (formulaOf b) (search t n Open) (o .kept)
 
+-- rows 11 and 12 as they speak of the reasons of a record of n entries
+pub record Sound (b : List ℤ) (m : Memory) (n : ℕ) : Type 0 where
+  pub places : variablesOf b ≤ length (m .reasons)
+  pub good : badReasons (clauseCountOf b) (m .trail .kinds) (m .reasons) n ≡ false
+
 -- ---- rows 1 to 14, which a step and a run share
 pub record Guarded (L : Limits) (s : Session) (b : List ℤ) (m : Memory) (seen : Revision) : Type 0 where
   pub on : OnBlock L b (m .trail) (s .length)
+  pub sound : Sound b m (s .length)
   pub live : s .state ≡ Open
   pub current : seen .0 ≡ s .revision .0
 
@@ -86,9 +109,9 @@ module _ (l : Literal) where
 
 module _ (L : Limits) (s : Session) (b : List ℤ) (m : Memory) (seen : Revision) where
   -- the rows from 12 on, where those before have passed; and from 15 on
-  pub from-12 : openRefusal L b m ≡ 0 → sessionRefusal L s b m seen ≡ refusalOf (ofSession s b m seen)
+  pub from-12 : openRefusal L b (places m) ≡ 0 → sessionRefusal L s b m seen ≡ refusalOf (ofSession s b m seen)
   unfolding openRefusal sessionRefusal
-  from-12 = goes-on (openRows L b m) (ofSession s b m seen) refl
+  from-12 = goes-on (openRows L b (places m)) (ofSession s b m seen) refl
 
   pub step-from-15 : (l : Literal) → sessionRefusal L s b m seen ≡ 0 → stepRefusal L s b m seen l ≡ refusalOf (ofStep s b m seen l)
   unfolding stepRefusal sessionRefusal
@@ -101,10 +124,13 @@ module _ (L : Limits) (s : Session) (b : List ℤ) (m : Memory) (seen : Revision
   pub guarded : sessionRefusal L s b m seen ≡ 0 → Guarded L s b m seen
   unfolding openRefusal sessionRefusal
   guarded e =
-      let o = opened L b m (first-part (openRows L b m) (ofSession s b m seen) e) in
+      let o = opened L b (places m) (first-part (openRows L b (places m)) (ofSession s b m seen) e) in
       let r = passed (sessionRows L s b m seen) refl e in
+      let x = badRecord (prefixOf b) (m .trail) (s .length) in
+      let y = badReasons (clauseCountOf b) (m .trail .kinds) (m .reasons) (s .length) in
       record {
-        on = on-block b (m .trail) (s .length) o (r 12);
+        on = on-block b (m .trail) (s .length) (buffers-room m o) (or-fl x y (r 12));
+        sound = record { places = reasons-room m o; good = or-fr x y (r 12) };
         live = over-open (s .state) (r 13);
         current = eqb-true (seen .0) (s .revision .0) (not-false _ (r 14));
       }
@@ -141,8 +167,8 @@ module _ (L : Limits) (s : Session) (b : List ℤ) (m : Memory) (seen : Revision
   module _ (g : Guarded L s b m seen) where
     guard-passes : sessionRefusal L s b m seen ≡ 0
     guard-passes =
-        let o = open-passes L b m (record { block = g .on .block; room = rw (← prefix-length L b (g .on .block)) (g .on .kept .room) }) in
-        rw (from-12 o, g .on .kept .good, g .live, eq-eqb (seen .0) (s .revision .0) (g .current))
+        let o = open-passes L b (places m) (room-buffers m (record { block = g .on .block; room = rw (← prefix-length L b (g .on .block)) (g .on .kept .room) }) (g .sound .places)) in
+        rw (from-12 o, g .on .kept .good, g .sound .good, g .live, eq-eqb (seen .0) (s .revision .0) (g .current))
 
     pub step-last : s .revision .0 ≡ lastRevision → (l : Literal) → stepRefusal L s b m seen l ≡ 15
     step-last e l = rw (step-from-15 l guard-passes, eq-eqb (s .revision .0) lastRevision e)

@@ -1,7 +1,7 @@
 -- A run's search, rule by rule: each rule is a step of the theory and keeps what the guard has shown; the search is open after the last one only
 -- if the budget is used. From the laws of the due rule, and by induction on the budget.
 use Prim.Native.Nat.{ℕ, zero, suc, _+_, _-_, _≤_, _<_}
-use mathlib.Core.Path.{_≡_, refl, _∙_, ap}
+use mathlib.Core.Path.{_≡_, refl, sym, _∙_, ap}
 use mathlib.Core.Logic.{_⊎_, inl, inr}
 use mathlib.Core.Bool.{Bool, true, false, cond}
 use mathlib.Core.List.{List}
@@ -21,7 +21,9 @@ use Rattle.rules.specs.Inner.Ready.{KeptIn, Permitted}
 use Rattle.rules.specs.Laws.Searches.{first-open}
 use Rattle.rules.specs.Laws.Steps.{due-step, due-keeps}
 use Rattle.session.specs.Refusals.{over}
-use Rattle.session.specs.Run.{Trip, trip, whileOpen, advance, runFrom}
+use Rattle.session.specs.Reasons.{Why, why, told}
+use Rattle.session.specs.Run.{Trip, trip, whileOpen, advance, runFrom, whyFrom}
+use Rattle.session.specs.Calls.{lastReason}
 use Rattle.session.specs.Laws.Accepted.{over-open}
 
 -- ---- what a run proposes passes rows 16 and 17: it is 0, or Decide is due and it is open
@@ -43,7 +45,7 @@ module _ (F : Formula) (preferred : List ℤ) (t : Search) (k : KeptIn (F .prefi
   unfolding advance
   advance-keeps = due-keeps F t k _ (proposal-passes (F .prefix) (trueIn (recordIn t)) preferred (due F (recordIn t)) .1)
 
-while-ended : (st : State) (a b : Trip) → over st ≡ true → whileOpen st a b ≡ b
+while-ended : {A : Type 0} (st : State) (a b : A) → over st ≡ true → whileOpen st a b ≡ b
 while-ended Open a b h = clash h refl
 while-ended Valid a b h = refl
 while-ended Unsat a b h = refl
@@ -75,6 +77,24 @@ module _ (F : Formula) (preferred : List ℤ) where
   unfolding runFrom
   loop-last n t i h = let m : n - i ≡ 0 = omega arith in rw m
 
+  -- ---- the reasons of the same loop
+  pub why-more : (n : ℕ) (t : Search) (w : Why) → t .state ≡ Open → whyFrom F preferred (suc n) t w ≡ whyFrom F preferred n (advance F preferred t) (told (due F (recordIn t)) (t .count) (w .reasons))
+  unfolding whyFrom
+  why-more n t w e = rw e
+
+  pub why-ended : (n : ℕ) (t : Search) (w : Why) → over (t .state) ≡ true → whyFrom F preferred n t w ≡ w
+  unfolding whyFrom
+  why-ended zero t w h = refl
+  why-ended (suc n) t w h = while-ended (t .state) _ _ h
+
+  pub why-loop : (n : ℕ) (t : Search) (w : Why) (i : ℕ) → i < n → t .state ≡ Open
+      → whyFrom F preferred (n - (i + 1)) (advance F preferred t) (told (due F (recordIn t)) (t .count) (w .reasons)) ≡ whyFrom F preferred (n - i) t w
+  why-loop n t w i h e = let m : n - i ≡ suc (n - (i + 1)) = omega arith in rw (m, why-more (n - (i + 1)) t w e)
+
+  pub why-none : (n : ℕ) (t : Search) (w : Why) (i : ℕ) → n ≤ i → whyFrom F preferred (n - i) t w ≡ w
+  unfolding whyFrom
+  why-none n t w i h = let m : n - i ≡ 0 = omega arith in rw m
+
   -- ---- from the first step on
   later : (n : ℕ) (t : Search) (i : ℕ) → runFrom F preferred n t (i + 1) ≡ further (runFrom F preferred n t i)
   unfolding runFrom
@@ -100,6 +120,35 @@ module _ (F : Formula) (preferred : List ℤ) where
         let z : u .steps + 1 ≡ suc (u .steps) = omega arith in
         rw (run-further n t e) (ap (λ (k : ℕ). runFrom F preferred k t 0) z ∙ run-further (u .steps) t e ∙ ap further (run-counted n (advance F preferred t)))
   ]
+
+  pub why-counted : (n : ℕ) (t : Search) (w : Why) → whyFrom F preferred (runFrom F preferred n t 0 .steps) t w ≡ whyFrom F preferred n t w
+  why-counted zero t w = rw (loop-last 0 t 0 (omega arith))
+  why-counted (suc n) t w = elim (look (over (t .state))) [
+    | inl h ↦ rw (run-ended (suc n) t 0 h, why-ended (suc n) t w h) (why-none 0 t w 0 (omega arith))
+    | inr h ↦
+        let e = over-open (t .state) h in
+        let u = runFrom F preferred n (advance F preferred t) 0 in
+        let z : u .steps + 1 ≡ suc (u .steps) = omega arith in
+        rw (run-further n t e, z, why-more (u .steps) t w e, why-more n t w e) (why-counted n (advance F preferred t) _)
+  ]
+
+  -- [run.reason] what was answered last before a run is of no matter to it, unless it makes no step
+  pub why-latest : (n : ℕ) (t : Search) (ws : List ℕ) (r : ℕ) → let u = runFrom F preferred n t 0 in
+      let w = whyFrom F preferred n t (why ws 0) in
+      whyFrom F preferred n t (why ws r) ≡ why (w .reasons) (lastReason (u .steps) r (w .last))
+  why-latest zero t ws r = rw (loop-last 0 t 0 (omega arith), why-none 0 t (why ws r) 0 (omega arith), why-none 0 t (why ws 0) 0 (omega arith))
+  why-latest (suc n) t ws r = elim (look (over (t .state))) [
+    | inl h ↦ rw (run-ended (suc n) t 0 h, why-ended (suc n) t (why ws r) h, why-ended (suc n) t (why ws 0) h)
+    | inr h ↦
+        let e = over-open (t .state) h in
+        let u = runFrom F preferred n (advance F preferred t) 0 in
+        let z : u .steps + 1 ≡ suc (u .steps) = omega arith in
+        rw (run-further n t e, z, why-more n t (why ws r) e, why-more n t (why ws 0) e)
+  ]
+
+  -- a run that makes no step has no reason
+  pub why-silent : (n : ℕ) (t : Search) (ws : List ℕ) → runFrom F preferred n t 0 .steps ≡ 0 → whyFrom F preferred n t (why ws 0) ≡ why ws 0
+  why-silent n t ws e = sym (why-counted n t (why ws 0)) ∙ rw e (why-none 0 t (why ws 0) 0 (omega arith))
 
   -- ---- where a run leads: by a path of the theory's rules, which ends open only if all of the budget is used
   pub record Travelled (n : ℕ) (t : Search) (u : Trip) : Type 0 where

@@ -1,5 +1,8 @@
 -- Each round is one of the definition's, whatever the searches before it left; each way out is where the definition stops.
-use Prim.Native.Nat.{_-_}
+use mathlib.Core.Path.{_≡_}
+use Prim.Native.Nat.{ℕ, _-_}
+use lib.ListN.{length, length-replicate}
+use Rattle.formula.specs.Limits.{maxVariables}
 use native.Mathlib.Omega.{arith}
 use borrow.Author.Needs.{needs}
 use Rattle.words.specs.Outcomes.{same-answer, same-memory}
@@ -12,16 +15,16 @@ use Rattle.listing.proofs.sheets.fill.Statement.{statement}
 use Rattle.listing.proofs.sheets.fill.Tie as tie
 
 abbrev Inv-loop : tie.InvT-loop
-Inv-loop block lits₀ kinds₀ k start preferred budget output₀ levels statuses₀ total n₀ entries₀ lits kinds output statuses n entries =
-    Round block (pageMemory lits₀ kinds₀ output₀) k start preferred budget total n entries (trail lits kinds) output × LentTables block levels statuses
+Inv-loop block lits₀ kinds₀ k start preferred budget output₀ levels statuses₀ reasons₀ total n₀ entries₀ lits kinds output statuses reasons n entries =
+    Round block (pageMemory lits₀ kinds₀ output₀) k start preferred budget total n entries (trail lits kinds) output × LentTables block levels statuses × (length reasons ≡ maxVariables)
 
 abbrev μ-loop : tie.MeasureT-loop
-μ-loop block lits₀ kinds₀ k start preferred budget output₀ levels statuses₀ total n₀ entries₀ lits kinds output statuses n entries = total - n
+μ-loop block lits₀ kinds₀ k start preferred budget output₀ levels statuses₀ reasons₀ total n₀ entries₀ lits kinds output statuses reasons n entries = total - n
 
 loop-holds : tie.Need-loop-holds Inv-loop μ-loop
 loop-holds c =
     let start = c .before .before .before .before in
-    (begins _ _ _ _ _ _ _ (start .pre) (c .count .ensures), record { told = c .before .levels .ensures; blank = new-blank })
+    (begins _ _ _ _ _ _ _ (start .pre) (c .count .ensures), record { told = c .before .levels .ensures; blank = new-blank }, length-replicate {A = ℕ} maxVariables 0)
 
 returns : tie.Need-returns Inv-loop μ-loop
 returns c =
@@ -30,33 +33,35 @@ returns c =
 
 try-opening-requires : tie.Need-try-opening-requires Inv-loop μ-loop
 try-opening-requires c κs =
-    let at = c .before .before .before .before .before .before in
-    (still-on (at .loop .inv .0), at .loop .inv .1)
+    let at = c .before .before .before .before .before .before .before in
+    (still-on (at .loop .inv .0), (at .loop .inv .1, at .loop .inv .2))
 
 returns-2 : tie.Need-returns-2 Inv-loop μ-loop
 returns-2 c =
     let tried = c .before .before .before .before .before .before in
-    let room = tried .before .before .before .before .before in
+    let room = tried .before .before .before .before .before .before in
     let at = room .before .before in
-    pauses (at .loop .inv .0) (room .before .loop-test .taken) (room .if1 .left) (same-answer (tried .try-opening .ensures)) (c .before .enum-told .given .1) (c .answer2 .ensures)
+    pauses (at .loop .inv .0) (room .before .loop-test .taken) (room .if1 .left) (same-answer (tried .try-opening .ensures .0)) (c .before .enum-told .given .1) (c .answer2 .ensures)
 
 loop-again : tie.Need-loop-again Inv-loop μ-loop
 loop-again c =
     let told = c .before .before .before .before in
     let tried = told .before .before .before .before .before in
-    let room = tried .before .before .before .before .before in
+    let room = tried .before .before .before .before .before .before in
     let at = room .before .before in (
-      wins (at .loop .inv .0) (room .before .loop-test .taken) (room .if1 .left) (same-answer (tried .try-opening .ensures)) (told .enum-told2 .given .1) (c .before .before .write-entry .ensures),
-      rw (same-memory (tried .try-opening .ensures)) (at .loop .inv .1),
+      wins (at .loop .inv .0) (room .before .loop-test .taken) (room .if1 .left) (same-answer (tried .try-opening .ensures .0)) (told .enum-told2 .given .1) (c .before .before .write-entry .ensures),
+      rw (same-memory (tried .try-opening .ensures .0)) (at .loop .inv .1),
+      tried .try-opening .ensures .1,
     )
 
 loop-again-2 : tie.Need-loop-again-2 Inv-loop μ-loop
 loop-again-2 c =
     let tried = c .before .before .before .before .before in
-    let room = tried .before .before .before .before .before in
+    let room = tried .before .before .before .before .before .before in
     let at = room .before .before in (
-      loses (at .loop .inv .0) (room .before .loop-test .taken) (room .if1 .left) (same-answer (tried .try-opening .ensures)) (c .enum-told3 .given .1),
-      rw (same-memory (tried .try-opening .ensures)) (at .loop .inv .1),
+      loses (at .loop .inv .0) (room .before .loop-test .taken) (room .if1 .left) (same-answer (tried .try-opening .ensures .0)) (c .enum-told3 .given .1),
+      rw (same-memory (tried .try-opening .ensures .0)) (at .loop .inv .1),
+      tried .try-opening .ensures .1,
     )
 
 returns-3 : tie.Need-returns-3 Inv-loop μ-loop

@@ -20,5 +20,7 @@ ran-spec =
     (λ c. search needs)
     (λ c. search needs)
     (λ c. search needs)
+    (λ c. search needs)
+    (λ c. search needs)
     returns
     (λ c. search needs))

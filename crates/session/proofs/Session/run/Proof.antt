@@ -1,14 +1,11 @@
 -- A way out for each part of the table; after its last row the search goes on for as many steps as it answers.
 use native.Mathlib.Omega.{arith}
 use borrow.Author.Needs.{needs}
-use mathlib.Core.Path.{sym, _∙_}
 use Rattle.words.specs.Outcomes.{same-answer}
 use Rattle.rules.specs.Laws.Blanks.{new-blank}
-use Rattle.session.specs.Laws.Accepted.{guarded}
-use Rattle.session.proofs.Exits.{run-stops, run-over, run-moves, steps-within}
+use Rattle.session.proofs.Exits.{on-memory, run-stops, run-over, run-moves, steps-within}
 use Rattle.session.proofs.Session.run.Statement.{statement}
 use Rattle.session.proofs.Session.run.Tie as tie
-use Rattle.formula.specs.Limits.{limits}
 
 returns : tie.Need-returns
 returns c = run-stops _ _ _ _ _ _ (c .before .session-refusal .ensures) (c .if1 .taken)
@@ -19,36 +16,37 @@ returns-2 c =
     run-over _ _ _ _ _ _ (g .before .session-refusal .ensures) (g .if1 .left) (omega (arith, c .if2 .taken))
 
 levels-requires : tie.Need-levels-requires
-levels-requires c κs = let g = c .before in guarded limits _ _ _ _ (sym (g .before .session-refusal .ensures) ∙ g .if1 .left) .on .block
+levels-requires c κs = let g = c .before in on-memory _ _ _ _ (g .before .session-refusal .ensures) (g .if1 .left) .on .block
 
 search-requires : tie.Need-search-requires
 search-requires c κs =
-    let l = c .before .before .before .before in
+    let l = c .before .before .before .before .before in
     let g = l .before .before in
-    (guarded limits _ _ _ _ (sym (g .before .session-refusal .ensures) ∙ g .if1 .left) .on, record { told = l .levels .ensures; blank = new-blank })
+    (on-memory _ _ _ _ (g .before .session-refusal .ensures) (g .if1 .left), record { told = l .levels .ensures; blank = new-blank })
 
 -- from the search on: the rows before
 module _ (f : tie.After-search) where
   abbrev v : tie.Else2
-  v = f .before .before .before .before .before .before
+  v = f .before .before .before .before .before .before .before
 
   abbrev g : tie.Else1
   g = v .before
 
   abbrev start : tie.Start
-  start = g .before .before .before .before .before
+  start = g .before .before .before .before .before .before .before
 
 add-moved : tie.Need-add-moved
 add-moved c =
-    let f = c .before .before .before .before in
-    let on = guarded limits (start f .args .self) _ _ _ (sym (g f .before .session-refusal .ensures) ∙ g f .if1 .left) .on in
-    let w = steps-within on (start f .args .budget) (start f .args .preferred .now) (same-answer (f .search .ensures)) in
+    let f = c .before .before .before .before .before .before in
+    let on = on-memory (start f .args .self) _ _ _ (g f .before .session-refusal .ensures) (g f .if1 .left) .on in
+    let w = steps-within on (start f .args .budget) (start f .args .preferred .now) (same-answer (f .search .ensures .0)) in
     omega (arith, w, v f .if2 .left, start f .good)
 
 returns-3 : tie.Need-returns-3
 returns-3 c =
-    let f = c .before .before .before .before .before in
-    run-moves _ _ _ _ _ _ (g f .before .session-refusal .ensures) (g f .if1 .left) (omega (arith, start f .good)) (omega (arith, v f .if2 .left)) _ _ _ (same-answer (f .search .ensures)) (c .moved .ensures)
+    let f = c .before .before .before .before .before .before .before in
+    let (led, why) = f .search .ensures in
+    run-moves _ _ _ _ _ _ (g f .before .session-refusal .ensures) (g f .if1 .left) (omega (arith, start f .good)) (omega (arith, v f .if2 .left)) _ _ _ (same-answer led) _ _ why (c .moved .ensures)
 
 pub run-spec : {M : Type 1} → statement M
 run-spec =
@@ -57,7 +55,9 @@ run-spec =
     (λ c κs. search needs)
     (λ c. search needs)
     (λ c. search needs)
+    (λ c. search needs)
     returns
+    (λ c. search needs)
     (λ c. search needs)
     (λ c. search needs)
     (λ c. search needs)
@@ -67,6 +67,7 @@ run-spec =
     (λ c. search needs)
     add-moved
     (λ c κs. search needs)
+    (λ c. search needs)
     (λ c. search needs)
     (λ c. search needs)
     returns-3)

@@ -1,16 +1,14 @@
--- A way out for each part of the table; after its last row the due rule is applied.
+-- A way out for each part of the table; after its last row the due rule is told and applied.
 use native.Mathlib.Omega.{arith}
 use borrow.Author.Needs.{needs}
 use mathlib.Core.Path.{sym, _∙_}
-use denote.Ref.{now}
-use Rattle.words.specs.Outcomes.{same-answer}
 use Rattle.formula.specs.Limits.{limits}
-use Rattle.rules.specs.Trail.{trail}
-use Rattle.rules.specs.Inner.Ready.{OnBlock}
+use Rattle.words.specs.Outcomes.{same-answer}
 use Rattle.rules.specs.Laws.Accepted.{held-on}
 use Rattle.rules.specs.Laws.Blanks.{new-blank}
 use Rattle.session.specs.Laws.Accepted.{fitting, guarded}
-use Rattle.session.proofs.Exits.{step-stops, step-last, step-improper, step-moves}
+use Rattle.session.specs.Laws.Named.{tellable}
+use Rattle.session.proofs.Exits.{on-memory, step-stops, step-last, step-improper, step-moves}
 use Rattle.session.proofs.Session.step.Statement.{statement}
 use Rattle.session.proofs.Session.step.Tie as tie
 
@@ -50,26 +48,32 @@ returns-3 c =
     let d = c .before .before .before .before in
     step-improper _ _ _ _ _ (g d .before .session-refusal .ensures) (g d .if1 .left) (v d .if2 .left) (same-answer (d .due .ensures)) (c .before .proposal-refusal .ensures) (c .if3 .taken)
 
+tell-requires : tie.Need-tell-requires
+tell-requires c κs =
+    let d = c .before .before .before .before .before in
+    rw (same-answer (d .due .ensures)) (tellable (on-memory _ _ _ _ (g d .before .session-refusal .ensures) (g d .if1 .left)))
+
 apply-requires : tie.Need-apply-requires
 apply-requires c κs =
-    let d = c .before .before .before .before .before .before in
+    let d = c .before .before .before .before .before .before .before .before .before .before in
     let on = guarded limits _ _ _ _ (sym (g d .before .session-refusal .ensures) ∙ g d .if1 .left) .on in
     (on, rw (same-answer (d .due .ensures)) (fitting on))
 
 add-moved : tie.Need-add-moved
 add-moved c =
     let a = c .before .before .before in
-    let d = a .before .before .before .before .before .before .before in
-    let start = g d .before .before .before .before .before in
+    let d = a .before .before .before .before .before .before .before .before .before .before .before in
+    let start = g d .before .before .before .before .before .before .before in
     omega (arith, v d .if2 .left, start .good)
 
 returns-4 : tie.Need-returns-4
 returns-4 c =
     let a = c .before .before .before .before in
-    let q = a .before .before .before in
+    let w = a .before .before .before .before .before in
+    let q = w .before .before in
     let d = q .before .before .before .before in
     step-moves _ _ _ _ _ (g d .before .session-refusal .ensures) (g d .if1 .left) (v d .if2 .left) (same-answer (d .due .ensures)) (q .before .proposal-refusal .ensures) (q .if3 .left)
-    _ _ (a .apply .ensures) (c .moved .ensures)
+    _ _ (a .apply .ensures) (c .moved .ensures) _ _ (w .tell .ensures)
 
 pub step-spec : {M : Type 1} → statement M
 step-spec =
@@ -78,7 +82,9 @@ step-spec =
     (λ c κs. search needs)
     (λ c. search needs)
     (λ c. search needs)
+    (λ c. search needs)
     returns
+    (λ c. search needs)
     (λ c. search needs)
     (λ c. search needs)
     returns-2
@@ -87,10 +93,13 @@ step-spec =
     proposal-refusal-requires
     (λ c. search needs)
     (λ c. search needs)
+    (λ c. search needs)
     returns-3
+    tell-requires
     apply-requires
     add-moved
     (λ c κs. search needs)
+    (λ c. search needs)
     (λ c. search needs)
     (λ c. search needs)
     returns-4)

@@ -10,12 +10,12 @@ returns c = block-refused _ _ (c .before .before .before .check .ensures) _ (c .
 returns-2 : tie.Need-returns-2
 returns-2 c =
     let a = c .before .before in
-    buffers-short _ _ (a .before .before .check .ensures) (a .enum-told .given .1) (c .before .is-short .ensures) (c .if1 .taken)
+    buffers-short _ _ (a .before .before .check .ensures) (a .enum-told .given .1) (c .before .size-at .ensures) (c .if1 .taken)
 
 returns-3 : tie.Need-returns-3
 returns-3 c =
     let a = c .before .before in
-    buffers-pass _ _ (a .before .before .check .ensures) (a .enum-told .given .1) (c .before .is-short .ensures) (c .if1 .left)
+    buffers-pass _ _ (a .before .before .check .ensures) (a .enum-told .given .1) (c .before .size-at .ensures) (c .if1 .left)
 
 pub open-refusal-spec : {M : Type 1} → statement M
 open-refusal-spec =

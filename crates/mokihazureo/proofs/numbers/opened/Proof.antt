@@ -1,14 +1,14 @@
 -- One case of the answer to a return; the numbers are stored one after the other.
 use mathlib.Core.Path.{refl}
 use borrow.Author.Needs.{needs}
-use Rattle.mokihazureo.proofs.numbers.answered.Statement.{statement}
-use Rattle.mokihazureo.proofs.numbers.answered.Tie as tie
+use Rattle.mokihazureo.proofs.numbers.opened.Statement.{statement}
+use Rattle.mokihazureo.proofs.numbers.opened.Tie as tie
 
 returns : tie.Need-returns
 returns c = rw (c .before .before .outcome .given .1, c .number-of .ensures) (refl, refl)
 
-pub answered-spec : {M : Type 1} → statement M
-answered-spec =
+pub opened-spec : {M : Type 1} → statement M
+opened-spec =
     tie.close
     (tie.spec
     (λ c. search needs)

@@ -1,0 +1,75 @@
+-- The due rule leaves reasons that rows 11 and 12 let pass: row 12 is a property of every entry with its reason, and the clause named is one of C.
+use Prim.Native.Nat.{ℕ, zero, suc, _+_, _<_}
+use mathlib.Core.Path.{_≡_, refl}
+use mathlib.Core.Bool.{false, not, and-false}
+use mathlib.Core.List.{List}
+use native.Mathlib.Decide.{ℕ-discrete}
+use native.Mathlib.Omega.{arith}
+use lib.Dec.{eqb}
+use lib.IntN.{ℤ}
+use lib.ListN.{getD, replicate, length-replicate}
+use borrow.Author.Tests.{le-ltb}
+use Rattle.words.specs.Laws.Bools.{or-fl, or-fr}
+use Rattle.words.specs.Laws.Lists.{blank as zeros}
+use Rattle.words.specs.declared.Literal.{Literal}
+use Rattle.formula.specs.Limits.{Limits}
+use Rattle.formula.specs.Formula.{variablesOf, clauseCountOf, prefixOf, formulaOf}
+use Rattle.theory.specs.Record.{Entry, Record}
+use Rattle.rules.specs.declared.rule.Rule.the-variants.{Unit}
+use Rattle.rules.specs.Trail.{Trail}
+use Rattle.rules.specs.Search.{Search, recordIn}
+use Rattle.rules.specs.Due.{due}
+use Rattle.rules.specs.Apply.{apply}
+use Rattle.rules.specs.Inner.Ready.{OnBlock}
+use Rattle.rules.specs.Laws.Accepted.{prefix-length}
+use Rattle.session.specs.Memory.{memoryOf}
+use Rattle.session.specs.Reasons.{noted, badReason, badReasons}
+use Rattle.session.specs.Laws.Accepted.{fitting, Sound}
+use Rattle.session.specs.Laws.Noted.{noted-length}
+use Rattle.session.specs.Laws.Named.{due-names, clause-count}
+use Rattle.session.specs.Laws.Each.{Each, each-after}
+
+-- a wrong reason is one of the entries'
+module _ (c : ℕ) (t : Trail) (ws : List ℕ) where
+  bad-each : (n : ℕ) → badReasons c (t .kinds) ws n ≡ false → (j : ℕ) → j < n → badReason c (getD (t .kinds) j 0) (getD ws j 0) ≡ false
+  unfolding badReasons
+  bad-each zero h j l = absurd (omega arith)
+  bad-each (suc n) h j l =
+      let x = badReason c (getD (t .kinds) n 0) (getD ws n 0) in
+      let y = badReasons c (t .kinds) ws n in
+      elim (ℕ-discrete j n) [ yes e ↦ rw e (or-fl x y h) | no f ↦ bad-each n (or-fr x y h) j (omega arith) ]
+
+  each-bad : (n : ℕ) → ((j : ℕ) → j < n → badReason c (getD (t .kinds) j 0) (getD ws j 0) ≡ false) → badReasons c (t .kinds) ws n ≡ false
+  unfolding badReasons
+  each-bad zero h = refl
+  each-bad (suc n) h = rw (h n (omega arith), each-bad n (λ j l. h j (omega arith)))
+
+pub zero-right : (c k : ℕ) → badReason c k 0 ≡ false
+zero-right c k = rw (le-ltb c 0 (omega arith)) (and-false (not (eqb k 0)))
+
+-- reasons that are all 0 pass rows 11 and 12, beside any record
+pub none-sound : (b : List ℤ) (t : Search) (n : ℕ) → Sound b (memoryOf t (replicate (variablesOf b) 0)) n
+none-sound b t n =
+    let v = variablesOf b in
+    let C = clauseCountOf b in
+    record {
+      places = rw (length-replicate {A = ℕ} v 0) (omega arith);
+      good = each-bad C (t .trail) (replicate v 0) n (λ j h. rw (zeros {A = ℕ} 0 v j) (zero-right C (getD (t .trail .kinds) j 0)));
+    }
+
+-- the due rule leaves reasons that rows 11 and 12 let pass
+pub sound-after : (L : Limits) (b : List ℤ) (t : Search) (ws : List ℕ) → OnBlock L b (t .trail) (t .count) → Sound b (memoryOf t ws) (t .count) → (l : ℤ)
+    → let rule = due (formulaOf b) (recordIn t) in let u = apply (prefixOf b) rule l t in Sound b (memoryOf u (noted rule (t .count) ws)) (u .count)
+unfolding formulaOf
+sound-after L b t ws o s l =
+    let F = formulaOf b in
+    let rule = due F (recordIn t) in
+    let u = apply (prefixOf b) rule l t in
+    let C = clauseCountOf b in
+    let Q : Record → Entry → ℕ → Type 0 = λ r e w. badReason C (e .kind) w ≡ false in
+    let each : Each Q t ws = bad-each C (t .trail) ws (t .count) (s .good) in
+    let unit : (x : Literal) (c : ℕ) → rule ≡ Unit x c → badReason C 0 (c + 1) ≡ false = λ x c e. let h = rw e at (due-names F (recordIn t)) in rw (le-ltb C (c + 1) (omega (arith, h .0, clause-count L b (o .block)))) in
+    record {
+      places = rw (noted-length rule (t .count) ws) (s .places);
+      good = each-bad C (u .trail) (noted rule (t .count) ws) (u .count) (each-after Q (λ r e. zero-right C (e .kind)) (prefixOf b) l t (o .kept) ws (omega (arith, prefix-length L b (o .block), s .places)) each rule (fitting o) unit);
+    }
