@@ -109,7 +109,15 @@ pub(crate) fn try_opening(
 {
     begin(block, lits, kinds, k, n);
     let found = session::search(
-        block, lits, kinds, reasons, k, budget, preferred, levels, statuses,
+        block,
+        lits,
+        kinds,
+        reasons,
+        k,
+        budget,
+        preferred,
+        levels,
+        statuses,
     );
     found.reached
 }

@@ -116,7 +116,14 @@ pub fn search(
         }
         let here = at.count;
         let next = advance(
-            block, lits, kinds, reasons, here, preferred, levels, statuses,
+            block,
+            lits,
+            kinds,
+            reasons,
+            here,
+            preferred,
+            levels,
+            statuses,
         );
         at = next.reached;
         reason = next.reason;
