@@ -70,7 +70,7 @@ static void measure(double best[2])
 static int agree(const struct outcome *a, const struct outcome *b)
 {
     return a->status == b->status
-        && (a->status >= 28 && a->status <= 30 ? 1 : a->answer[0] == b->answer[0])
+        && a->answer[0] == b->answer[0]
         && memcmp(a->output, b->output, sizeof a->output) == 0;
 }
 

@@ -3,8 +3,8 @@
    is looked for, and counted from the frame that made the call.
 
    The input is as bench/formula.h says. On each formula a check, an opening, some
-   steps, a run and a page are made, and for each kind of call the most bytes are
-   printed. The word BYTES, if given, is the size of the thread's stack, of which
+   steps, a run and a page are made, its text is read, and for each kind of call the
+   most bytes are printed. The word BYTES, if given, is the size of the thread's stack, of which
    the system keeps some for itself; under it is a page that nobody may touch, so
    that a call which asks for more ends the program. */
 #define _GNU_SOURCE
@@ -16,13 +16,13 @@
 #include "formula.h"
 #include "mokihazureo.h"
 
-enum { GUARD = 4096, STEPS = 40, BUDGET = 2000, ROOM = 64 };
+enum { GUARD = 4096, STEPS = 40, BUDGET = 2000, ROOM = 64, TEXT = 1 << 18 };
 
 static const uint64_t pattern = 0xa5c3965a3c69f00d;
 
-enum call { CHECK, OPEN, STEP, RUN, PAGE, CALLS };
+enum call { CHECK, OPEN, STEP, RUN, PAGE, READ, CALLS };
 
-static const char *const names[CALLS] = {"check", "open", "step", "run", "page"};
+static const char *const names[CALLS] = {"check", "open", "step", "run", "page", "read"};
 
 /* What the calls are made on. */
 static struct formula formula;
@@ -31,12 +31,15 @@ static uint8_t kinds[PLACES];
 static uint32_t reasons[PLACES];
 static uint32_t output[ROOM];
 static uint64_t session[MOKI_RUN_WORDS];
+static char text[TEXT];
+static size_t text_length;
+static int32_t read_block[BLOCK];
 
 static uint32_t make(enum call call)
 {
     const int32_t *block = formula.block;
     size_t length = formula.length;
-    uint64_t page[MOKI_PAGE_WORDS];
+    uint64_t page[MOKI_PAGE_WORDS], told[1];
     switch (call) {
     case CHECK:
         return moki_check(block, length);
@@ -46,9 +49,28 @@ static uint32_t make(enum call call)
         return moki_step(session[0], session[1], (uint32_t)session[2], block, length, lits, PLACES, kinds, PLACES, reasons, PLACES, session[1], 0, session);
     case RUN:
         return moki_run(session[0], session[1], (uint32_t)session[2], block, length, lits, PLACES, kinds, PLACES, reasons, PLACES, session[1], BUDGET, block, 6, session);
-    default:
+    case PAGE:
         return moki_page(block, length, lits, PLACES, kinds, PLACES, 0, block, 6, BUDGET, output, ROOM, page);
+    default:
+        return moki_read((const uint8_t *)text, text_length, read_block, BLOCK, told);
     }
+}
+
+/* The formula's text: a line for each variable, and for each clause. */
+static void write_text(void)
+{
+    const int32_t *word = formula.block + 6;
+    const int32_t v = formula.block[0], c = formula.block[1], *literals = word + v + c;
+    int32_t from = 0;
+    char *to = text + sprintf(text, "p cnf %" PRId32 " %" PRId32 "\n", v, c);
+    for (int32_t i = 0; i < v; i++, word++)
+        to += sprintf(to, "%c %" PRId32 " 0\n", *word > 0 ? 'e' : 'a', *word > 0 ? *word : -*word);
+    for (int32_t i = 0; i < c; i++, word++) {
+        while (from < *word)
+            to += sprintf(to, "%" PRId32 " ", literals[from++]);
+        to += sprintf(to, "0\n");
+    }
+    text_length = (size_t)(to - text);
 }
 
 /* A call, its number, and the frame that it was made from. */
@@ -143,6 +165,8 @@ int main(int argc, char **argv)
             try(STEP);
         try(RUN);
         try(PAGE);
+        write_text();
+        try(READ);
     }
     for (enum call call = 0; call < CALLS; call++)
         printf("%-5s %6zu bytes at most, on %s; accepted %u times\n", names[call], most[call].bytes, most[call].name, most[call].accepted);
