@@ -68,6 +68,9 @@ static void a_text(void)
     memset(reader, 255, sizeof reader);
     moki_read_piece(reader, (const uint8_t *)text, sizeof text - 1, output, COUNT(output));
     expect("a reader of other words is no text's", moki_read_end(reader, output, COUNT(output), answer) == 27 && memcmp(output, zeros, sizeof output) == 0);
+    memset(reader, 0, sizeof reader);
+    moki_read_piece(reader, (const uint8_t *)text, sizeof text - 1, output, COUNT(output));
+    expect("nor is one that was never begun with", moki_read_end(reader, output, COUNT(output), answer) == 27 && answer[0] == 0);
 }
 
 static void two_administrators(void)

@@ -39,8 +39,9 @@ readNumbers (Row n) = n ∷ []
 abbrev pub readCall : Limits → List ℕ → List ℤ → List ℕ → Outcome (Lent (List ℤ)) ℕ
 readCall L bs o a = told readStatus readNumbers a (readOf L bs o)
 
--- ---- [calls.pieces] the reader's state as two numbers, a kind and what it holds. A number over the last one counts as the last one
--- what stands at place n of a list that begins at i, and past it z
+-- ---- [calls.pieces] the reader's state as two numbers, a kind and what it holds. Of what it holds a number over the last one counts as the last one;
+-- a number that is no kind's counts as 0, Dead: no text goes on so
+-- what stands at place n of a list that begins at i, and elsewhere z
 abbrev pub pick : {A : Type 0} → List A → A → ℕ → ℕ → A
 pick [] z i n = z
 pick (x ∷ xs) z i n = cond (eqb n i) x (pick xs z (suc i) n)
@@ -55,7 +56,7 @@ unfoldable pub slotOf : ℕ → Slot
 slotOf n = pick (OfVariables ∷ OfCount ∷ OfGroup ∷ OfClause false ∷ []) (OfClause true) 0 n
 
 unfoldable pub stateOf : ℕ → ℕ → State
-stateOf k n = pick (Fresh (bitOf n) ∷ Before (placeOf n) ∷ Parted (placeOf n) ∷ InNumber (slotOf n) ∷ Remark ∷ AfterC ∷ AfterCn ∷ AfterMinus ∷ []) Dead 0 k
+stateOf k n = pick (Fresh (bitOf n) ∷ Before (placeOf n) ∷ Parted (placeOf n) ∷ InNumber (slotOf n) ∷ Remark ∷ AfterC ∷ AfterCn ∷ AfterMinus ∷ []) Dead 1 k
 
 abbrev pub bitNumber : Bool → ℕ
 bitNumber p = cond p 1 0
@@ -78,15 +79,15 @@ slotNumber OfGroup = 2
 slotNumber (OfClause s) = cond s 4 3
 
 abbrev pub kindNumber : State → ℕ
-kindNumber (Fresh more) = 0
-kindNumber (Before k) = 1
-kindNumber (Parted k) = 2
-kindNumber (InNumber f) = 3
-kindNumber Remark = 4
-kindNumber AfterC = 5
-kindNumber AfterCn = 6
-kindNumber AfterMinus = 7
-kindNumber Dead = 8
+kindNumber Dead = 0
+kindNumber (Fresh more) = 1
+kindNumber (Before k) = 2
+kindNumber (Parted k) = 3
+kindNumber (InNumber f) = 4
+kindNumber Remark = 5
+kindNumber AfterC = 6
+kindNumber AfterCn = 7
+kindNumber AfterMinus = 8
 
 abbrev pub heldNumber : State → ℕ
 heldNumber (Fresh more) = bitNumber more

@@ -37,7 +37,7 @@ pub(crate) fn told(outcome: Answer, answer: &mut [u64; 1]) -> u32
     }
 }
 
-// ---- in: a number over the last one counts as the last one
+// ---- in: a number over the last one counts as the last one, and a number that is no kind's as Dead
 fn cap(n: u64) -> u32
     ensures { λ r. ⌜ r ≡ capped n ⌝ }
 {
@@ -110,28 +110,28 @@ fn slot_of(n: u64) -> Slot
 fn state_of(kind: u64, held: u64) -> State
     ensures { λ r. ⌜ r ≡ stateOf kind held ⌝ }
 {
-    if kind == 0 {
+    if kind == 1 {
         return State::Fresh(bit_of(held));
     }
-    if kind == 1 {
+    if kind == 2 {
         return State::Before(place_of(held));
     }
-    if kind == 2 {
+    if kind == 3 {
         return State::Parted(place_of(held));
     }
-    if kind == 3 {
+    if kind == 4 {
         return State::InNumber(slot_of(held));
     }
-    if kind == 4 {
+    if kind == 5 {
         return State::Remark;
     }
-    if kind == 5 {
+    if kind == 6 {
         return State::AfterC;
     }
-    if kind == 6 {
+    if kind == 7 {
         return State::AfterCn;
     }
-    if kind == 7 {
+    if kind == 8 {
         return State::AfterMinus;
     }
     State::Dead
@@ -195,15 +195,15 @@ fn kind_number(state: State) -> u64
     ensures { λ r. ⌜ r ≡ kindNumber state ⌝ }
 {
     match state {
-        State::Fresh(_) => 0,
-        State::Before(_) => 1,
-        State::Parted(_) => 2,
-        State::InNumber(_) => 3,
-        State::Remark => 4,
-        State::AfterC => 5,
-        State::AfterCn => 6,
-        State::AfterMinus => 7,
-        State::Dead => 8,
+        State::Dead => 0,
+        State::Fresh(_) => 1,
+        State::Before(_) => 2,
+        State::Parted(_) => 3,
+        State::InNumber(_) => 4,
+        State::Remark => 5,
+        State::AfterC => 6,
+        State::AfterCn => 7,
+        State::AfterMinus => 8,
     }
 }
 
