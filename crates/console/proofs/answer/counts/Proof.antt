@@ -2,8 +2,8 @@
 use Prim.Native.Nat.{_+_, _-_, _*_, _≤_}
 use Rattle.console.specs.Room.{numberBytes, outputWords}
 use borrow.Author.Needs.{needs}
-use Rattle.console.proofs.text.counts.Statement.{statement}
-use Rattle.console.proofs.text.counts.Tie as tie
+use Rattle.console.proofs.answer.counts.Statement.{statement}
+use Rattle.console.proofs.answer.counts.Tie as tie
 
 abbrev Inv-loop : tie.InvT-loop
 Inv-loop text₀ from ns count at₀ i₀ text at i = (i ≤ outputWords) × (at ≤ from + numberBytes * i)

@@ -2,7 +2,7 @@
 ghost use mathlib.Core.Path.{_≡_};
 ghost use Prim.Native.Nat.{_+_, _*_, _≤_, _<_};
 ghost use lib.ListN.{length};
-ghost use Rattle.console.specs.Room.{textBytes, recordPlaces, outputWords, answerNumbers, numberBytes, namesBytes};
+ghost use Rattle.console.specs.Room.{answerBytes, recordPlaces, outputWords, answerNumbers, numberBytes, namesBytes};
 use crate::desk::Counts;
 use crate::names::NOTHING;
 use crate::names::Name;
@@ -10,17 +10,18 @@ use crate::names::list;
 use crate::names::name_at;
 use crate::reply::After;
 use crate::reply::Reply;
+use crate::room::ANSWER_BYTES;
 use crate::room::ANSWER_NUMBERS;
+use crate::room::BLOCK_WORDS;
 use crate::room::DIGITS;
 use crate::room::OUTPUT_WORDS;
 use crate::room::REASON_WORDS;
 use crate::room::RECORD_PLACES;
-use crate::room::TEXT_BYTES;
 use libc::STDOUT_FILENO;
 
 // Puts bytes as they are.
-fn put(text: &mut [u8; TEXT_BYTES], at: usize, bytes: &[u8]) -> usize
-    requires { ⌜ at + length (now bytes) ≤ textBytes ⌝ }
+fn put(text: &mut [u8; ANSWER_BYTES], at: usize, bytes: &[u8]) -> usize
+    requires { ⌜ at + length (now bytes) ≤ answerBytes ⌝ }
     ensures { λ r. ⌜ r ≡ at + length (now (bytes .entry)) ⌝ }
 {
     let mut i = 0;
@@ -32,8 +33,8 @@ fn put(text: &mut [u8; TEXT_BYTES], at: usize, bytes: &[u8]) -> usize
 }
 
 // Puts a number of a sign and a size, with a space before it.
-fn number(text: &mut [u8; TEXT_BYTES], at: usize, negative: bool, size: u64) -> usize
-    requires { ⌜ at + numberBytes ≤ textBytes ⌝ }
+fn number(text: &mut [u8; ANSWER_BYTES], at: usize, negative: bool, size: u64) -> usize
+    requires { ⌜ at + numberBytes ≤ answerBytes ⌝ }
     ensures { λ r. ⌜ r ≤ at + numberBytes ⌝ }
 {
     let mut digits = [0u8; DIGITS];
@@ -55,13 +56,13 @@ fn of_count(count: u32) -> u64 {
 }
 
 // Each of these puts the first numbers of a buffer, as many as it has room for or as are asked for.
-fn words(text: &mut [u8; TEXT_BYTES], from: usize, ws: &[i32; RECORD_PLACES], count: usize) -> usize
-    requires { ⌜ from + numberBytes * recordPlaces ≤ textBytes ⌝ }
-    ensures { λ r. ⌜ r ≤ from + numberBytes * recordPlaces ⌝ }
+fn words(text: &mut [u8; ANSWER_BYTES], from: usize, ws: &[i32], count: usize) -> usize
+    requires { ⌜ from + numberBytes * length (now ws) ≤ answerBytes ⌝ }
+    ensures { λ r. ⌜ r ≤ from + numberBytes * length (now (ws .entry)) ⌝ }
 {
     let mut at = from;
     let mut i = 0;
-    while i < RECORD_PLACES && i < count {
+    while i < ws.len() && i < count {
         at = number(
             text,
             at,
@@ -73,8 +74,13 @@ fn words(text: &mut [u8; TEXT_BYTES], from: usize, ws: &[i32; RECORD_PLACES], co
     at
 }
 
-fn kinds(text: &mut [u8; TEXT_BYTES], from: usize, bs: &[u8; RECORD_PLACES], count: usize) -> usize
-    requires { ⌜ from + numberBytes * recordPlaces ≤ textBytes ⌝ }
+fn kinds(
+    text: &mut [u8; ANSWER_BYTES],
+    from: usize,
+    bs: &[u8; RECORD_PLACES],
+    count: usize,
+) -> usize
+    requires { ⌜ from + numberBytes * recordPlaces ≤ answerBytes ⌝ }
     ensures { λ r. ⌜ r ≤ from + numberBytes * recordPlaces ⌝ }
 {
     let mut at = from;
@@ -86,8 +92,13 @@ fn kinds(text: &mut [u8; TEXT_BYTES], from: usize, bs: &[u8; RECORD_PLACES], cou
     at
 }
 
-fn counts(text: &mut [u8; TEXT_BYTES], from: usize, ns: &[u32; OUTPUT_WORDS], count: usize) -> usize
-    requires { ⌜ from + numberBytes * outputWords ≤ textBytes ⌝ }
+fn counts(
+    text: &mut [u8; ANSWER_BYTES],
+    from: usize,
+    ns: &[u32; OUTPUT_WORDS],
+    count: usize,
+) -> usize
+    requires { ⌜ from + numberBytes * outputWords ≤ answerBytes ⌝ }
     ensures { λ r. ⌜ r ≤ from + numberBytes * outputWords ⌝ }
 {
     let mut at = from;
@@ -100,12 +111,12 @@ fn counts(text: &mut [u8; TEXT_BYTES], from: usize, ns: &[u32; OUTPUT_WORDS], co
 }
 
 fn numbers(
-    text: &mut [u8; TEXT_BYTES],
+    text: &mut [u8; ANSWER_BYTES],
     from: usize,
     ns: [u64; ANSWER_NUMBERS],
     count: usize,
 ) -> usize
-    requires { ⌜ from + numberBytes * answerNumbers ≤ textBytes ⌝ }
+    requires { ⌜ from + numberBytes * answerNumbers ≤ answerBytes ⌝ }
     ensures { λ r. ⌜ r ≤ from + numberBytes * answerNumbers ⌝ }
 {
     let mut at = from;
@@ -118,8 +129,8 @@ fn numbers(
 }
 
 // Puts a name.
-fn name(text: &mut [u8; TEXT_BYTES], at: usize, name: Name) -> usize
-    requires { ⌜ at + namesBytes ≤ textBytes ⌝ }
+fn name(text: &mut [u8; ANSWER_BYTES], at: usize, name: Name) -> usize
+    requires { ⌜ at + namesBytes ≤ answerBytes ⌝ }
     ensures { λ r. ⌜ r ≤ at + namesBytes ⌝ }
 {
     let names = list();
@@ -131,7 +142,7 @@ fn name(text: &mut [u8; TEXT_BYTES], at: usize, name: Name) -> usize
 
 // Puts ` lits W.. kinds B.. reasons W.. out W..`.
 fn buffers(
-    text: &mut [u8; TEXT_BYTES],
+    text: &mut [u8; ANSWER_BYTES],
     from: usize,
     used: Counts,
     literals: &[i32; RECORD_PLACES],
@@ -140,7 +151,7 @@ fn buffers(
     output: &[u32; OUTPUT_WORDS],
 ) -> usize
     requires { ⌜ from ≤ namesBytes + numberBytes * answerNumbers ⌝ }
-    ensures { λ r. ⌜ r < textBytes ⌝ }
+    ensures { λ r. ⌜ r < answerBytes ⌝ }
 {
     let first = put(text, from, b" lits");
     let second = words(text, first, literals, used.literals);
@@ -154,22 +165,24 @@ fn buffers(
 
 // Puts the words that follow an answer's numbers.
 fn words_after(
-    text: &mut [u8; TEXT_BYTES],
+    text: &mut [u8; ANSWER_BYTES],
     from: usize,
     after: After,
     used: Counts,
+    block: &[i32; BLOCK_WORDS],
     literals: &[i32; RECORD_PLACES],
     bytes: &[u8; RECORD_PLACES],
     reasons: &[u32; REASON_WORDS],
     output: &[u32; OUTPUT_WORDS],
 ) -> usize
     requires { ⌜ from ≤ namesBytes + numberBytes * answerNumbers ⌝ }
-    ensures { λ r. ⌜ r < textBytes ⌝ }
+    ensures { λ r. ⌜ r < answerBytes ⌝ }
 {
     match after {
         After::Nothing => from,
         After::Output(count) => counts(text, from, output, count),
         After::Desk => buffers(text, from, used, literals, bytes, reasons, output),
+        After::Block => words(text, from, block, used.block),
     }
 }
 
@@ -182,9 +195,10 @@ fn written(text: &[u8], size: usize) -> bool
 
 // Puts an answer with its line feed, and writes it.
 pub(crate) fn write(
-    text: &mut [u8; TEXT_BYTES],
+    text: &mut [u8; ANSWER_BYTES],
     reply: Reply,
     used: Counts,
+    block: &[i32; BLOCK_WORDS],
     literals: &[i32; RECORD_PLACES],
     bytes: &[u8; RECORD_PLACES],
     reasons: &[u32; REASON_WORDS],
@@ -198,7 +212,17 @@ pub(crate) fn write(
     let ns = reply.numbers;
     let from = numbers(text, named, ns, reply.count);
     let after = reply.after;
-    let end = words_after(text, from, after, used, literals, bytes, reasons, output);
+    let end = words_after(
+        text,
+        from,
+        after,
+        used,
+        block,
+        literals,
+        bytes,
+        reasons,
+        output,
+    );
     let size = put(text, end, b"\n");
     written(text, size)
 }

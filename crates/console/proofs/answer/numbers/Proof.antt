@@ -2,8 +2,8 @@
 use Prim.Native.Nat.{_+_, _-_, _*_, _≤_}
 use Rattle.console.specs.Room.{numberBytes, answerNumbers}
 use borrow.Author.Needs.{needs}
-use Rattle.console.proofs.text.numbers.Statement.{statement}
-use Rattle.console.proofs.text.numbers.Tie as tie
+use Rattle.console.proofs.answer.numbers.Statement.{statement}
+use Rattle.console.proofs.answer.numbers.Tie as tie
 
 abbrev Inv-loop : tie.InvT-loop
 Inv-loop text₀ from count ns at₀ i₀ text at i = (i ≤ answerNumbers) × (at ≤ from + numberBytes * i)

@@ -2,8 +2,8 @@
 use Prim.Native.Nat.{_-_, _≤_}
 use lib.ListN.{length}
 use borrow.Author.Needs.{needs}
-use Rattle.console.proofs.text.put.Statement.{statement}
-use Rattle.console.proofs.text.put.Tie as tie
+use Rattle.console.proofs.answer.put.Statement.{statement}
+use Rattle.console.proofs.answer.put.Tie as tie
 
 abbrev Inv-loop : tie.InvT-loop
 Inv-loop text₀ at bytes i₀ text i = i ≤ length bytes

@@ -2,8 +2,8 @@
 use Prim.Native.Nat.{_+_, _-_, _*_, _≤_}
 use Rattle.console.specs.Room.{numberBytes, recordPlaces}
 use borrow.Author.Needs.{needs}
-use Rattle.console.proofs.text.kinds.Statement.{statement}
-use Rattle.console.proofs.text.kinds.Tie as tie
+use Rattle.console.proofs.answer.kinds.Statement.{statement}
+use Rattle.console.proofs.answer.kinds.Tie as tie
 
 abbrev Inv-loop : tie.InvT-loop
 Inv-loop text₀ from bs count at₀ i₀ text at i = (i ≤ recordPlaces) × (at ≤ from + numberBytes * i)

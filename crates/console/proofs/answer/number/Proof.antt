@@ -4,8 +4,8 @@ use Prim.Native.Nat.{_≤_}
 use native.Mathlib.Omega.{arith}
 use Rattle.console.proofs.Digits.{twenty}
 use borrow.Author.Needs.{needs}
-use Rattle.console.proofs.text.number.Statement.{statement}
-use Rattle.console.proofs.text.number.Tie as tie
+use Rattle.console.proofs.answer.number.Statement.{statement}
+use Rattle.console.proofs.answer.number.Tie as tie
 
 few : (c : tie.After-decimal) → c .decimal .result ≤ 20
 few c = twenty (c .before .before .args .size) (c .decimal .result) (omega arith) (c .decimal .ensures .1 .0 .2)
