@@ -18,13 +18,14 @@ pub(crate) const PREFERRED_WORDS: usize = LINE_BYTES / 2;
 // "A text has room for 65,536 bytes."
 pub(crate) const TEXT_BYTES: usize = 65536;
 
-// Room enough for the lengths of a line in the same way: none is turned away.
+// As many lengths of pieces as a line can have: none is turned away.
 pub(crate) const PIECES_MOST: usize = PREFERRED_WORDS;
 
 // The input is read in parts of so many bytes.
 pub(crate) const PART_BYTES: usize = LINE_BYTES / 4;
 
-// No answer is cut short: a number takes at most 22 bytes, with its sign and the space before it, and the buffers have 20,480 words.
+// No answer is cut short: a number takes at most 22 bytes, with its sign and the space before it, and no answer has more than
+// the 20,480 words of the buffers that are shown.
 pub(crate) const ANSWER_BYTES: usize = 524288;
 
 // A number of 64 bits has at most so many digits.
@@ -36,7 +37,8 @@ pub(crate) const ANSWER_NUMBERS: usize = 6;
 // The bytes of the list of names.
 pub(crate) const NAMES_BYTES: usize = 85;
 
-// The largest number of each place: "i32 words, u8 kinds, u64 revisions and lengths, u32 budgets, starts and outputs", and a session's state.
+// The largest number of each place: "i32 words, u8 kinds, u64 revisions and lengths, u32 budgets, starts and outputs", a text's bytes, and
+// a session's state.
 pub(crate) const WORD_MOST: u64 = 2147483647;
 
 pub(crate) const BYTE_MOST: u64 = 255;
