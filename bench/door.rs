@@ -1,7 +1,9 @@
-//! The yardstick as a C function, with numbers and slices as the library's own
-//! `moki_run` has them, so that one program can call both.
+//! The yardsticks as C functions, with numbers and slices as the library's own
+//! `moki_run` and `moki_read` have them, so that one program can call both.
 #![no_std]
 
+#[path = "../judge/src/textyard.rs"]
+mod textyard;
 #[path = "../judge/src/yardstick.rs"]
 mod yardstick;
 
@@ -56,6 +58,24 @@ pub unsafe extern "C" fn yardstick_run(
         }
         Err(number) => number.into(),
     }
+}
+
+/// # Safety
+///
+/// Each pointer of a slice leads to as many places as the number after it says.
+#[no_mangle]
+pub unsafe extern "C" fn yardstick_read(
+    bytes: *const u8,
+    bytes_length: usize,
+    output: *mut i32,
+    output_length: usize,
+    answer: &mut [u64; 1],
+) -> u32 {
+    let bytes = unsafe { from_raw_parts(bytes, bytes_length) };
+    let output = unsafe { from_raw_parts_mut(output, output_length) };
+    let (number, told) = textyard::read(bytes, output);
+    *answer = [told as u64];
+    number.into()
 }
 
 #[panic_handler]

@@ -3,7 +3,7 @@
    is looked for, and counted from the frame that made the call.
 
    The input is as bench/formula.h says. On each formula a check, an opening, some
-   steps, a run and a page are made, and for each kind of call the most bytes are
+   steps, a run and a page are made; its text is read whole, and as one piece; and for each kind of call the most bytes are
    printed. The word BYTES, if given, is the size of the thread's stack, of which
    the system keeps some for itself; under it is a page that nobody may touch, so
    that a call which asks for more ends the program. */
@@ -20,9 +20,9 @@ enum { GUARD = 4096, STEPS = 40, BUDGET = 2000, ROOM = 64 };
 
 static const uint64_t pattern = 0xa5c3965a3c69f00d;
 
-enum call { CHECK, OPEN, STEP, RUN, PAGE, CALLS };
+enum call { CHECK, OPEN, STEP, RUN, PAGE, READ, BEGIN, PIECE, END, CALLS };
 
-static const char *const names[CALLS] = {"check", "open", "step", "run", "page"};
+static const char *const names[CALLS] = {"check", "open", "step", "run", "page", "read", "begin", "piece", "end"};
 
 /* What the calls are made on. */
 static struct formula formula;
@@ -32,10 +32,41 @@ static uint32_t reasons[PLACES];
 static uint32_t output[ROOM];
 static uint64_t session[MOKI_RUN_WORDS];
 
+/* The formula's text: no word of the block takes more than nine bytes of it. */
+static char text[16 * BLOCK];
+static size_t bytes;
+static int32_t block_read[BLOCK];
+static uint64_t reader[MOKI_READER_WORDS];
+
+static void put(const char *form, int32_t word)
+{
+    bytes += (size_t)sprintf(text + bytes, form, word);
+}
+
+/* Each variable has a quantifier's line of its own. */
+static void spell(void)
+{
+    const int32_t *prefix = formula.block + 6;
+    const int32_t *ends = prefix + formula.block[0];
+    const int32_t *word = ends + formula.block[1];
+    const int32_t *literals = word;
+    bytes = 0;
+    put("p cnf %" PRId32, formula.block[0]);
+    put(" %" PRId32 "\n", formula.block[1]);
+    for (; prefix < ends; prefix++)
+        put(*prefix < 0 ? "a %" PRId32 " 0\n" : "e %" PRId32 " 0\n", abs(*prefix));
+    for (; ends < literals; ends++) {
+        for (; word < literals + *ends; word++)
+            put("%" PRId32 " ", *word);
+        put("%" PRId32 "\n", 0);
+    }
+}
+
 static uint32_t make(enum call call)
 {
     const int32_t *block = formula.block;
     size_t length = formula.length;
+    const uint8_t *spelled = (const uint8_t *)text;
     uint64_t page[MOKI_PAGE_WORDS];
     switch (call) {
     case CHECK:
@@ -46,6 +77,16 @@ static uint32_t make(enum call call)
         return moki_step(session[0], session[1], (uint32_t)session[2], block, length, lits, PLACES, kinds, PLACES, reasons, PLACES, session[1], 0, session);
     case RUN:
         return moki_run(session[0], session[1], (uint32_t)session[2], block, length, lits, PLACES, kinds, PLACES, reasons, PLACES, session[1], BUDGET, block, 6, session);
+    case READ:
+        return moki_read(spelled, bytes, block_read, BLOCK, page);
+    case BEGIN:
+        moki_read_begin(reader);
+        return 0;
+    case PIECE:
+        moki_read_piece(reader, spelled, bytes, block_read, BLOCK);
+        return 0;
+    case END:
+        return moki_read_end(reader, block_read, BLOCK, page);
     default:
         return moki_page(block, length, lits, PLACES, kinds, PLACES, 0, block, 6, BUDGET, output, ROOM, page);
     }
@@ -143,6 +184,9 @@ int main(int argc, char **argv)
             try(STEP);
         try(RUN);
         try(PAGE);
+        spell();
+        for (enum call call = READ; call < CALLS; call++)
+            try(call);
     }
     for (enum call call = 0; call < CALLS; call++)
         printf("%-5s %6zu bytes at most, on %s; accepted %u times\n", names[call], most[call].bytes, most[call].name, most[call].accepted);

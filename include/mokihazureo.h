@@ -2,9 +2,10 @@
    at a time. docs/bindings.md is the guide; docs/SPEC.md has the rules, the formula
    block and the table of refusals.
 
-   Every call answers its status: 0 if it is accepted, else the number of its
-   refusal, and then nothing is written anywhere. Any words may stand in any buffer
-   and any number in any place. Of the memory itself this is asked: no pointer is
+   Every call that can be refused answers its status: 0 if it is accepted, else the
+   number of its refusal, and then nothing is written anywhere; but reading a text
+   always writes its answer and its whole output. Any words may stand in any buffer and
+   any number in any place. Of the memory itself this is asked: no pointer is
    null, each is aligned for its type, each buffer has at least its length, and a
    buffer that is written overlaps no other. */
 #ifndef MOKIHAZUREO_H
@@ -22,7 +23,10 @@ enum { MOKI_OPEN = 0, MOKI_VALID = 1, MOKI_UNSAT = 2 };
 
 /* How many words a call's answer has. Its array must have as many places or more;
    it comes as a pointer alone, so no call can see how many there are. */
-enum { MOKI_SESSION_WORDS = 3, MOKI_STEP_WORDS = 4, MOKI_RUN_WORDS = 5, MOKI_PAGE_WORDS = 3 };
+enum { MOKI_SESSION_WORDS = 3, MOKI_STEP_WORDS = 4, MOKI_RUN_WORDS = 5, MOKI_PAGE_WORDS = 3, MOKI_READ_WORDS = 1 };
+
+/* How many words a reader has between two pieces of a text. */
+enum { MOKI_READER_WORDS = 12 };
 
 /* The record is two buffers, literals and kinds; open, step and run are lent a third
    beside them, the reasons. Each has V places or more. A reason is the number of the
@@ -74,6 +78,29 @@ uint32_t moki_page(const int32_t *block, size_t block_length,
                    uint32_t budget,
                    uint32_t *output, size_t output_length,
                    uint64_t answer[MOKI_PAGE_WORDS]);
+
+/* Reads a formula's text (QDIMACS) into a block. The status is 0, and the answer the
+   block's length; or 27, and the answer the place of the byte that no text goes on
+   with, or the text's length if it only ends too early; or 28, 29 or 30, and the answer
+   0; or 31, and the answer the row by which the block is refused. The whole output is
+   written: the block and then zeros, or zeros alone. */
+uint32_t moki_read(const uint8_t *bytes, size_t bytes_length,
+                   int32_t *output, size_t output_length,
+                   uint64_t answer[MOKI_READ_WORDS]);
+
+/* The same in pieces: begin, any number of pieces with the same output, which is for
+   work meanwhile, and end, which answers and leaves what moki_read does of the pieces
+   joined. Begin and piece can't be refused. The reader's words are the library's own;
+   with other words in them each call still ends and keeps to its buffers. */
+void moki_read_begin(uint64_t reader[MOKI_READER_WORDS]);
+
+void moki_read_piece(uint64_t reader[MOKI_READER_WORDS],
+                     const uint8_t *bytes, size_t bytes_length,
+                     int32_t *output, size_t output_length);
+
+uint32_t moki_read_end(const uint64_t reader[MOKI_READER_WORDS],
+                       int32_t *output, size_t output_length,
+                       uint64_t answer[MOKI_READ_WORDS]);
 
 #ifdef __cplusplus
 }

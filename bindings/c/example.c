@@ -1,5 +1,5 @@
-/* Two administrators at one session, the reasons of its steps, a listing page by
-   page, and what happens to bad input. */
+/* A text read whole and in pieces, two administrators at one session, the reasons of
+   its steps, a listing page by page, and what happens to bad input. */
 #include <stdio.h>
 #include <string.h>
 
@@ -17,6 +17,61 @@ static void expect(const char *what, int holds)
 
 /* Case A of docs/SPEC.md: a is 1, d is 2 (universal), b is 3, c is 4. */
 static const int32_t block[] = {4, 5, 13, 6, 10, 15, 1, -2, 3, 4, 3, 5, 7, 10, 13, -1, -2, 3, -2, -3, 3, 4, 1, -2, -4, 2, 3, -4};
+
+/* Its text. */
+static const char text[] = "c case A\np cnf 4 5\ne 1 0\na 2 0\ne 3 4 0\n-1 -2 3 0\n-2 -3 0\n3 4 0\n1 -2 -4 0\n2 3 -4 0\n";
+
+static uint32_t read_text(const char *given, int32_t *output, size_t words, uint64_t *answer)
+{
+    return moki_read((const uint8_t *)given, strlen(given), output, words, answer);
+}
+
+/* The text in pieces of so many bytes. */
+static uint32_t read_in_pieces(size_t bytes, int32_t *output, size_t words, uint64_t *answer)
+{
+    uint64_t reader[MOKI_READER_WORDS];
+    size_t length = strlen(text);
+
+    moki_read_begin(reader);
+    for (size_t at = 0; at < length; at += bytes)
+        moki_read_piece(reader, (const uint8_t *)text + at, length - at < bytes ? length - at : bytes, output, words);
+    return moki_read_end(reader, output, words, answer);
+}
+
+static void a_text(void)
+{
+    static const int32_t zeros[COUNT(block) + 2];
+    int32_t output[COUNT(block) + 2];
+    int32_t pieced[COUNT(block) + 2];
+    uint64_t reader[MOKI_READER_WORDS];
+    uint64_t answer[MOKI_READ_WORDS] = {7};
+    int right = 1;
+
+    memset(output, 7, sizeof output);
+    expect("case A's text is read", read_text(text, output, COUNT(output), answer) == 0 && answer[0] == COUNT(block));
+    expect("its block is case A's, and zeros follow", memcmp(output, block, sizeof block) == 0 && output[COUNT(block)] == 0 && output[COUNT(block) + 1] == 0);
+    for (size_t bytes = 1; bytes < sizeof text; bytes++) {
+        memset(pieced, 9, sizeof pieced);
+        answer[0] = 7;
+        right &= read_in_pieces(bytes, pieced, COUNT(pieced), answer) == 0 && answer[0] == COUNT(block) && memcmp(pieced, output, sizeof output) == 0;
+    }
+    expect("in pieces of any length it is the same", right);
+
+    expect("a carriage return is refused with 27 at its place", read_text("p cnf 0 0\r\n", output, COUNT(output), answer) == 27 && answer[0] == 9);
+    expect("and the output is wiped", memcmp(output, zeros, sizeof output) == 0);
+    expect("so is a last line that doesn't end, with the text's length", read_text("p cnf 0 0", output, COUNT(output), answer) == 27 && answer[0] == 9);
+    expect("a clause too many is refused with 28, and the answer is 0", read_text("p cnf 1 0\n1 0\n", output, COUNT(output), answer) == 28 && answer[0] == 0);
+    expect("a variable too many with 29", read_text("p cnf 1025 0\n", output, COUNT(output), answer) == 29 && answer[0] == 0);
+    expect("a short output with 30", read_text(text, output, COUNT(block) - 1, answer) == 30 && answer[0] == 0);
+    expect("a universal last group with 31, for row 7", read_text("p cnf 1 0\na 1 0\n", output, COUNT(output), answer) == 31 && answer[0] == 7);
+
+    memset(reader, 255, sizeof reader);
+    moki_read_piece(reader, (const uint8_t *)text, sizeof text - 1, output, COUNT(output));
+    expect("a reader of other words is no text's", moki_read_end(reader, output, COUNT(output), answer) == 27 && memcmp(output, zeros, sizeof output) == 0);
+    memset(reader, 0, sizeof reader);
+    moki_read_piece(reader, (const uint8_t *)text, sizeof text - 1, output, COUNT(output));
+    expect("nor is one that was never begun with", moki_read_end(reader, output, COUNT(output), answer) == 27 && answer[0] == 0);
+}
 
 static void two_administrators(void)
 {
@@ -131,6 +186,7 @@ static void bad_input(void)
 
 int main(void)
 {
+    a_text();
     two_administrators();
     eight_reasons();
     a_listing();

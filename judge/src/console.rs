@@ -24,7 +24,8 @@
 //! - The room for the record is 2,048 places for each of its three buffers.
 //!   Preferences have no room of their own; their number is bounded by the
 //!   line's length.
-//! - `block W..` replaces the block also when the check refuses it. All other
+//! - `block W..` replaces the block also when the check refuses it, and a
+//!   refused `read` or `pieces` makes it 0 (see [`crate::reading`]). All other
 //!   refused calls, and all lines answered with `?`, change nothing.
 //! - An empty buffer is shown as its name alone: `show 0 0 0 lits kinds reasons
 //!   out`.
@@ -35,6 +36,7 @@ use std::fmt::Display;
 use crate::block;
 use crate::hits::Hits;
 use crate::page::{self, Ask, Work};
+use crate::reading::TEXT_ROOM;
 use crate::session::{self, Lent, Session, State};
 
 pub const BLOCK_ROOM: usize = 16_384;
@@ -51,6 +53,7 @@ pub struct Desk {
     pub kinds: Vec<u8>,
     pub reasons: Vec<u32>,
     pub output: Vec<u32>,
+    pub text: Vec<u8>,
     pub session: Session,
     /// The rules that its steps, runs and pages have applied so far.
     pub hits: [Hits; 3],
@@ -64,6 +67,7 @@ impl Default for Desk {
             kinds: Vec::new(),
             reasons: Vec::new(),
             output: Vec::new(),
+            text: Vec::new(),
             session: Session {
                 length: 0,
                 revision: 0,
@@ -104,6 +108,10 @@ impl Desk {
             b"run" => self.run(words),
             b"page" => self.page(words),
             b"show" => self.show(words),
+            b"text" => set(&mut self.text, "text", words, TEXT_ROOM),
+            b"read" => self.read(words),
+            b"pieces" => self.pieces(words),
+            b"words" => self.words(words),
             _ => None,
         }
     }
@@ -250,7 +258,7 @@ fn set<T: TryFrom<i128>>(
     Some(format!("{name} {}", buffer.len()))
 }
 
-fn numbers<T: TryFrom<i128>>(words: &[&[u8]]) -> Option<Vec<T>> {
+pub(crate) fn numbers<T: TryFrom<i128>>(words: &[&[u8]]) -> Option<Vec<T>> {
     words.iter().map(|word| number(word)).collect()
 }
 

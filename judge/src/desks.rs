@@ -14,6 +14,8 @@ use crate::rules;
 use crate::session::State;
 use crate::shapes;
 
+mod texts;
+
 /// Revisions at the edges of 32 and 64 bits.
 const REVISIONS: [u64; 8] = [
     u64::MAX,
@@ -36,7 +38,11 @@ pub fn write(seed: u64, lines: usize, to: &mut impl Write) -> io::Result<()> {
     };
     let mut written = 0;
     while written < lines {
-        play.scene();
+        if play.dice.chance(2, 5) {
+            play.text_scene();
+        } else {
+            play.scene();
+        }
         for line in play.lines.drain(..).take(lines - written) {
             writeln!(to, "{line}")?;
             written += 1;

@@ -7,20 +7,24 @@ use std::process::ExitCode;
 
 use judge::bench;
 use judge::cases;
-use judge::console::Desk;
+use judge::console::{self, Desk};
 use judge::desks;
 use judge::dice::Dice;
 use judge::qdimacs::Asked;
+use judge::sheets::Sheet;
 use judge::tally::Tally;
+use judge::text_cases::text_cases;
 
 const USAGE: &str = "\
 judge bench                        writes the benchmark's formulas, one to a line: name, budget, count of words, words
 judge cases                        writes the check's cases as console lines
 judge console                      answers console lines from standard input
 judge desks SEED LINES             writes generated console lines
+judge largest-text SEED            writes a text with all counts at their limits
 judge qdimacs SEED COUNT FOLDER    writes generated formulas: N.qdimacs for each, and console lines that run them all
 judge tally                        counts what console lines from standard input try
 judge talks                        writes the cases that ask for more than a check as console lines
+judge text-cases                   writes the cases of the reader of texts as console lines
 ";
 
 fn main() -> ExitCode {
@@ -32,9 +36,14 @@ fn main() -> ExitCode {
         ["console"] => serve(&mut io::stdin().lock(), &mut io::stdout().lock()),
         ["tally"] => count(&mut io::stdin().lock(), &mut io::stdout().lock()),
         ["talks"] => write_talks(&mut io::stdout().lock()),
+        ["text-cases"] => write_text_cases(&mut io::stdout().lock()),
         ["desks", seed, lines] => match (seed.parse(), lines.parse()) {
             (Ok(seed), Ok(lines)) => write_desks(seed, lines),
             _ => return usage(),
+        },
+        ["largest-text", seed] => match seed.parse() {
+            Ok(seed) => write_largest(seed, &mut io::stdout().lock()),
+            Err(_) => return usage(),
         },
         ["qdimacs", seed, count, folder] => match (seed.parse(), count.parse()) {
             (Ok(seed), Ok(count)) => write_qdimacs(seed, count, Path::new(folder)),
@@ -65,7 +74,7 @@ fn ended(done: io::Result<()>) -> ExitCode {
 fn write_trials(to: &mut impl Write) -> io::Result<()> {
     for trial in bench::trials() {
         let start = format!("{} {} {}", trial.name, trial.budget, trial.block.len());
-        writeln!(to, "{}", judge::console::line(&start, &trial.block))?;
+        writeln!(to, "{}", console::line(&start, &trial.block))?;
     }
     Ok(())
 }
@@ -73,7 +82,7 @@ fn write_trials(to: &mut impl Write) -> io::Result<()> {
 fn write_cases(to: &mut impl Write) -> io::Result<()> {
     for case in cases::check_cases() {
         writeln!(to, "# {}", case.name)?;
-        writeln!(to, "{}", judge::console::line("block", &case.block))?;
+        writeln!(to, "{}", console::line("block", &case.block))?;
     }
     Ok(())
 }
@@ -84,6 +93,19 @@ fn write_talks(to: &mut impl Write) -> io::Result<()> {
         for (line, _) in talk.lines {
             writeln!(to, "{line}")?;
         }
+    }
+    Ok(())
+}
+
+/// Each text is read whole and byte by byte (a long one with bytes at its begin
+/// alone), into a buffer that isn't 0 before.
+fn write_text_cases(to: &mut impl Write) -> io::Result<()> {
+    for case in text_cases() {
+        let block = console::line("block", &vec![7; case.room]);
+        let pieces = console::line("pieces", &vec![1; case.text.len().min(100)]);
+        writeln!(to, "# {}", case.name)?;
+        writeln!(to, "{}", console::line("text", &case.text))?;
+        writeln!(to, "{block}\nread\nwords\n{block}\n{pieces}\nwords")?;
     }
     Ok(())
 }
@@ -111,6 +133,11 @@ fn write_desks(seed: u64, lines: usize) -> io::Result<()> {
     let mut to = BufWriter::new(io::stdout().lock());
     desks::write(seed, lines, &mut to)?;
     to.flush()
+}
+
+fn write_largest(seed: u64, to: &mut impl Write) -> io::Result<()> {
+    let mut dice = Dice::new(seed);
+    to.write_all(&Sheet::largest(&mut dice).plain())
 }
 
 /// The texts 1.qdimacs to COUNT.qdimacs, and the lines of all of them, in order.

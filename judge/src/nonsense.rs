@@ -3,6 +3,7 @@
 
 use crate::console::{self, OUTPUT_ROOM, RECORD_ROOM};
 use crate::dice::Dice;
+use crate::reading::TEXT_ROOM;
 
 /// One such line. The revision is one that would be right.
 pub fn line(dice: &mut Dice, revision: u64) -> String {
@@ -37,6 +38,21 @@ fn more_than_the_room(dice: &mut Dice) -> String {
     ];
     let (command, room) = dice.pick(&rooms);
     console::line(command, &vec![0; room + dice.below(2)])
+}
+
+/// The same about texts.
+pub fn about_texts(dice: &mut Dice) -> String {
+    if dice.chance(1, 40) {
+        return console::line("text", &vec![0; TEXT_ROOM + dice.below(2)]);
+    }
+    let bad = dice.pick(&BAD_NUMBERS);
+    match dice.below(5) {
+        0 => format!("text 112 {bad}"),
+        1 => format!("pieces 1 {bad}"),
+        2 => format!("read {bad}"),
+        3 => format!("words {bad}"),
+        _ => dice.pick(&BAD_TEXT_LINES).to_string(),
+    }
 }
 
 /// Numbers that fit no place, or one kind of place only.
@@ -80,4 +96,8 @@ const BAD_LINES: [&str; 16] = [
     "session 1 1 1 1",
     "show\t",
     " #",
+];
+
+const BAD_TEXT_LINES: [&str; 8] = [
+    "texts", "Text 112", "text p", "read\t", "pieces a", "piece 1", "word", "words -",
 ];

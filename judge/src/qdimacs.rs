@@ -1,18 +1,21 @@
 //! Random formulas for an outside solver: each as a QDIMACS text, and as the
-//! console lines that ask for its verdict.
+//! console lines that read this text and ask for its verdict.
 //!
 //! The standard's text has at least one variable and one clause, no empty
 //! clause, and never two neighbouring lines of one quantifier, so formulas are
-//! chosen that fit and each group is one line.
+//! chosen that fit and each group is one line. Some variables are in no line.
 
 use std::fmt::Write;
 
-use crate::block::lay_out;
+use crate::block::HEADER;
 use crate::console::line;
 use crate::dice::Dice;
 use crate::shapes::{self, Shape};
 
 pub struct Asked {
+    /// V.
+    pub variables: usize,
+    /// The words of the variables that are in a line; the last is existential.
     pub prefix: Vec<i32>,
     pub clauses: Vec<Vec<i32>>,
 }
@@ -22,9 +25,15 @@ impl Asked {
     pub fn random(dice: &mut Dice) -> Asked {
         loop {
             let shape = shape(dice);
-            let prefix = shapes::prefix(dice, shape, None);
+            let mut prefix = shapes::prefix(dice, shape, None);
             let clauses = shapes::clauses(dice, shape, &prefix);
-            let asked = Asked { prefix, clauses };
+            let (rate, last) = (dice.pick(&[0, 0, 0, 10, 40]), prefix.last().copied());
+            prefix.retain(|&word| Some(word) == last || !dice.chance(rate, 100));
+            let asked = Asked {
+                variables: shape.variables,
+                prefix,
+                clauses,
+            };
             if asked.fits() {
                 return asked;
             }
@@ -38,7 +47,7 @@ impl Asked {
 
     /// The problem line, a line for each group, a line for each clause.
     pub fn text(&self) -> String {
-        let mut text = format!("p cnf {} {}\n", self.prefix.len(), self.clauses.len());
+        let mut text = format!("p cnf {} {}\n", self.variables, self.clauses.len());
         let mut rest = &self.prefix[..];
         while let Some(first) = rest.first() {
             let same = |word: &&i32| (**word > 0) == (*first > 0);
@@ -55,11 +64,16 @@ impl Asked {
         text
     }
 
-    /// A record of V places, a new session, and a run to its end.
-    pub fn lines(&self) -> [String; 6] {
-        let zeros = vec![0; self.prefix.len()];
+    /// The text read into a block buffer of the right length, a record of V
+    /// places, a new session, and a run to its end.
+    pub fn lines(&self) -> [String; 8] {
+        let literals: usize = self.clauses.iter().map(Vec::len).sum();
+        let length = HEADER + self.variables + self.clauses.len() + literals;
+        let zeros = vec![0; self.variables];
         [
-            line("block", &lay_out(&self.prefix, &self.clauses)),
+            line("block", &vec![0; length]),
+            line("text", self.text().as_bytes()),
+            "read".to_string(),
             line("lits", &zeros),
             line("kinds", &zeros),
             line("reasons", &zeros),

@@ -9,10 +9,16 @@ use crate::console::Desk;
 use crate::hits::NAMES;
 
 /// The commands whose answer begins with a number of the table.
-const CALLS: [&str; 5] = ["block", "open", "step", "run", "page"];
+const CALLS: [&str; 7] = ["block", "open", "step", "run", "page", "read", "pieces"];
 
-const COMMANDS: [&str; 11] = [
+const COMMANDS: [&str; 15] = [
     "block", "lits", "kinds", "reasons", "out", "session", "open", "step", "run", "page", "show",
+    "text", "read", "pieces", "words",
+];
+
+/// The refusals of a reading, 31 with its rows.
+const READINGS: [&str; 10] = [
+    "27", "28", "29", "30", "31-5", "31-6", "31-7", "31-9", "31-10", "31-23",
 ];
 
 #[derive(Default)]
@@ -22,7 +28,7 @@ pub struct Tally {
     /// Answers by their first word, `?` being one.
     answers: BTreeMap<String, u64>,
     /// Answers to calls by number, 0 being an accepted one, and command.
-    numbers: BTreeMap<(u8, String), u64>,
+    numbers: BTreeMap<(String, String), u64>,
     /// Refusals that the reasons buffer alone is to blame for, by what it was.
     blames: [u64; 3],
 }
@@ -51,7 +57,7 @@ impl Tally {
     fn note_answer(&mut self, answer: &str) {
         let mut words = answer.split(' ');
         let command = words.next().unwrap_or("").to_string();
-        let number = words.next().and_then(|word| word.parse().ok());
+        let number = words.next().map(|number| with_row(number, words.next()));
         *self.answers.entry(command.clone()).or_default() += 1;
         if let (Some(number), true) = (number, CALLS.contains(&command.as_str())) {
             *self.numbers.entry((number, command)).or_default() += 1;
@@ -62,12 +68,12 @@ impl Tally {
         self.answers.get(first_word).copied().unwrap_or(0)
     }
 
-    fn given(&self, number: u8, command: &str) -> u64 {
-        let key = (number, command.to_string());
+    fn given(&self, number: &str, command: &str) -> u64 {
+        let key = (number.to_string(), command.to_string());
         self.numbers.get(&key).copied().unwrap_or(0)
     }
 
-    fn number_row(&self, f: &mut fmt::Formatter, name: &str, number: u8) -> fmt::Result {
+    fn number_row(&self, f: &mut fmt::Formatter, name: &str, number: &str) -> fmt::Result {
         let counts = CALLS.map(|command| (command, self.given(number, command)));
         row(f, name, &counts)
     }
@@ -76,6 +82,14 @@ impl Tally {
         let [step, run, page] = self.desk.hits.map(|hits| hits.0[rule]);
         let counts = [("step", step), ("run", run), ("page", page)];
         row(f, &format!("rule {}", NAMES[rule]), &counts)
+    }
+}
+
+/// The number of a refusal; of 31 with its row, as 31-5.
+fn with_row(number: &str, next: Option<&str>) -> String {
+    match (number, next) {
+        ("31", Some(row)) => format!("31-{row}"),
+        _ => number.to_string(),
     }
 }
 
@@ -102,9 +116,10 @@ impl fmt::Display for Tally {
         for (name, count) in blame::NAMES.iter().zip(self.blames) {
             writeln!(f, "blame {name} {count}")?;
         }
-        self.number_row(f, "accepted", 0)?;
-        for number in (1..=21).chain([23]) {
-            self.number_row(f, &format!("refusal {number}"), number)?;
+        self.number_row(f, "accepted", "0")?;
+        let table = (1..=21).chain([23]).map(|number| number.to_string());
+        for number in table.chain(READINGS.map(String::from)) {
+            self.number_row(f, &format!("refusal {number}"), &number)?;
         }
         (0..NAMES.len()).try_for_each(|rule| self.rule_row(f, rule))
     }

@@ -9,6 +9,7 @@ use judge::truth;
 #[test]
 fn a_group_is_one_line() {
     let asked = Asked {
+        variables: 5,
         prefix: vec![2, 1, -4, -3, 5],
         clauses: vec![vec![2, -4], vec![-5], vec![5, 3, 5]],
     };
@@ -28,11 +29,12 @@ fn generated_formulas() {
         assert!(asked.clauses.iter().all(|clause| !clause.is_empty()));
         let mut desk = Desk::default();
         let answers = asked.lines().map(|line| desk.answer(line.as_bytes()));
-        assert_eq!(answers[0].as_deref(), Some("block 0"));
+        let read = format!("read 0 {}", desk.block.len());
+        assert_eq!(answers[2].as_ref(), Some(&read));
         let formula = Formula::read(&desk.block).expect("accepted");
         if formula.variables() <= 8 {
             let holds = truth::truth(&formula);
-            let ran = answers[5].as_ref().expect("a run is answered");
+            let ran = answers[7].as_ref().expect("a run is answered");
             let state = if holds { "1" } else { "2" };
             assert_eq!(ran.split(' ').nth(4), Some(state), "{ran}");
             judged[usize::from(holds)] += 1;

@@ -1,7 +1,9 @@
 //! The only unsafe room: the C functions and the calls of them. A Rust slice is what
 //! they ask for: never null, as long as it says, and a mutable one overlaps no other.
 
-use crate::{Literal, Page, Ran, Reason, Refusal, Revision, Session, State, Stepped};
+use crate::{
+    Literal, Page, Ran, Reader, Reason, Refusal, Revision, Session, State, Stepped, Unread,
+};
 
 mod c {
     extern "C" {
@@ -67,6 +69,27 @@ mod c {
             output_length: usize,
             answer: &mut [u64; 3],
         ) -> u32;
+        pub fn moki_read(
+            bytes: *const u8,
+            bytes_length: usize,
+            output: *mut i32,
+            output_length: usize,
+            answer: &mut [u64; 1],
+        ) -> u32;
+        pub fn moki_read_begin(reader: &mut [u64; 12]);
+        pub fn moki_read_piece(
+            reader: &mut [u64; 12],
+            bytes: *const u8,
+            bytes_length: usize,
+            output: *mut i32,
+            output_length: usize,
+        );
+        pub fn moki_read_end(
+            reader: &[u64; 12],
+            output: *mut i32,
+            output_length: usize,
+            answer: &mut [u64; 1],
+        ) -> u32;
     }
 }
 
@@ -114,12 +137,12 @@ macro_rules! call {
     (@ $name:ident [$($c:tt)*] $plain:expr, $($rest:tt)*) => {
         call!(@ $name [$($c)* $plain,] $($rest)*)
     };
-    (@ $name:ident [$($c:tt)*]) => { accepted(unsafe { c::$name($($c)*) }) };
+    (@ $name:ident [$($c:tt)*]) => { unsafe { c::$name($($c)*) } };
 }
 
 /// Whether the block is accepted; refusals 1 to 10 and 23.
 pub fn check(block: &[i32]) -> Result<(), Refusal> {
-    call!(moki_check(in block))
+    accepted(call!(moki_check(in block)))
 }
 
 /// A fresh session; refusals 1 to 11 and 23. The first V places of the record
@@ -132,7 +155,8 @@ pub fn open(
     first: Revision,
 ) -> Result<Session, Refusal> {
     let mut answer = [0; 3];
-    call!(moki_open(in block, out lits, out kinds, out reasons, first.0, &mut answer))?;
+    let status = call!(moki_open(in block, out lits, out kinds, out reasons, first.0, &mut answer));
+    accepted(status)?;
     Ok(session(&answer))
 }
 
@@ -149,7 +173,8 @@ impl Session {
     ) -> Result<Stepped, Refusal> {
         let (length, revision, state) = numbers(self);
         let mut answer = [0; 4];
-        call!(moki_step(length, revision, state, in block, out lits, out kinds, out reasons, seen.0, proposal.0, &mut answer))?;
+        let status = call!(moki_step(length, revision, state, in block, out lits, out kinds, out reasons, seen.0, proposal.0, &mut answer));
+        accepted(status)?;
         Ok(Stepped {
             session: session(&answer),
             reason: Reason(answer[3] as u32),
@@ -170,7 +195,8 @@ impl Session {
     ) -> Result<Ran, Refusal> {
         let (length, revision, state) = numbers(self);
         let mut answer = [0; 5];
-        call!(moki_run(length, revision, state, in block, out lits, out kinds, out reasons, seen.0, budget, in preferred, &mut answer))?;
+        let status = call!(moki_run(length, revision, state, in block, out lits, out kinds, out reasons, seen.0, budget, in preferred, &mut answer));
+        accepted(status)?;
         Ok(Ran {
             session: session(&answer),
             steps: answer[3] as u32,
@@ -192,10 +218,51 @@ pub fn page(
     output: &mut [u32],
 ) -> Result<Page, Refusal> {
     let mut answer = [0; 3];
-    call!(moki_page(in block, out lits, out kinds, start, in preferred, budget, out output, &mut answer))?;
+    let status = call!(moki_page(in block, out lits, out kinds, start, in preferred, budget, out output, &mut answer));
+    accepted(status)?;
     Ok(Page {
         next: answer[0] as u32,
         entries: answer[1] as u32,
         paused: answer[2] == 1,
     })
+}
+
+/// What reading answers: the block's length, or why the text was refused.
+fn told(status: u32, number: u64) -> Result<usize, Unread> {
+    match status {
+        0 => Ok(number as usize),
+        27 => Err(Unread::Misfit(number)),
+        31 => Err(Unread::Row(number as u32)),
+        other => Err(Unread::Refused(other)),
+    }
+}
+
+/// Reads a formula's text into a block, and answers the block's length; refusals 27 to
+/// 31. The whole output is written: the block and then zeros, or zeros alone.
+pub fn read(bytes: &[u8], output: &mut [i32]) -> Result<usize, Unread> {
+    let mut answer = [0; 1];
+    let status = call!(moki_read(in bytes, out output, &mut answer));
+    told(status, answer[0])
+}
+
+impl Reader {
+    /// Before the first byte.
+    pub fn begin() -> Reader {
+        let mut words = [0; 12];
+        call!(moki_read_begin(&mut words));
+        Reader { words }
+    }
+
+    /// One more piece. The output is for work: each piece and the end are lent the
+    /// same one.
+    pub fn piece(&mut self, bytes: &[u8], output: &mut [i32]) {
+        call!(moki_read_piece(&mut self.words, in bytes, out output))
+    }
+
+    /// The end: answers and leaves what `read` does of the pieces joined.
+    pub fn end(self, output: &mut [i32]) -> Result<usize, Unread> {
+        let mut answer = [0; 1];
+        let status = call!(moki_read_end(&self.words, out output, &mut answer));
+        told(status, answer[0])
+    }
 }

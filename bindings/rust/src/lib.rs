@@ -1,13 +1,13 @@
 //! Mokihazureo for Rust: safe calls of the proved static library.
 //!
 //! docs/SPEC.md has the rules, the formula block and the table of refusals. Any
-//! words may be handed in; a refused call changes nothing. The caller lends all
-//! memory: the record is two buffers, literals and kinds, and the reasons are a third
+//! words may be handed in; a refused call changes nothing, but reading a text always
+//! writes its whole output. The caller lends all memory: the record is two buffers, literals and kinds, and the reasons are a third
 //! beside it, each of at least V places.
 
 mod door;
 
-pub use door::{check, open, page};
+pub use door::{check, open, page, read};
 
 /// Counts the accepted steps of a session, from the number that it was opened at.
 #[derive(Clone, Copy, Debug, PartialEq, Eq)]
@@ -83,3 +83,44 @@ pub struct Page {
     pub entries: u32,
     pub paused: bool,
 }
+
+/// A text that is being read piece by piece.
+#[derive(Clone, Debug, PartialEq, Eq)]
+pub struct Reader {
+    words: [u64; 12],
+}
+
+/// Why a text was not read. `number` is the table's.
+#[derive(Clone, Copy, Debug, PartialEq, Eq)]
+pub enum Unread {
+    /// 27: the place of the byte that no text goes on with, or the text's length if it
+    /// only ends too early.
+    Misfit(u64),
+    /// 28, 29 or 30.
+    Refused(u32),
+    /// 31: the row by which the block is refused.
+    Row(u32),
+}
+
+impl Unread {
+    pub fn number(self) -> u32 {
+        match self {
+            Unread::Misfit(_) => 27,
+            Unread::Refused(number) => number,
+            Unread::Row(_) => 31,
+        }
+    }
+}
+
+impl std::fmt::Display for Unread {
+    fn fmt(&self, to: &mut std::fmt::Formatter) -> std::fmt::Result {
+        write!(to, "refused with number {}", self.number())?;
+        match self {
+            Unread::Misfit(place) => write!(to, " at byte {place}"),
+            Unread::Refused(_) => Ok(()),
+            Unread::Row(row) => write!(to, " for row {row}"),
+        }
+    }
+}
+
+impl std::error::Error for Unread {}

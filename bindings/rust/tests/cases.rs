@@ -1,6 +1,7 @@
-//! Cases A, G and K of docs/SPEC.md.
+//! Cases A, G and K of docs/SPEC.md, and A's text.
 
-use mokihazureo::{open, page, Literal, Page, Reason, Refusal, Revision, Session, State};
+use mokihazureo::{open, page, read, Literal, Page, Reason, Refusal, Revision, Session, State};
+use mokihazureo::{Reader, Unread};
 
 const A: [i32; 28] = [
     4, 5, 13, 6, 10, 15, 1, -2, 3, 4, 3, 5, 7, 10, 13, -1, -2, 3, -2, -3, 3, 4, 1, -2, -4, 2, 3, -4,
@@ -158,4 +159,60 @@ fn k_is_refused_and_changes_nothing() {
     assert_eq!(desk.step(1, -2), Ok(Reason(0)));
     assert_eq!(desk.lits, [1, -2, 0, 0]);
     assert_eq!(desk.kinds, [1, 2, 0, 0]);
+}
+
+const TEXT: &[u8] =
+    b"c case A\np cnf 4 5\ne 1 0\na 2 0\ne 3 4 0\n-1 -2 3 0\n-2 -3 0\n3 4 0\n1 -2 -4 0\n2 3 -4 0\n";
+
+#[test]
+fn a_text_is_read() {
+    let mut output = [7; 30];
+    assert_eq!(read(TEXT, &mut output), Ok(28));
+    assert_eq!((&output[..28], &output[28..]), (&A[..], &[0, 0][..]));
+}
+
+/// Cut anywhere, twice, it is read as the whole is; and so is each of its beginnings.
+#[test]
+fn a_text_in_pieces() {
+    for end in 0..=TEXT.len() {
+        let (mut whole, text) = ([7; 30], &TEXT[..end]);
+        let answer = read(text, &mut whole);
+        for cut in 0..=end {
+            let (mut output, mut reader) = ([9; 30], Reader::begin());
+            let (first, second) = text.split_at(cut);
+            for piece in [
+                first,
+                &second[..second.len() / 2],
+                &second[second.len() / 2..],
+            ] {
+                reader.piece(piece, &mut output);
+            }
+            assert_eq!(reader.end(&mut output), answer);
+            assert_eq!(output, whole);
+        }
+    }
+}
+
+#[test]
+fn a_text_is_refused_and_the_output_wiped() {
+    let refused: [(&[u8], usize, Unread); 9] = [
+        (b"", 30, Unread::Misfit(0)),
+        (b"p cnf 0 0\r\n", 30, Unread::Misfit(9)),
+        (b"p cnf 0 0", 30, Unread::Misfit(9)),
+        (b"p cnf 1 0\n1 0\n", 30, Unread::Refused(28)),
+        (b"p cnf 1025 0\n", 30, Unread::Refused(29)),
+        (TEXT, 27, Unread::Refused(30)),
+        (b"p cnf 1 0\na 1 0\n", 30, Unread::Row(7)),
+        (b"p cnf 1 1\n2 0\n", 30, Unread::Row(9)),
+        (b"p cnf 1 1\n1 1 0\n", 30, Unread::Row(23)),
+    ];
+    for (text, words, unread) in refused {
+        let mut output = vec![7; words];
+        assert_eq!(read(text, &mut output), Err(unread));
+        assert_eq!(output, vec![0; words]);
+    }
+    assert_eq!(
+        Unread::Misfit(9).to_string(),
+        "refused with number 27 at byte 9"
+    );
 }

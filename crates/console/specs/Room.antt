@@ -18,16 +18,20 @@ lineBytes = 262144
 abbrev pub preferredWords : ℕ
 preferredWords = 131072
 
+-- the bytes of a text
+abbrev pub textBytes : ℕ
+textBytes = 65536
+
 -- a part of the input, and an answer
 abbrev pub partBytes : ℕ
 partBytes = 65536
 
-abbrev pub textBytes : ℕ
-textBytes = 524288
+abbrev pub answerBytes : ℕ
+answerBytes = 524288
 
 -- the list of names; a number in an answer, with its sign and the space before it; as many as an answer has before a buffer's words
 abbrev pub namesBytes : ℕ
-namesBytes = 62
+namesBytes = 85
 
 abbrev pub numberBytes : ℕ
 numberBytes = 22

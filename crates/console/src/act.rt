@@ -3,6 +3,8 @@ ghost use lib.ListN.{length};
 ghost use Rattle.console.specs.Desk.{Within};
 use crate::command::Command;
 use crate::desk::Counts;
+use crate::names;
+use crate::pieces;
 use crate::reply;
 use crate::reply::Reply;
 use session::Session;
@@ -12,12 +14,14 @@ fn call(
     command: Command,
     session: Session,
     counts: Counts,
-    block: &[i32],
+    line: &[u8],
+    block: &mut [i32],
     literals: &mut [i32],
     kinds: &mut [u8],
     reasons: &mut [u32],
     output: &mut [u32],
     preferred: &[i32],
+    bytes: &[u8],
 ) -> Reply {
     match command {
         Command::Block(_) => reply::checked(session, formula::check(block)),
@@ -37,6 +41,12 @@ fn call(
             session,
             listing::page(block, literals, kinds, start, preferred, budget, output),
         ),
+        Command::Read => reply::read(session, names::READ, text::read(bytes, block)),
+        Command::Pieces(from) => reply::read(
+            session,
+            names::PIECES,
+            pieces::read(line, from, bytes, block),
+        ),
         _ => reply::told(command, session, counts),
     }
 }
@@ -46,14 +56,16 @@ pub(crate) fn act(
     command: Command,
     session: Session,
     counts: Counts,
-    block: &[i32],
+    line: &[u8],
+    block: &mut [i32],
     literals: &mut [i32],
     kinds: &mut [u8],
     reasons: &mut [u32],
     output: &mut [u32],
     preferred: &[i32],
+    bytes: &[u8],
 ) -> Reply
-    requires { ⌜ Within counts (length (now block)) (length (now literals)) (length (now kinds)) (length (now reasons)) (length (now output)) (length (now preferred)) ⌝ }
+    requires { ⌜ Within counts (length (now block)) (length (now literals)) (length (now kinds)) (length (now reasons)) (length (now output)) (length (now preferred)) (length (now bytes)) ⌝ }
 {
     let b = counts.block;
     let l = counts.literals;
@@ -61,15 +73,18 @@ pub(crate) fn act(
     let r = counts.reasons;
     let o = counts.output;
     let p = counts.preferred;
+    let t = counts.text;
     call(
         command,
         session,
         counts,
-        &block[0..b],
+        line,
+        &mut block[0..b],
         &mut literals[0..l],
         &mut kinds[0..k],
         &mut reasons[0..r],
         &mut output[0..o],
         &preferred[0..p],
+        &bytes[0..t],
     )
 }

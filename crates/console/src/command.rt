@@ -7,14 +7,16 @@ use crate::numbers::ends;
 use crate::numbers::next_number;
 use crate::numbers::word_of;
 use crate::room::BLOCK_WORDS;
+use crate::room::BYTE_MOST;
 use crate::room::COUNT_MOST;
-use crate::room::KIND_MOST;
 use crate::room::LONG_MOST;
 use crate::room::NONE_BELOW;
 use crate::room::OUTPUT_WORDS;
+use crate::room::PIECES_MOST;
 use crate::room::PREFERRED_WORDS;
 use crate::room::RECORD_PLACES;
 use crate::room::STATE_MOST;
+use crate::room::TEXT_BYTES;
 use crate::room::WORD_BELOW;
 use crate::room::WORD_MOST;
 use session::Revision;
@@ -49,6 +51,11 @@ pub(crate) enum Command {
         from: usize,
     },
     Show,
+    Text(usize),
+    Read,
+    // The lengths are left in the line too.
+    Pieces(usize),
+    Words,
 }
 
 // A command, if its words fit.
@@ -128,7 +135,7 @@ fn behind(name: Name, line: &[u8], from: usize) -> Command {
             Command::Literals(from),
         ),
         names::KINDS => only(
-            all_fit(line, from, NONE_BELOW, KIND_MOST, RECORD_PLACES),
+            all_fit(line, from, NONE_BELOW, BYTE_MOST, RECORD_PLACES),
             Command::Kinds(from),
         ),
         names::REASONS => only(
@@ -145,6 +152,16 @@ fn behind(name: Name, line: &[u8], from: usize) -> Command {
         names::RUN => run(line, from),
         names::PAGE => page(line, from),
         names::SHOW => only(ends(line, from), Command::Show),
+        names::TEXT => only(
+            all_fit(line, from, NONE_BELOW, BYTE_MOST, TEXT_BYTES),
+            Command::Text(from),
+        ),
+        names::READ => only(ends(line, from), Command::Read),
+        names::PIECES => only(
+            all_fit(line, from, NONE_BELOW, LONG_MOST, PIECES_MOST),
+            Command::Pieces(from),
+        ),
+        names::WORDS => only(ends(line, from), Command::Words),
         _ => Command::Unknown,
     }
 }

@@ -12,6 +12,7 @@ pub(crate) struct Counts {
     pub(crate) reasons: usize,
     pub(crate) output: usize,
     pub(crate) preferred: usize,
+    pub(crate) text: usize,
 }
 
 // The desk, and whether it goes on to the next line: the answer could be written, and the input has not ended.
@@ -33,6 +34,7 @@ pub(crate) fn empty() -> Desk
             reasons: 0,
             output: 0,
             preferred: 0,
+            text: 0,
         },
         session: Session {
             length: 0,

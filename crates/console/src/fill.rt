@@ -1,16 +1,15 @@
 // The numbers of a line, for a buffer. All are looked at before the first is stored, so that a line that doesn't fit changes nothing.
 ghost use Prim.Native.Nat.{_≤_};
 ghost use lib.ListN.{length};
-ghost use Rattle.console.specs.Room.{recordPlaces, outputWords};
+ghost use Rattle.console.specs.Room.{outputWords};
 use crate::numbers::NOWHERE;
 use crate::numbers::ends;
 use crate::numbers::next_number;
 use crate::numbers::word_of;
+use crate::room::BYTE_MOST;
 use crate::room::COUNT_MOST;
-use crate::room::KIND_MOST;
 use crate::room::NONE_BELOW;
 use crate::room::OUTPUT_WORDS;
-use crate::room::RECORD_PLACES;
 use crate::room::WORD_BELOW;
 use crate::room::WORD_MOST;
 
@@ -47,13 +46,13 @@ pub(crate) fn store_words(line: &[u8], from: usize, buffer: &mut [i32]) -> usize
     count
 }
 
-pub(crate) fn store_kinds(line: &[u8], from: usize, buffer: &mut [u8; RECORD_PLACES]) -> usize
-    ensures { λ r. ⌜ r ≤ recordPlaces ⌝ }
+pub(crate) fn store_bytes(line: &[u8], from: usize, buffer: &mut [u8]) -> usize
+    ensures { λ r. ⌜ r ≤ length (now (buffer .entry)) ⌝ }
 {
     let mut at = from;
     let mut count = 0;
-    while count < RECORD_PLACES {
-        let number = next_number(line, at, NONE_BELOW, KIND_MOST);
+    while count < buffer.len() {
+        let number = next_number(line, at, NONE_BELOW, BYTE_MOST);
         at = number.next;
         if at == NOWHERE {
             return count;

@@ -4,6 +4,7 @@ ghost use lib.ListN.{length};
 ghost use Rattle.console.specs.Desk.{InRoom};
 
 mod act; // a command, done on the desk
+mod answer; // the text of an answer
 mod command; // what a line asks for
 mod desk; // the desk between two lines
 mod fill; // the numbers of a line, for a buffer
@@ -11,10 +12,10 @@ mod input; // the lines of the input
 mod line; // a line's bytes and words
 mod names; // the names that a line begins with
 mod numbers; // a word's number
+mod pieces; // a text that is read in pieces
 mod reply; // what a line is answered
 mod room; // how large all that is
 mod set; // the words of a line, put into a buffer
-mod text; // the text of an answer
 
 use act::act;
 use command::asked;
@@ -22,6 +23,7 @@ use desk::Desk;
 use input::Left;
 use input::Taken;
 use input::next_line;
+use room::ANSWER_BYTES;
 use room::BLOCK_WORDS;
 use room::LINE_BYTES;
 use room::OUTPUT_WORDS;
@@ -43,6 +45,7 @@ fn serve_line(
     output: &mut [u32; OUTPUT_WORDS],
     preferred: &mut [i32; PREFERRED_WORDS],
     text: &mut [u8; TEXT_BYTES],
+    answer: &mut [u8; ANSWER_BYTES],
 ) -> Desk
     requires { ⌜ taken .count ≤ length (now bytes) ⌝ }
     requires { ⌜ InRoom (desk .counts) ⌝ }
@@ -63,19 +66,31 @@ fn serve_line(
         reasons,
         output,
         preferred,
+        text,
     );
     let reply = act(
         asks,
         before,
         counts,
+        line,
         block,
         literals,
         kinds,
         reasons,
         output,
         preferred,
+        text,
     );
-    let written = text::write(text, reply, counts, literals, kinds, reasons, output);
+    let written = answer::write(
+        answer,
+        reply,
+        counts,
+        block,
+        literals,
+        kinds,
+        reasons,
+        output,
+    );
     let session = reply.session;
     Desk {
         counts,
@@ -95,6 +110,7 @@ fn serve(
     output: &mut [u32; OUTPUT_WORDS],
     preferred: &mut [i32; PREFERRED_WORDS],
     text: &mut [u8; TEXT_BYTES],
+    answer: &mut [u8; ANSWER_BYTES],
 ) {
     let mut desk = desk::empty();
     let mut left = Left { at: 0, size: 0 };
@@ -113,6 +129,7 @@ fn serve(
             output,
             preferred,
             text,
+            answer,
         );
         if !desk.on {
             return;
@@ -131,6 +148,7 @@ fn main() {
     let mut output = [0; OUTPUT_WORDS];
     let mut preferred = [0; PREFERRED_WORDS];
     let mut text = [0; TEXT_BYTES];
+    let mut answer = [0; ANSWER_BYTES];
     serve(
         &mut part,
         &mut line,
@@ -141,5 +159,6 @@ fn main() {
         &mut output,
         &mut preferred,
         &mut text,
+        &mut answer,
     );
 }

@@ -31,14 +31,22 @@ pub(crate) const PAGE: Name = 9;
 
 pub(crate) const SHOW: Name = 10;
 
-pub(crate) const UNKNOWN: Name = 11;
+pub(crate) const TEXT: Name = 11;
+
+pub(crate) const READ: Name = 12;
+
+pub(crate) const PIECES: Name = 13;
+
+pub(crate) const WORDS: Name = 14;
+
+pub(crate) const UNKNOWN: Name = 15;
 
 // Behind the list: a line that gets no answer has none.
-pub(crate) const NOTHING: Name = 12;
+pub(crate) const NOTHING: Name = 16;
 
 // The names in one line, each at its place.
 pub(crate) fn list() -> [u8; NAMES_BYTES] {
-    *b"block lits kinds reasons out session open step run page show ?"
+    *b"block lits kinds reasons out session open step run page show text read pieces words ?"
 }
 
 // Where a name stands in the list.

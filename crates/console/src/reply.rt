@@ -11,6 +11,7 @@ use session::Ran;
 use session::Session;
 use session::Stepped;
 use session::number_of;
+use text::Answer as Reading;
 
 // The words that follow an answer's numbers.
 pub(crate) enum After {
@@ -19,6 +20,8 @@ pub(crate) enum After {
     Output(usize),
     // Every word of every buffer that is shown.
     Desk,
+    // All of the block buffer.
+    Block,
 }
 
 // The session; a name, the first few of six numbers, and the words that follow.
@@ -30,14 +33,35 @@ pub(crate) struct Reply {
     pub(crate) after: After,
 }
 
-// `NAME`, or `NAME N`
-fn short(session: Session, name: Name, count: usize, n: u64) -> Reply {
+// The refusals of a text that tell more than their number.
+const MISFIT: u64 = 27;
+
+const ROW: u64 = 31;
+
+// `NAME N M`, or the first few of its words.
+fn pair(session: Session, name: Name, count: usize, n: u64, m: u64) -> Reply {
     Reply {
         session,
         name,
         count,
-        numbers: [n, 0, 0, 0, 0, 0],
+        numbers: [n, m, 0, 0, 0, 0],
         after: After::Nothing,
+    }
+}
+
+// `NAME`, or `NAME N`
+fn short(session: Session, name: Name, count: usize, n: u64) -> Reply {
+    pair(session, name, count, n, 0)
+}
+
+// `words W..`
+fn words(session: Session) -> Reply {
+    Reply {
+        session,
+        name: names::WORDS,
+        count: 0,
+        numbers: [0, 0, 0, 0, 0, 0],
+        after: After::Block,
     }
 }
 
@@ -137,6 +161,16 @@ pub(crate) fn checked(session: Session, answer: Checked) -> Reply {
     }
 }
 
+// `NAME 0 LENGTH`, `NAME 27 PLACE`, `NAME N`, or `NAME 31 ROW`
+pub(crate) fn read(session: Session, name: Name, answer: Reading) -> Reply {
+    match answer {
+        Reading::Accepted(length) => pair(session, name, 2, 0, length as u64),
+        Reading::Misfit(place) => pair(session, name, 2, MISFIT, place),
+        Reading::Refused(n) => short(session, name, 1, n as u64),
+        Reading::Row(row) => pair(session, name, 2, ROW, row as u64),
+    }
+}
+
 // The answer to a command that calls nothing.
 pub(crate) fn told(command: Command, session: Session, counts: Counts) -> Reply {
     match command {
@@ -146,6 +180,8 @@ pub(crate) fn told(command: Command, session: Session, counts: Counts) -> Reply 
         Command::Output(_) => short(session, names::OUTPUT, 1, counts.output as u64),
         Command::Session(next) => short(next, names::SESSION, 0, 0),
         Command::Show => shown(session),
+        Command::Text(_) => short(session, names::TEXT, 1, counts.text as u64),
+        Command::Words => words(session),
         Command::Nothing => short(session, names::NOTHING, 0, 0),
         _ => short(session, names::UNKNOWN, 0, 0),
     }

@@ -15,11 +15,18 @@ pub(crate) const LINE_BYTES: usize = 262144;
 // A line has at most half as many words as bytes, which is room enough for preferences.
 pub(crate) const PREFERRED_WORDS: usize = LINE_BYTES / 2;
 
+// "A text has room for 65,536 bytes."
+pub(crate) const TEXT_BYTES: usize = 65536;
+
+// As many lengths of pieces as a line can have: none is turned away.
+pub(crate) const PIECES_MOST: usize = PREFERRED_WORDS;
+
 // The input is read in parts of so many bytes.
 pub(crate) const PART_BYTES: usize = LINE_BYTES / 4;
 
-// No answer is cut short: a number takes at most 22 bytes, with its sign and the space before it, and the buffers have 20,480 words.
-pub(crate) const TEXT_BYTES: usize = 524288;
+// No answer is cut short: a number takes at most 22 bytes, with its sign and the space before it, and no answer has more than
+// the 20,480 words of the buffers that are shown.
+pub(crate) const ANSWER_BYTES: usize = 524288;
 
 // A number of 64 bits has at most so many digits.
 pub(crate) const DIGITS: usize = 20;
@@ -28,12 +35,13 @@ pub(crate) const DIGITS: usize = 20;
 pub(crate) const ANSWER_NUMBERS: usize = 6;
 
 // The bytes of the list of names.
-pub(crate) const NAMES_BYTES: usize = 62;
+pub(crate) const NAMES_BYTES: usize = 85;
 
-// The largest number of each place: "i32 words, u8 kinds, u64 revisions and lengths, u32 budgets, starts and outputs", and a session's state.
+// The largest number of each place: "i32 words, u8 kinds, u64 revisions and lengths, u32 budgets, starts and outputs", a text's bytes, and
+// a session's state.
 pub(crate) const WORD_MOST: u64 = 2147483647;
 
-pub(crate) const KIND_MOST: u64 = 255;
+pub(crate) const BYTE_MOST: u64 = 255;
 
 pub(crate) const COUNT_MOST: u64 = 4294967295;
 

@@ -2,14 +2,15 @@
 ghost use Rattle.console.specs.Desk.{InRoom};
 use crate::command::Command;
 use crate::desk::Counts;
+use crate::fill::store_bytes;
 use crate::fill::store_counts;
-use crate::fill::store_kinds;
 use crate::fill::store_words;
 use crate::room::BLOCK_WORDS;
 use crate::room::OUTPUT_WORDS;
 use crate::room::PREFERRED_WORDS;
 use crate::room::REASON_WORDS;
 use crate::room::RECORD_PLACES;
+use crate::room::TEXT_BYTES;
 
 // Preferred words are in use for the line of their run or page alone.
 pub(crate) fn buffers(
@@ -22,6 +23,7 @@ pub(crate) fn buffers(
     reasons: &mut [u32; REASON_WORDS],
     output: &mut [u32; OUTPUT_WORDS],
     preferred: &mut [i32; PREFERRED_WORDS],
+    text: &mut [u8; TEXT_BYTES],
 ) -> Counts
     requires { ⌜ InRoom old ⌝ }
     ensures { λ r. ⌜ InRoom r ⌝ }
@@ -31,11 +33,12 @@ pub(crate) fn buffers(
     match command {
         Command::Block(from) => counts.block = store_words(line, from, block),
         Command::Literals(from) => counts.literals = store_words(line, from, literals),
-        Command::Kinds(from) => counts.kinds = store_kinds(line, from, kinds),
+        Command::Kinds(from) => counts.kinds = store_bytes(line, from, kinds),
         Command::Reasons(from) => counts.reasons = store_counts(line, from, reasons),
         Command::Output(from) => counts.output = store_counts(line, from, output),
         Command::Run { from, .. } => counts.preferred = store_words(line, from, preferred),
         Command::Page { from, .. } => counts.preferred = store_words(line, from, preferred),
+        Command::Text(from) => counts.text = store_bytes(line, from, text),
         _ => {}
     }
     counts

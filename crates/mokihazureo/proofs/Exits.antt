@@ -1,5 +1,5 @@
 -- The one way out of a call: what the call below leaves, and its numbers.
-use mathlib.Core.Path.{_≡_, refl}
+use mathlib.Core.Path.{_≡_, refl, _∙_, ap}
 use mathlib.Core.Bool.{Bool, true, false, cond}
 use mathlib.Core.List.{List}
 use Prim.Native.Nat.{ℕ}
@@ -14,7 +14,11 @@ use Rattle.session.specs.declared.Ran.{Ran}
 use Rattle.session.specs.Memory.{Memory}
 use Rattle.session.specs.Outcome.{stepOutcome}
 use Rattle.session.specs.Run.{runOf}
+use Rattle.text.specs.declared.Reader.{Reader}
+use Rattle.text.specs.declared.Answer as text
+use Rattle.text.specs.Pieces.{pieceOf, endOf}
 use Rattle.mokihazureo.specs.Called.{lent, told, revision}
+use Rattle.mokihazureo.specs.Reading.{readerOf, written, pieceCall}
 use Rattle.formula.specs.Limits.{limits}
 
 -- a truth as a number
@@ -33,3 +37,12 @@ module _ {s t : Session} (same : s ≡ t) (b : List ℤ) (m : Memory) (seen : �
 
   pub run-of : (budget : ℕ) (preferred : List ℤ) {o : Outcome Memory Ran} → o ≡ runOf limits s b m (revision seen) budget preferred → o ≡ runOf limits t b m (revision seen) budget preferred
   run-of budget preferred e = rw (← same) e
+
+-- the reader of the numbers
+module _ (s : List ℕ) {r : Reader} (same : r ≡ readerOf s) (o : List ℤ) where
+  pub pieced : (bs : List ℕ) {s′ : List ℕ} {o′ : List ℤ} {r′ : Reader} → outcome r′ o′ ≡ pieceOf bs r o → s′ ≡ written r′ s → lent o′ s′ ≡ pieceCall s bs o
+  pieced bs {o′ = o′} e w =
+      ap (lent o′) w ∙ ap (λ (u : Outcome (List ℤ) Reader). lent (u .memory) (written (u .answer) s)) (e ∙ ap (λ (q : Reader). pieceOf bs q o) same)
+
+  pub end-of : {u : Outcome (List ℤ) text.Answer} → u ≡ endOf limits r o → u ≡ endOf limits (readerOf s) o
+  end-of e = e ∙ ap (λ (q : Reader). endOf limits q o) same

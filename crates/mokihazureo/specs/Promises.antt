@@ -9,7 +9,9 @@ use Rattle.formula.specs.Block.{refusal}
 use Rattle.session.specs.declared.Session.{Session}
 use Rattle.session.specs.Memory.{Memory}
 use Rattle.listing.specs.Page.{PageMemory}
+use Rattle.text.specs.Pieces.{begun}
 use Rattle.mokihazureo.specs.Called.{Lent, openCall, stepCall, runCall, pageCall}
+use Rattle.mokihazureo.specs.Reading.{readCall, written, pieceCall, endCall}
 
 -- ---- the promises
 abbrev pub CheckPromise : List ℤ → ℕ → Type 0
@@ -26,6 +28,19 @@ RunPromise s b m seen budget preferred a r left = outcome r left ≡ runCall lim
 
 abbrev pub PagePromise : List ℤ → PageMemory → ℕ → List ℤ → ℕ → List ℕ → ℕ → Lent PageMemory → Type 0
 PagePromise b m start preferred budget a r left = outcome r left ≡ pageCall limits b m start preferred budget a
+
+-- [calls.read] [calls.pieces] bs are bytes, o is the output, s the array of the reader's numbers
+abbrev pub ReadPromise : List ℕ → List ℤ → List ℕ → ℕ → Lent (List ℤ) → Type 0
+ReadPromise bs o a r left = outcome r left ≡ readCall limits bs o a
+
+abbrev pub BeginPromise : List ℕ → List ℕ → Type 0
+BeginPromise s left = left ≡ written begun s
+
+abbrev pub PiecePromise : List ℕ → List ℕ → List ℤ → Lent (List ℤ) → Type 0
+PiecePromise s bs o left = left ≡ pieceCall s bs o
+
+abbrev pub EndPromise : List ℕ → List ℤ → List ℕ → ℕ → Lent (List ℤ) → Type 0
+EndPromise s o a r left = outcome r left ≡ endCall limits s o a
 
 -- ---- each leaves one result
 pub only-check : (b : List ℤ) (r r′ : ℕ) → CheckPromise b r → CheckPromise b r′ → r ≡ r′
@@ -44,3 +59,16 @@ module _ (r r′ : ℕ) (left left′ : Lent Memory) (b : List ℤ) (m : Memory)
 pub only-page : (r r′ : ℕ) (left left′ : Lent PageMemory) (b : List ℤ) (m : PageMemory) (start : ℕ) (preferred : List ℤ) (budget : ℕ) (a : List ℕ)
     → PagePromise b m start preferred budget a r left → PagePromise b m start preferred budget a r′ left′ → Same r r′ left left′
 only-page r r′ left left′ b m start preferred budget a = same
+
+pub only-begin : (s left left′ : List ℕ) → BeginPromise s left → BeginPromise s left′ → left ≡ left′
+only-begin s left left′ = only-one
+
+module _ (left left′ : Lent (List ℤ)) (o : List ℤ) where
+  pub only-piece : (s bs : List ℕ) → PiecePromise s bs o left → PiecePromise s bs o left′ → left ≡ left′
+  only-piece s bs = only-one
+
+  pub only-read : (r r′ : ℕ) (bs a : List ℕ) → ReadPromise bs o a r left → ReadPromise bs o a r′ left′ → Same r r′ left left′
+  only-read r r′ bs a = same
+
+  pub only-end : (r r′ : ℕ) (s a : List ℕ) → EndPromise s o a r left → EndPromise s o a r′ left′ → Same r r′ left left′
+  only-end r r′ s a = same

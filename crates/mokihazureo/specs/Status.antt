@@ -1,10 +1,13 @@
 -- The status of a call is the number of its table, 0 exactly if it is accepted; and with another status every lent buffer, the answer's array among
--- them, is as it was. By the two cases of the number, 0 and not 0.
-use mathlib.Core.Path.{_≡_, refl}
+-- them, is as it was. By the two cases of the number, 0 and not 0. Reading a text is the exception: with another status its output is 0.
+use mathlib.Core.Path.{_≡_, refl, ap}
+use mathlib.Core.Logic.{_⊎_, inl, inr}
 use mathlib.Core.List.{List, []}
 use Prim.Native.Nat.{ℕ, zero, suc}
+use native.Mathlib.Nat.{suc-ne-zero}
 use lib.IntN.{ℤ}
-use Rattle.words.specs.Outcomes.{Outcome, unless}
+use lib.ListN.{length}
+use Rattle.words.specs.Outcomes.{Outcome, outcome, unless}
 use Rattle.formula.specs.Limits.{Limits}
 use Rattle.session.specs.declared.Session.{Session}
 use Rattle.session.specs.declared.Answer.the-variants.{Refused}
@@ -17,7 +20,12 @@ use Rattle.session.specs.Run.{runOf}
 use Rattle.rules.specs.Due.{literal}
 use Rattle.listing.specs.declared.Paged as paged
 use Rattle.listing.specs.Page.{PageMemory, pageRefusal, pageOf}
+use Rattle.text.specs.declared.Answer as text
+use Rattle.text.specs.Reads.{Read, spelled, misfit, reads}
+use Rattle.text.specs.Tree.{zeros, textRefusal, rowOf, textOf, answered, readOf}
+use Rattle.text.specs.Meaning.{accepted-or-wiped}
 use Rattle.mokihazureo.specs.Called.{Lent, lent, told, revision, openedStatus, openedNumbers, steppedStatus, steppedNumbers, ranStatus, ranNumbers, pagedStatus, pagedNumbers, openCall, stepCall, runCall, pageCall}
+use Rattle.mokihazureo.specs.Reading.{readStatus, readCall}
 
 -- the status is the table's number n, and unless that is 0 all is as it was
 pub record Stated {M : Type 0} (n : ℕ) (m : M) (a : List ℕ) (u : Outcome (Lent M) ℕ) : Type 0 where
@@ -45,3 +53,28 @@ module _ (L : Limits) (s : Session) (b : List ℤ) (m : Memory) (seen : ℕ) (a 
 pub page-stated : (L : Limits) → (b : List ℤ) (m : PageMemory) (start : ℕ) (preferred : List ℤ) (budget : ℕ) (a : List ℕ) → Stated (pageRefusal L b m start) m a (pageCall L b m start preferred budget a)
 unfolding pageOf
 page-stated L b m start preferred budget a = stated pagedStatus pagedNumbers paged.the-variants.Refused (λ n. refl) (λ n. refl) (pageRefusal L b m start) m a _ refl
+
+-- ---- [calls.read] a text: with status 0 it is accepted, and [text.wiped] with any other all of the output is 0
+pub record ReadStated (o : List ℤ) (r : Outcome (List ℤ) text.Answer) (u : Outcome (Lent (List ℤ)) ℕ) : Type 0 where
+  pub accepted : u .answer ≡ 0 → (n : ℕ) × (r .answer ≡ text.the-variants.Accepted n)
+  pub wiped : (u .answer ≡ 0 → ⊥) → u .memory .memory ≡ zeros (length o)
+
+accepted-at-zero : (L : Limits) (bs : List ℕ) (o : List ℤ) → readStatus (readOf L bs o .answer) ≡ 0 → (n : ℕ) × (readOf L bs o .answer ≡ text.the-variants.Accepted n)
+unfolding readOf answered textOf
+accepted-at-zero L bs o = by (reads bs)
+  where
+    rows : (k : ℕ) (m z : List ℤ) (table row : ℕ) → let u = unless text.the-variants.Refused table z (unless text.the-variants.Row row z (outcome (text.the-variants.Accepted k) m)) in readStatus (u .answer) ≡ 0 → (n : ℕ) × (u .answer ≡ text.the-variants.Accepted n)
+    rows k m z zero zero e = (k, refl)
+    rows k m z zero (suc row) e = absurd (suc-ne-zero 30 e)
+    rows k m z (suc table) row e = absurd (suc-ne-zero table e)
+
+    by : (t : Read) → readStatus (answered L t o .answer) ≡ 0 → (n : ℕ) × (answered L t o .answer ≡ text.the-variants.Accepted n)
+    by (misfit i) e = absurd (suc-ne-zero 26 e)
+    by (spelled t) e = rows _ _ (zeros (length o)) (textRefusal L t (length o)) (rowOf t) e
+
+pub read-stated : (L : Limits) (bs : List ℕ) (o : List ℤ) (a : List ℕ) → ReadStated o (readOf L bs o) (readCall L bs o a)
+read-stated L bs o a = record { accepted = accepted-at-zero L bs o; wiped = by (accepted-or-wiped L bs o) }
+  where
+    by : ((n : ℕ) × (readOf L bs o .answer ≡ text.the-variants.Accepted n)) ⊎ (readOf L bs o .memory ≡ zeros (length o)) → (readStatus (readOf L bs o .answer) ≡ 0 → ⊥) → readOf L bs o .memory ≡ zeros (length o)
+    by (inl (n, e)) f = absurd (f (ap readStatus e))
+    by (inr e) f = e

@@ -3,12 +3,13 @@ ghost use mathlib.Core.Path.{_≡_};
 ghost use Rattle.session.specs.Memory.{memory};
 ghost use Rattle.listing.specs.Page.{pageMemory};
 ghost use Rattle.mokihazureo.specs.Called.{lent, sessionOf};
-ghost use Rattle.mokihazureo.specs.Promises.{CheckPromise, OpenPromise, StepPromise, RunPromise, PagePromise};
+ghost use Rattle.mokihazureo.specs.Promises.{CheckPromise, OpenPromise, StepPromise, RunPromise, PagePromise, ReadPromise, BeginPromise, PiecePromise, EndPromise};
 use formula::Checked;
 use session::Revision;
 use words::Literal;
 
 mod numbers; // sessions and answers as numbers
+mod reading; // readers as numbers, and what reading answers
 
 // 0 for an accepted block, else the number of its refusal.
 #[no_mangle]
@@ -104,4 +105,41 @@ pub extern "C" fn moki_page(
 {
     let outcome = listing::page(block, lits, kinds, start, preferred, budget, output);
     numbers::paged(outcome, answer)
+}
+
+// A whole text, read into a block; the block's length, the place or the row is written to the answer.
+#[no_mangle]
+pub extern "C" fn moki_read(bytes: &[u8], output: &mut [i32], answer: &mut [u64; 1]) -> u32
+    ensures { λ r. ⌜ ReadPromise (now (bytes .entry)) (now (output .entry)) (now (answer .entry)) r (lent (now (output .exit)) (now (answer .exit))) ⌝ }
+{
+    let outcome = text::read(bytes, output);
+    reading::told(outcome, answer)
+}
+
+// A text in pieces: the reader before the first byte, as numbers.
+#[no_mangle]
+pub extern "C" fn moki_read_begin(state: &mut [u64; 12])
+    ensures { λ r. ⌜ BeginPromise (now (state .entry)) (now (state .exit)) ⌝ }
+{
+    reading::write_reader(text::begin(), state);
+}
+
+// One more piece, with the output as working memory.
+#[no_mangle]
+pub extern "C" fn moki_read_piece(state: &mut [u64; 12], bytes: &[u8], output: &mut [i32])
+    ensures { λ r. ⌜ PiecePromise (now (state .entry)) (now (bytes .entry)) (now (output .entry)) (lent (now (output .exit)) (now (state .exit))) ⌝ }
+{
+    let before = reading::reader_of(state);
+    let after = text::piece(before, bytes, output);
+    reading::write_reader(after, state);
+}
+
+// The end: what a whole text would answer.
+#[no_mangle]
+pub extern "C" fn moki_read_end(state: &[u64; 12], output: &mut [i32], answer: &mut [u64; 1]) -> u32
+    ensures { λ r. ⌜ EndPromise (now (state .entry)) (now (output .entry)) (now (answer .entry)) r (lent (now (output .exit)) (now (answer .exit))) ⌝ }
+{
+    let before = reading::reader_of(state);
+    let outcome = text::end(before, output);
+    reading::told(outcome, answer)
 }

@@ -1,0 +1,90 @@
+-- The theorem on pieces: begin, any pieces in turn and end answer what reading their concatenation answers, and leave the same output. [text.pieces]
+use mathlib.Core.Path.{_≡_, refl, sym, _∙_, ap}
+use mathlib.Core.Logic.{_⊎_, inl, inr}
+use mathlib.Core.Bool.{true, false}
+use mathlib.Core.List.{List, [], _∷_, _++_}
+use Prim.Native.Nat.{ℕ, _+_}
+use native.Mathlib.Omega.{arith}
+use lib.IntN.{ℤ}
+use lib.ListN.{length, length-set}
+use Rattle.words.specs.Laws.Bools.{look}
+use Rattle.words.specs.Outcomes.{Outcome, outcome}
+use Rattle.formula.specs.Limits.{Limits, limits}
+use Rattle.text.specs.declared.Kept.{Kept}
+use Rattle.text.specs.declared.Reader.{Reader}
+use Rattle.text.specs.declared.Answer.{Answer}
+use Rattle.text.specs.Machine.{Event, announces, counts, opens, binds, holds, ends, fresh, start, trace}
+use Rattle.text.specs.Events.{heard, hear-say}
+use Rattle.text.specs.Reads.{taken, reads}
+use Rattle.text.specs.Tree.{textOf, answered, readOf}
+use Rattle.text.specs.Pieces.{capped, keep, keeps, byteOf, pieceOf, nothingKept, begun, settled, endOf, inPieces, whole}
+use Rattle.text.specs.Laws.Left.{sound}
+use Rattle.text.specs.Laws.Viable.{fresh-state}
+use Rattle.text.specs.Laws.Followed.{Followed, followed}
+use Rattle.text.specs.Laws.Kept.{tree-kept, treeKept, treeOutput}
+use Rattle.text.specs.Laws.Rows.{Hidden, limits-hidden}
+use Rattle.text.specs.Laws.Settled.{settled-is}
+
+-- ---- however a text is cut
+pub cut : (xs ys : List ℕ) (r : Reader) (o : List ℤ) → pieceOf (xs ++ ys) r o ≡ pieceOf ys (pieceOf xs r o .answer) (pieceOf xs r o .memory)
+unfolding pieceOf
+cut [] ys r o = refl
+cut (x ∷ xs) ys r o = cut xs ys (byteOf r o x .answer) (byteOf r o x .memory)
+
+pub however-cut : (ps : List (List ℕ)) (r : Reader) (o : List ℤ) → inPieces ps r o ≡ pieceOf (whole ps) r o
+unfolding inPieces whole pieceOf
+however-cut [] r o = refl
+however-cut (p ∷ ps) r o = however-cut ps (pieceOf p r o .answer) (pieceOf p r o .memory) ∙ sym (cut p (whole ps) r o)
+
+-- ---- the output keeps its length
+keep-length : (k : Kept) (o : List ℤ) (e : Event) → length (keep k o e .memory) ≡ length o
+unfolding keep
+keep-length k o (announces n) = refl
+keep-length k o (counts n) = refl
+keep-length k o (opens q) = refl
+keep-length k o (binds n) = simp length-set
+keep-length k o (holds l) = simp length-set
+keep-length k o ends = simp length-set
+
+keeps-length : (k : Kept) (o : List ℤ) (es : List Event) → length (keeps k o es .memory) ≡ length o
+unfolding keeps
+keeps-length k o [] = refl
+keeps-length k o (e ∷ es) = keeps-length (keep k o e .answer) (keep k o e .memory) es ∙ keep-length k o e
+
+-- ---- a whole text
+abbrev pub ended : Limits → Outcome (List ℤ) Reader → Outcome (List ℤ) Answer
+ended L r = endOf L (r .answer) (r .memory)
+
+module _ (L : Limits) (hidden : Hidden L) (bs : List ℕ) (o : List ℤ) where
+  abbrev said : List Event
+  said = trace start 0 bs .said
+
+  -- a text's end
+  module _ (r : Outcome (List ℤ) Reader) (f : Followed start 0 0 nothingKept o bs r) where
+    at-end : fresh (trace start 0 bs .last) ≡ true → settled (r .answer .kept) (r .memory) L ≡ textOf L (heard said .text) o
+    at-end h =
+        let (more, g) = fresh-state (trace start 0 bs .last) h in
+        let s = sound bs more g in
+        let t = s .text in
+        let k : outcome (r .answer .kept) (r .memory) ≡ outcome (treeKept t) (treeOutput t o) = f .keeping ∙ ap (keeps nothingKept o) (sym (s .said)) ∙ tree-kept t o in
+        let z : heard said .text ≡ t = sym (ap (λ es. heard es .text) (s .said)) ∙ hear-say t in
+        ap (λ (u : Outcome (List ℤ) Kept). settled (u .answer) (u .memory) L) k ∙ settled-is L hidden t o ∙ ap (λ u. textOf L u o) (sym z)
+
+    kept-length : length (r .memory) ≡ length o
+    kept-length = ap (λ (u : Outcome (List ℤ) Kept). length (u .memory)) (f .keeping) ∙ keeps-length nothingKept o said
+
+    ended-is : ended L r ≡ readOf L bs o
+    unfolding endOf readOf answered reads
+    ended-is = by (look (fresh (trace start 0 bs .last)))
+      where
+        by : (fresh (trace start 0 bs .last) ≡ true) ⊎ (fresh (trace start 0 bs .last) ≡ false) → ended L r ≡ readOf L bs o
+        by (inl h) = rw (f .state, h) (at-end h)
+        by (inr h) = let z : 0 + taken start bs ≡ taken start bs = omega arith in rw (f .state, h, f .at, z, kept-length)
+
+  pub read-is : ended L (pieceOf bs begun o) ≡ readOf L bs o
+  unfolding begun capped
+  read-is = ended-is (pieceOf bs begun o) (followed start 0 0 nothingKept o bs)
+
+-- ---- [text.pieces] begin, the pieces in turn, and end: what reading their concatenation answers and leaves
+pub pieces-read : (ps : List (List ℕ)) (o : List ℤ) → ended limits (inPieces ps begun o) ≡ readOf limits (whole ps) o
+pieces-read ps o = ap (ended limits) (however-cut ps begun o) ∙ read-is limits limits-hidden (whole ps) o

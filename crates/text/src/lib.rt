@@ -1,0 +1,158 @@
+// The text of a formula, read into a block: whole or in pieces.
+ghost use Rattle.text.specs.Promises.{ReadPromise, BeginPromise, PiecePromise, EndPromise};
+
+mod bytes; // which bytes are blanks, digits, and bytes of a comment
+mod places; // what a word may begin with
+mod machine; // where a byte leads from a state
+mod numbers; // numbers of any length in 32 bits
+mod keep; // what is kept of a text
+mod bytewise; // a text byte by byte
+mod prefix; // the completed prefix
+mod ending; // the answer at a text's end
+
+// Where the next word stands.
+pub enum Place {
+    // the first of a line before the problem line; `cnf`; its two numbers
+    AtHead,
+    AtCnf,
+    AtFirst,
+    AtSecond,
+    // the first of a line after it: may it be a quantifier?
+    AtLine(bool),
+    // a quantifier's first number; a further one, or 0; a literal, or 0
+    AtNumber,
+    AtNumbers,
+    AtLiterals,
+    // no word: the line ends here; may a quantifier's line come next?
+    AtEnd(bool),
+}
+
+// Which number it is that is being read; a literal is negative or not.
+pub enum Slot {
+    OfVariables,
+    OfCount,
+    OfGroup,
+    OfClause(bool),
+}
+
+pub enum State {
+    // no text goes on so
+    Dead,
+    // at a line's start, where the text may end
+    Fresh(bool),
+    // before a word: where blanks may stand, and where one must
+    Before(Place),
+    Parted(Place),
+    // in a number
+    InNumber(Slot),
+    // in a comment; in `cnf`; behind a minus
+    Remark,
+    AfterC,
+    AfterCn,
+    AfterMinus,
+}
+
+// What a byte says: nothing; that the number 0 stands, or the one whose digits were read; a quantifier; a clause's end.
+pub enum Says {
+    Nothing,
+    Zero(Slot),
+    Value(Slot),
+    Forall,
+    Exists,
+    Ends,
+}
+
+pub struct Move {
+    pub to: State,
+    pub says: Says,
+}
+
+// What is kept of a text so far, beside the words that stand in the output. Counts go up to 2^31 + 1 and no further.
+pub struct Kept {
+    // the announced counts
+    pub variables: u32,
+    pub count: u32,
+    // whether the group that is being read is universal
+    pub universal: bool,
+    // bound words, clause lines and literals seen
+    pub bound: u32,
+    pub clauses: u32,
+    pub literals: u32,
+    // whether some number was beyond 32 signed bits, and whether some bound number was over the announced count
+    pub large: bool,
+    pub over: bool,
+}
+
+// The reader's state between two bytes. Any words may be handed in.
+pub struct Reader {
+    pub state: State,
+    // the value of the digits so far, up to 2^31 + 1
+    pub number: u32,
+    // how many bytes were taken, up to 2^64 - 1
+    pub at: u64,
+    pub kept: Kept,
+}
+
+// What reading answers: the block's length; 27 with a byte's place; 28, 29 or 30; 31 with the row.
+pub enum Answer {
+    Accepted(usize),
+    Misfit(u64),
+    Refused(u32),
+    Row(u32),
+}
+
+// Before the first byte.
+pub fn begin() -> Reader
+    ensures { λ r. ⌜ BeginPromise r ⌝ }
+{
+    let kept = Kept {
+        variables: 0,
+        count: 0,
+        universal: false,
+        bound: 0,
+        clauses: 0,
+        literals: 0,
+        large: false,
+        over: false,
+    };
+    Reader {
+        state: State::Before(Place::AtHead),
+        number: 0,
+        at: 0,
+        kept: kept,
+    }
+}
+
+// One more piece of the text, with the output as working memory.
+pub fn piece(reader: Reader, bytes: &[u8], output: &mut [i32]) -> Reader
+    ensures { λ r. ⌜ PiecePromise reader (now (bytes .entry)) (now (output .entry)) r (now (output .exit)) ⌝ }
+{
+    let mut at = reader;
+    let mut i = 0;
+    while i < bytes.len() {
+        at = bytewise::take(at, bytes[i], output);
+        i += 1;
+    }
+    at
+}
+
+// The answer, with the block in the output, or all of it 0.
+pub fn end(reader: Reader, output: &mut [i32]) -> Answer
+    ensures { λ r. ⌜ EndPromise reader (now (output .entry)) r (now (output .exit)) ⌝ }
+{
+    let state = reader.state;
+    let at = reader.at;
+    let kept = reader.kept;
+    if numbers::is_fresh(state) {
+        return ending::settle(kept, output);
+    }
+    ending::wipe(output, 0);
+    Answer::Misfit(at)
+}
+
+// A whole text: one piece.
+pub fn read(bytes: &[u8], output: &mut [i32]) -> Answer
+    ensures { λ r. ⌜ ReadPromise (now (bytes .entry)) (now (output .entry)) r (now (output .exit)) ⌝ }
+{
+    end(piece(begin(), bytes, output), output)
+}
