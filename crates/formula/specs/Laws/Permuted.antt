@@ -17,7 +17,7 @@ use Rattle.formula.specs.Laws.Named.{named, in-named}
 use Rattle.formula.specs.Laws.Prefix.{stands, stands-e, stands-bound, one-quantifier}
 
 -- as many numbers are named as there are words
-words-count : (n : ℕ) (p : List ℤ) → twice p ≡ false → any (noVariable n) p ≡ false → count (λ v. any (names v) p) n ≡ length p
+pub words-count : (n : ℕ) (p : List ℤ) → twice p ≡ false → any (noVariable n) p ≡ false → count (λ v. any (names v) p) n ≡ length p
 unfolding twice any
 words-count n [] h k = count-none (λ v. any (names v) []) (λ v. refl) n
 words-count n (w ∷ ws) h k =

@@ -8,12 +8,13 @@ use Prim.Native.Nat.{ℕ, zero, suc, _+_, _≤_, _<_}
 use native.Mathlib.Omega.{arith}
 use lib.IntN.{ℤ, pos, natAbs}
 use lib.ListN.{length, length-append}
-use Rattle.words.specs.Laws.Bools.{clash, and-l, and-r, not-t, to-false, or-fl, or-fr}
+use Rattle.words.specs.Laws.Bools.{clash, and-l, and-r, not-t, to-false}
 use Rattle.words.specs.Lists.{In, here, there, any}
 use Rattle.words.specs.Laws.Lists.{in-either, any-append, any-f}
-use Rattle.words.specs.Laws.Counts.{count, count-none, count-more}
+use Rattle.words.specs.Laws.Counts.{count}
+use Rattle.formula.specs.Laws.Permuted.{words-count}
 use Rattle.formula.specs.Block.{names, noVariable, twice}
-use Rattle.formula.specs.Laws.Named.{named, named-passes}
+use Rattle.formula.specs.Laws.Named.{named-passes}
 use Rattle.formula.specs.Laws.Prefix.{stands, stands-i, stands-e, stands-append, twice-head, twice-tail, twice-cons}
 use Rattle.text.specs.Tree.{those, free, idle, completed}
 
@@ -88,16 +89,6 @@ three b m (suc n) = by (b (suc n)) (m (suc n)) (count (λ v. not (b v) && m v) n
     by true false x y z h = omega arith
     by false true x y z h = omega arith
     by false false x y z h = omega arith
-
--- as many variables are bound as there are words
-pub words-count : (n : ℕ) (ws : List ℤ) → twice ws ≡ false → any (noVariable n) ws ≡ false → count (λ v. any (names v) ws) n ≡ length ws
-unfolding twice any
-words-count n [] h k = count-none (λ v. any (names v) []) (λ v. refl) n
-words-count n (w ∷ ws) h k =
-    let one = named n w (or-fl (noVariable n w) (any (noVariable n) ws) k) in
-    let fewer = or-fl (any (names (natAbs w)) ws) (twice ws) h in
-    count-more (λ v. any (names v) ws) (λ v. any (names v) (w ∷ ws)) (natAbs w) (λ v. refl) fewer (one .some) n (one .most)
-    ∙ ap suc (words-count n ws (or-fr (any (names (natAbs w)) ws) (twice ws) h) (or-fr (noVariable n w) (any (noVariable n) ws) k))
 
 -- ---- two lists that have no variable in common
 pub twice-append : (xs ys : List ℤ) → twice xs ≡ false → twice ys ≡ false → ((x : ℤ) → In x xs → stands ys x ≡ false) → twice (xs ++ ys) ≡ false

@@ -20,6 +20,7 @@ use Rattle.words.specs.Laws.Words.{natAbs-neg}
 use Rattle.words.specs.Outcomes.{Outcome, unless}
 use Rattle.words.specs.Rows.{refusalOf}
 use Rattle.words.specs.Laws.Rows.{passed}
+use Rattle.formula.specs.Laws.Permuted.{words-count}
 use Rattle.formula.specs.Limits.{Limits}
 use Rattle.formula.specs.Block.{names, noVariable, twice, refusal}
 use Rattle.text.specs.declared.Answer.the-variants.{Refused, Row as AtRow}
@@ -30,7 +31,6 @@ use Rattle.text.specs.Pieces.{capped, keptWords, keptEnds, keptLiterals,
 use Rattle.text.specs.Laws.Stores.{drop-take, take-run, drop-run}
 use Rattle.text.specs.Laws.Kept.{large, strange, put, length-put, putClauses, treeKept, treeOutput}
 use Rattle.text.specs.Laws.Laid.{cap-is, cap-small, words-stored, first-words, clauses-put}
-use Rattle.text.specs.Laws.Completed.{words-count}
 use Rattle.text.specs.Laws.Block.{ends-length, tree-rows}
 use Rattle.text.specs.Laws.Rows.{Hidden, Small, small, counts-same}
 
