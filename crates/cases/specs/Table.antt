@@ -3,8 +3,8 @@ use mathlib.Core.Bool.{Bool, true, false}
 use mathlib.Core.List.{List, [], _∷_}
 use Prim.Native.Nat.{ℕ, zero, suc, _+_}
 use lib.IntN.{ℤ, pos, negℤ}
-use Rattle.rules.specs.declared.rule.State.{State}
-use Rattle.rules.specs.declared.rule.State.the-variants.{Open, Valid, Unsat}
+use Rattle.record.specs.declared.rule.State.{State}
+use Rattle.record.specs.declared.rule.State.the-variants.{Open, Valid, Unsat}
 
 -- a step at a revision with a proposal; a run at a revision, with a budget and preferences; a page from a start, with a budget, on an output
 pub data Asked : Type 0 where

@@ -13,15 +13,16 @@ use Rattle.formula.specs.Formula.{formulaOf, variablesOf, clausesFrom, existent
 use Rattle.formula.specs.Block.{refusal, twice, badEnds, bothSigns, repeats}
 use Rattle.theory.specs.Record.{literals, assigned}
 use Rattle.theory.specs.Tests.{unassignedE, unassignedU, inConflict, unitOn, occurs, oneSign, untrueOf, monotone as isMonotone, isOpen}
-use Rattle.rules.specs.declared.rule.State.{State}
-use Rattle.rules.specs.declared.rule.State.the-variants.{Open}
-use Rattle.rules.specs.declared.rule.Rule.{Rule}
-use Rattle.rules.specs.declared.rule.Rule.the-variants.{BacktrackExists, Fail, Unit, Monotone, Decide, BacktrackForall, Succeed}
-use Rattle.rules.specs.Due.{literal, due, lowest, last, candidate, lowestUnit, firstOf, firstMonotone, firstUnassigned}
+use Rattle.record.specs.declared.rule.State.{State}
+use Rattle.record.specs.declared.rule.State.the-variants.{Open}
+use Rattle.record.specs.declared.rule.Rule.{Rule}
+use Rattle.record.specs.declared.rule.Rule.the-variants.{BacktrackExists, Fail, Unit, Monotone, Decide, BacktrackForall, Succeed}
+use Rattle.record.specs.Found.{literal, last}
+use Rattle.rules.specs.Due.{due, lowest, candidate, lowestUnit, firstOf, firstMonotone, firstUnassigned}
 use Rattle.rules.specs.Preferred.{firstOpen}
-use Rattle.rules.specs.Trail.{recordOf, wiped, entries}
-use Rattle.rules.specs.Apply.{apply}
-use Rattle.rules.specs.Check.{badEntries, badRecord}
+use Rattle.record.specs.Trail.{recordOf, wiped, entries}
+use Rattle.record.specs.Apply.{apply}
+use Rattle.record.specs.Check.{badEntries, badRecord}
 use Rattle.session.specs.declared.Session.{Session}
 use Rattle.session.specs.declared.Answer.{Answer}
 use Rattle.session.specs.declared.Answer.the-variants.{To, Refused}
@@ -29,10 +30,11 @@ use Rattle.session.specs.declared.Stepped.{Stepped}
 use Rattle.session.specs.declared.Stepped.the-variants.{Next, Not}
 use Rattle.session.specs.declared.Ran.{Ran}
 use Rattle.session.specs.declared.Ran.the-variants.{Until, Stopped}
-use Rattle.session.specs.Refusals.{openRefusal, stepRefusal, runRefusal}
-use Rattle.session.specs.Memory.{Memory, memory}
+use Rattle.memory.specs.Refusals.{openRefusal}
+use Rattle.session.specs.Refusals.{stepRefusal, runRefusal}
+use Rattle.memory.specs.Memory.{Memory, memory}
 use Rattle.session.specs.Outcome.{openOutcome, stepOutcome}
-use Rattle.session.specs.Reasons.{badReasons}
+use Rattle.memory.specs.Reasons.{badReasons}
 use Rattle.session.specs.Run.{advance, runFrom, whyFrom, runOf}
 use Rattle.listing.specs.declared.Paged as paged
 use Rattle.listing.specs.Opening.{valuesOf, openingStart}

@@ -19,9 +19,9 @@ use crate::room::STATE_MOST;
 use crate::room::TEXT_BYTES;
 use crate::room::WORD_BELOW;
 use crate::room::WORD_MOST;
+use memory::state_of;
 use session::Revision;
 use session::Session;
-use session::state_of;
 use words::Literal;
 
 // Words for a buffer are left in the line: the command says where they begin.

@@ -1,6 +1,6 @@
 // The desk between two lines.
 ghost use Rattle.console.specs.Desk.{InRoom};
-use rules::State;
+use record::State;
 use session::Revision;
 use session::Session;
 

@@ -6,11 +6,11 @@ use crate::names::Name;
 use crate::room::ANSWER_NUMBERS;
 use formula::Checked;
 use listing::Paged;
+use memory::number_of;
 use session::Answer;
 use session::Ran;
 use session::Session;
 use session::Stepped;
-use session::number_of;
 use text::Answer as Reading;
 
 // The words that follow an answer's numbers.

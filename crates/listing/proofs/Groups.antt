@@ -20,11 +20,11 @@ use Rattle.formula.specs.Formula.{run, firstGroup, variablesOf, prefixOf, formu
 use Rattle.formula.specs.Limits.{limits, maxVariables}
 use Rattle.formula.specs.Laws.Limits.{group-small, variables-are}
 use Rattle.formula.specs.Laws.Accepted.{accepted, variables-most, prefix-named, prefix-length, Accepted}
-use Rattle.rules.specs.declared.rule.State.the-variants.{Open}
-use Rattle.rules.specs.Search.{Search, search}
-use Rattle.rules.specs.Inner.Ready.{KeptIn, OnBlock}
-use Rattle.rules.specs.Trail.{Trail, wipedTrail, trail}
-use Rattle.rules.specs.Laws.Accepted.{accepted-binds}
+use Rattle.record.specs.declared.rule.State.the-variants.{Open}
+use Rattle.record.specs.Search.{Search, search}
+use Rattle.record.specs.Inner.Ready.{KeptIn, OnBlock}
+use Rattle.record.specs.Trail.{Trail, wipedTrail, trail}
+use Rattle.record.specs.Laws.Accepted.{accepted-binds}
 use Rattle.session.specs.Run.{trip, runFrom}
 use Rattle.listing.specs.Opening.{valuesOf, valueAt, openingStart, openingSearch}
 use Rattle.listing.specs.Laws.Start.{starts}

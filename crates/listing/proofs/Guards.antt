@@ -12,9 +12,9 @@ use Rattle.words.specs.Rows.{Row, refusalOf}
 use Rattle.words.specs.Laws.Rows.{stops, goes-on}
 use Rattle.words.specs.Words.{negative}
 use Rattle.formula.specs.Formula.{word, formulaOf, firstGroup, prefixOf}
-use Rattle.rules.specs.Inner.Ready.{formula}
-use Rattle.session.specs.Memory.{recordPlaces}
-use Rattle.session.specs.Refusals.{openRows, openRefusal}
+use Rattle.record.specs.Inner.Ready.{formula}
+use Rattle.memory.specs.Memory.{recordPlaces}
+use Rattle.memory.specs.Refusals.{openRows, openRefusal}
 use Rattle.listing.specs.Page.{ofPage, pageRefusal, PageMemory}
 use Rattle.formula.specs.Limits.{limits}
 

@@ -11,13 +11,13 @@ use borrow.Author.Tests.{le-leb, lt-leb}
 use Rattle.words.specs.Outcomes.{outcome, unless-number}
 use Rattle.formula.specs.Limits.{limits}
 use Rattle.formula.specs.Formula.{formulaOf, variablesOf, prefixOf, firstGroup}
-use Rattle.rules.specs.declared.rule.State.{State}
-use Rattle.rules.specs.declared.rule.State.the-variants.{Open, Valid, Unsat}
-use Rattle.rules.specs.declared.rule.Reached.{Reached}
-use Rattle.rules.specs.Search.{Search, reached}
-use Rattle.rules.specs.Trail.{Trail, wipedTrail}
-use Rattle.rules.specs.Inner.Ready.{Binds, Room}
-use Rattle.rules.specs.Laws.Accepted.{prefix-length}
+use Rattle.record.specs.declared.rule.State.{State}
+use Rattle.record.specs.declared.rule.State.the-variants.{Open, Valid, Unsat}
+use Rattle.record.specs.declared.rule.Reached.{Reached}
+use Rattle.record.specs.Search.{Search, reached}
+use Rattle.record.specs.Trail.{Trail, wipedTrail}
+use Rattle.record.specs.Inner.Ready.{Binds, Room}
+use Rattle.record.specs.Laws.Accepted.{prefix-length}
 use Rattle.listing.specs.declared.Paged.{Paged}
 use Rattle.listing.specs.declared.Paged.the-variants.{Page, Refused}
 use Rattle.listing.specs.Opening.{openings, openingSearch, openingEnd}

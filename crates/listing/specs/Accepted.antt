@@ -11,12 +11,12 @@ use Rattle.words.specs.Laws.Bools.{clash, look}
 use Rattle.formula.specs.Formula.{formulaOf, variablesOf, prefixOf, firstGroup}
 use Rattle.formula.specs.Proper.{Proper}
 use Rattle.formula.specs.Limits.{Limits}
-use Rattle.rules.specs.declared.rule.State.{State}
-use Rattle.rules.specs.declared.rule.State.the-variants.{Open}
-use Rattle.rules.specs.Trail.{wipedTrail}
-use Rattle.rules.specs.Inner.Ready.{Binds}
-use Rattle.rules.specs.Laws.Accepted.{prefix-length, accepted-proper}
-use Rattle.rules.specs.Laws.Untouched.{wiped-blank}
+use Rattle.record.specs.declared.rule.State.{State}
+use Rattle.record.specs.declared.rule.State.the-variants.{Open}
+use Rattle.record.specs.Trail.{wipedTrail}
+use Rattle.record.specs.Inner.Ready.{Binds}
+use Rattle.record.specs.Laws.Accepted.{prefix-length, accepted-proper}
+use Rattle.record.specs.Laws.Untouched.{wiped-blank}
 use Rattle.listing.specs.declared.Paged.the-variants.{Page}
 use Rattle.listing.specs.Opening.{openings, openingEnd}
 use Rattle.listing.specs.Page.{Sheet, sheet, pageOf, sheetOf, PageMemory}

@@ -7,9 +7,9 @@ use lib.IntN.{ℤ}
 use Rattle.words.specs.Outcomes.{Outcome, unless}
 use Rattle.formula.specs.Formula.{formulaOf}
 use Rattle.formula.specs.Limits.{Limits}
-use Rattle.rules.specs.declared.rule.State.{State}
-use Rattle.session.specs.Memory.{recordPlaces}
-use Rattle.session.specs.Refusals.{short}
+use Rattle.record.specs.declared.rule.State.{State}
+use Rattle.memory.specs.Memory.{recordPlaces}
+use Rattle.memory.specs.Refusals.{short}
 use Rattle.listing.specs.declared.Paged.{Paged}
 use Rattle.listing.specs.declared.Paged.the-variants.{Refused}
 use Rattle.listing.specs.Opening.{openings, openingEnd}

@@ -13,18 +13,20 @@ use Rattle.words.specs.Rows.{refusalOf}
 use Rattle.words.specs.Laws.Rows.{goes-on}
 use Rattle.formula.specs.Formula.{formulaOf, variablesOf, prefixOf, firstGroup}
 use Rattle.formula.specs.Limits.{Limits}
-use Rattle.rules.specs.declared.rule.State.the-variants.{Open}
-use Rattle.rules.specs.Inner.Ready.{Room}
-use Rattle.rules.specs.Laws.Accepted.{prefix-length}
+use Rattle.record.specs.declared.rule.State.the-variants.{Open}
+use Rattle.record.specs.Inner.Ready.{Room}
+use Rattle.record.specs.Laws.Accepted.{prefix-length}
 use Rattle.session.specs.declared.Revision.{Revision}
 use Rattle.session.specs.declared.Session.{Session}
 use Rattle.session.specs.declared.Ran.the-variants.{Until}
-use Rattle.session.specs.Memory.{Memory, memoryOf, places}
-use Rattle.session.specs.Reasons.{why}
-use Rattle.session.specs.Refusals.{lastRevision, openRows, openRefusal, ofSession, sessionRows, ofRun, runRefusal}
+use Rattle.memory.specs.Memory.{Memory, memoryOf, places}
+use Rattle.memory.specs.Reasons.{why}
+use Rattle.memory.specs.Refusals.{openRows, openRefusal}
+use Rattle.session.specs.Refusals.{lastRevision, ofSession, sessionRows, ofRun, runRefusal}
 use Rattle.session.specs.Outcome.{session}
 use Rattle.session.specs.Run.{runFrom, whyFrom, runOf}
-use Rattle.session.specs.Laws.Accepted.{Sound, open-passes, room-buffers}
+use Rattle.memory.specs.Laws.Opened.{open-passes, room-buffers}
+use Rattle.session.specs.Laws.Accepted.{Sound}
 use Rattle.session.specs.Laws.Sound.{none-sound}
 use Rattle.listing.specs.Opening.{openingStart, openingSearch}
 use Rattle.listing.specs.Page.{PageMemory}

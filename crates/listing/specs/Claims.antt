@@ -7,9 +7,9 @@ use mathlib.Core.List.{List, _++_}
 use lib.IntN.{ℤ}
 use lib.ListN.{length, getD, take, drop}
 use Rattle.formula.specs.Formula.{Formula, formulaOf, variablesOf, prefixOf, firstGroup}
-use Rattle.rules.specs.declared.rule.State.{State}
-use Rattle.rules.specs.declared.rule.State.the-variants.{Open}
-use Rattle.rules.specs.Trail.{Trail, entryAt, noEntry}
+use Rattle.record.specs.declared.rule.State.{State}
+use Rattle.record.specs.declared.rule.State.the-variants.{Open}
+use Rattle.record.specs.Trail.{Trail, entryAt, noEntry}
 use Rattle.listing.specs.Opening.{openings, openingEnd}
 use Rattle.listing.specs.Page.{Sheet, PageMemory}
 use Rattle.listing.specs.Wins.{listing}

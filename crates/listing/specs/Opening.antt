@@ -7,10 +7,10 @@ use lib.IntN.{ℤ, pos, negℤ, natAbs}
 use lib.ListN.{length, take}
 use lib.Seq.{sets}
 use Rattle.formula.specs.Formula.{Formula, firstGroup}
-use Rattle.rules.specs.declared.rule.State.{State}
-use Rattle.rules.specs.declared.rule.State.the-variants.{Open}
-use Rattle.rules.specs.Search.{Search, search}
-use Rattle.rules.specs.Trail.{Trail, wipedTrail, trail}
+use Rattle.record.specs.declared.rule.State.{State}
+use Rattle.record.specs.declared.rule.State.the-variants.{Open}
+use Rattle.record.specs.Search.{Search, search}
+use Rattle.record.specs.Trail.{Trail, wipedTrail, trail}
 use Rattle.session.specs.Run.{runFrom}
 
 -- [group.first] the first group

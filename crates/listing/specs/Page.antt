@@ -9,13 +9,13 @@ use lib.ListN.{length, set}
 use Rattle.words.specs.Rows.{Row, row, refusalOf}
 use Rattle.words.specs.Words.{negative}
 use Rattle.formula.specs.Formula.{Formula, formulaOf, word, firstGroup}
-use Rattle.rules.specs.declared.rule.State.{State}
-use Rattle.rules.specs.declared.rule.State.the-variants.{Open, Valid, Unsat}
-use Rattle.rules.specs.Trail.{Trail, trail, wipedTrail}
+use Rattle.record.specs.declared.rule.State.{State}
+use Rattle.record.specs.declared.rule.State.the-variants.{Open, Valid, Unsat}
+use Rattle.record.specs.Trail.{Trail, trail, wipedTrail}
 use Rattle.words.specs.Outcomes.{Outcome, outcome, unless}
 use Rattle.formula.specs.Limits.{Limits}
-use Rattle.session.specs.Memory.{recordPlaces}
-use Rattle.session.specs.Refusals.{openRows}
+use Rattle.memory.specs.Memory.{recordPlaces}
+use Rattle.memory.specs.Refusals.{openRows}
 use Rattle.listing.specs.declared.Paged.{Paged}
 use Rattle.listing.specs.declared.Paged.the-variants.{Page, Refused}
 use Rattle.listing.specs.Opening.{openings, openingEnd}

@@ -22,8 +22,8 @@ use Rattle.listing.specs.Claims.{Stops, at-end, no-room, unended, PageCl
 use Rattle.listing.specs.Rows.{PageGuarded, page-passes}
 use Rattle.listing.specs.Refused.{page-accepted}
 use Rattle.listing.specs.Accepted.{claimed, accepted-page}
-use Rattle.rules.specs.Trail.{wipedTrail}
-use Rattle.rules.specs.Inner.Ready.{Room}
+use Rattle.record.specs.Trail.{wipedTrail}
+use Rattle.record.specs.Inner.Ready.{Room}
 use Rattle.words.specs.Outcomes.{Outcome}
 
 -- ---- [demand.3.pages] what a page is given besides the block and its start: a work record, preferences, a budget and an output, each its own

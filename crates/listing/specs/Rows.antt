@@ -12,14 +12,14 @@ use Rattle.words.specs.Laws.Rows.{numbered, given, goes-on, first-part, passed}
 use Rattle.formula.specs.Limits.{Limits}
 use Rattle.formula.specs.Formula.{formulaOf, prefixOf, firstGroup}
 use Rattle.formula.specs.Block.{refusal}
-use Rattle.session.specs.Refusals.{openRows, openRefusal}
+use Rattle.memory.specs.Refusals.{openRows, openRefusal}
 use Rattle.session.specs.Rows.{openNumbers}
-use Rattle.session.specs.Memory.{recordPlaces}
-use Rattle.session.specs.Laws.Accepted.{opened, open-passes, record-room, room-record}
+use Rattle.memory.specs.Memory.{recordPlaces}
+use Rattle.memory.specs.Laws.Opened.{opened, open-passes, record-room, room-record}
 use Rattle.listing.specs.Opening.{openings}
 use Rattle.listing.specs.Page.{firstUniversal, ofPage, pageRows, pageRefusal, PageMemory}
-use Rattle.rules.specs.Inner.Ready.{Binds, Room}
-use Rattle.rules.specs.Laws.Accepted.{prefix-length, accepted-binds}
+use Rattle.record.specs.Inner.Ready.{Binds, Room}
+use Rattle.record.specs.Laws.Accepted.{prefix-length, accepted-binds}
 
 module _ (L : Limits) (b : List ℤ) (m : PageMemory) (start : ℕ) where
   pub page-numbered : Numbered (pageRows L b m start) (pageRefusal L b m start)

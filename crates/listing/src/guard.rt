@@ -3,7 +3,7 @@ ghost use mathlib.Core.Path.{_≡_};
 ghost use mathlib.Core.List.{[]};
 ghost use Rattle.formula.specs.Limits.{limits};
 ghost use Rattle.words.specs.Rows.{refusalOf};
-ghost use Rattle.rules.specs.Inner.Ready.{formula};
+ghost use Rattle.record.specs.Inner.Ready.{formula};
 ghost use Rattle.listing.specs.Page.{pageMemory, ofPage, pageRefusal};
 use crate::openings;
 
@@ -37,7 +37,7 @@ pub(crate) fn page_refusal(
 ) -> u32
     ensures { λ r. ⌜ r ≡ pageRefusal limits (now (block .entry)) (pageMemory (now (lits .entry)) (now (kinds .entry)) (now (output .entry))) start ⌝ }
 {
-    let refused = session::open_refusal(block, session::record_places(lits, kinds));
+    let refused = memory::open_refusal(block, memory::record_places(lits, kinds));
     if refused != 0 {
         return refused;
     }

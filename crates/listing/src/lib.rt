@@ -1,5 +1,4 @@
 // The listing of openings, page by page.
-ghost use mathlib.Core.Path.{_≡_};
 ghost use Rattle.listing.specs.Page.{pageMemory};
 ghost use Rattle.listing.specs.Promises.{PagePromise};
 
@@ -35,6 +34,6 @@ pub fn page(
     }
     let k = openings::first_group(formula::prefix(block));
     let answer = sheets::fill(block, lits, kinds, k, start, preferred, budget, output);
-    rules::clear(lits, kinds, words::size_at(block, 0));
+    record::clear(lits, kinds, words::size_at(block, 0));
     answer
 }

@@ -7,18 +7,18 @@ ghost use lib.ListN.{length, getD};
 ghost use lib.Seq.{sets};
 ghost use Rattle.formula.specs.Limits.{limits};
 ghost use Rattle.formula.specs.Formula.{formulaOf, firstGroup};
-ghost use Rattle.rules.specs.Trail.{trail};
-ghost use Rattle.rules.specs.Search.{search, reached};
-ghost use Rattle.rules.specs.declared.rule.State.the-variants.{Open};
+ghost use Rattle.record.specs.Trail.{trail};
+ghost use Rattle.record.specs.Search.{search, reached};
+ghost use Rattle.record.specs.declared.rule.State.the-variants.{Open};
 ghost use Rattle.listing.specs.Opening.{valueAt, valuesOf, openingStart, openingSearch};
 ghost use Rattle.listing.specs.Inner.Pages.{OnGroup, WritableAt, Writable};
 ghost use Rattle.words.specs.Outcomes.{outcome};
 ghost use Rattle.formula.specs.Limits.{maxVariables};
-ghost use Rattle.rules.specs.Inner.Ready.{LentTables};
+ghost use Rattle.rules.specs.Inner.Lent.{LentTables};
 use formula::LITERAL_PLACES;
 use formula::MAX_VARIABLES;
-use rules::PLACES;
-use rules::Reached;
+use record::PLACES;
+use record::Reached;
 
 // The size of the first group.
 pub(crate) fn first_group(prefix: &[i32]) -> usize
@@ -83,7 +83,7 @@ fn begin(block: &[i32], lits: &mut [i32], kinds: &mut [u8], k: usize, n: u32)
     requires { ⌜ OnGroup (now block) (trail (now lits) (now kinds)) k ⌝ }
     ensures { λ r. ⌜ search (trail (now (lits .exit)) (now (kinds .exit))) k Open ≡ openingStart (formulaOf (now (block .entry))) (trail (now (lits .entry)) (now (kinds .entry))) n ⌝ }
 {
-    rules::clear(lits, kinds, words::size_at(block, 0));
+    record::clear(lits, kinds, words::size_at(block, 0));
     write_values(words::take(formula::prefix(block), k), n, lits);
 }
 

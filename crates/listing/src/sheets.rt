@@ -10,7 +10,7 @@ use crate::Paged;
 use crate::openings;
 use formula::LITERAL_PLACES;
 use formula::MAX_VARIABLES;
-use rules::State;
+use record::State;
 
 // An answer.
 fn answer(next: u32, entries: u32, paused: bool) -> Paged

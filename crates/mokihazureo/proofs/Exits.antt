@@ -1,30 +1,24 @@
 -- The one way out of a call: what the call below leaves, and its numbers.
-use mathlib.Core.Path.{_≡_, refl, _∙_, ap}
-use mathlib.Core.Bool.{Bool, true, false, cond}
+use mathlib.Core.Path.{_≡_, _∙_, ap}
 use mathlib.Core.List.{List}
 use Prim.Native.Nat.{ℕ}
 use lib.IntN.{ℤ}
 use lib.Seq.{sets}
-use mir.Val.{boolByte}
 use Rattle.words.specs.Outcomes.{Outcome, outcome}
-use Rattle.rules.specs.Due.{literal}
+use Rattle.record.specs.Found.{literal}
 use Rattle.session.specs.declared.Session.{Session}
 use Rattle.session.specs.declared.Stepped.{Stepped}
 use Rattle.session.specs.declared.Ran.{Ran}
-use Rattle.session.specs.Memory.{Memory}
+use Rattle.memory.specs.Memory.{Memory}
 use Rattle.session.specs.Outcome.{stepOutcome}
 use Rattle.session.specs.Run.{runOf}
 use Rattle.text.specs.declared.Reader.{Reader}
 use Rattle.text.specs.declared.Answer as text
 use Rattle.text.specs.Pieces.{pieceOf, endOf}
 use Rattle.mokihazureo.specs.Called.{lent, told, revision}
-use Rattle.mokihazureo.specs.Reading.{readerOf, written, pieceCall}
+use Rattle.saved.specs.Numbers.{readerOf, written}
+use Rattle.mokihazureo.specs.Reading.{pieceCall}
 use Rattle.formula.specs.Limits.{limits}
-
--- a truth as a number
-pub bit : (p : Bool) → cond p 1 0 ≡ boolByte p
-bit true = refl
-bit false = refl
 
 pub tells : {M A : Type 0} (status : A → ℕ) (numbers : A → List ℕ) (a : List ℕ) {a′ : List ℕ} {m : M} {r : ℕ} {x : A} {o : Outcome M A} → outcome x m ≡ o → r ≡ status x → a′ ≡ sets a 0 (numbers x)
     → outcome r (lent m a′) ≡ told status numbers a o

@@ -7,7 +7,7 @@ use lib.IntN.{ℤ}
 use lib.Seq.{sets}
 use Rattle.words.specs.Outcomes.{Outcome, outcome}
 use Rattle.formula.specs.Limits.{Limits}
-use Rattle.rules.specs.Due.{literal}
+use Rattle.record.specs.Found.{literal}
 use Rattle.session.specs.declared.Revision.{Revision}
 use Rattle.session.specs.declared.Session.{Session}
 use Rattle.session.specs.declared.Answer.{Answer}
@@ -16,8 +16,8 @@ use Rattle.session.specs.declared.Stepped.{Stepped}
 use Rattle.session.specs.declared.Stepped.the-variants.{Next, Not}
 use Rattle.session.specs.declared.Ran.{Ran}
 use Rattle.session.specs.declared.Ran.the-variants.{Until, Stopped}
-use Rattle.session.specs.Memory.{Memory}
-use Rattle.session.specs.States.{numberOf, stateNumbered}
+use Rattle.memory.specs.Memory.{Memory}
+use Rattle.memory.specs.States.{numberOf, stateNumbered}
 use Rattle.session.specs.Outcome.{session, openOutcome, stepOutcome}
 use Rattle.session.specs.Run.{runOf}
 use Rattle.listing.specs.declared.Paged as paged

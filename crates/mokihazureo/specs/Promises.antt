@@ -7,11 +7,12 @@ use Rattle.words.specs.Outcomes.{only-one, outcome, Same, same}
 use Rattle.formula.specs.Limits.{limits}
 use Rattle.formula.specs.Block.{refusal}
 use Rattle.session.specs.declared.Session.{Session}
-use Rattle.session.specs.Memory.{Memory}
+use Rattle.memory.specs.Memory.{Memory}
 use Rattle.listing.specs.Page.{PageMemory}
 use Rattle.text.specs.Pieces.{begun}
+use Rattle.saved.specs.Numbers.{written}
 use Rattle.mokihazureo.specs.Called.{Lent, openCall, stepCall, runCall, pageCall}
-use Rattle.mokihazureo.specs.Reading.{readCall, written, pieceCall, endCall}
+use Rattle.mokihazureo.specs.Reading.{readCall, pieceCall, endCall}
 
 -- ---- the promises
 abbrev pub CheckPromise : List ℤ → ℕ → Type 0

@@ -1,26 +1,15 @@
 -- Reading a text from another language: a status, and one number in a lent array; and the reader between two pieces as an array of numbers. What is read,
--- and what is left in the output, is what the crate `text` says.
-use Prim.Native.Nat.{ℕ, zero, suc}
-use mathlib.Core.Bool.{Bool, true, false, cond}
+-- and what is left in the output, is what the crate `text` says; which numbers a reader is, what the crate `saved` says.
+use Prim.Native.Nat.{ℕ}
 use mathlib.Core.List.{List, [], _∷_}
-use lib.Dec.{eqb}
 use lib.IntN.{ℤ}
-use lib.ListN.{getD}
-use lib.Seq.{sets}
 use Rattle.words.specs.Outcomes.{Outcome}
 use Rattle.formula.specs.Limits.{Limits}
-use Rattle.text.specs.declared.Place.{Place}
-use Rattle.text.specs.declared.Place.the-variants.{AtHead, AtCnf, AtFirst, AtSecond, AtLine, AtNumber, AtNumbers, AtLiterals, AtEnd}
-use Rattle.text.specs.declared.Slot.{Slot}
-use Rattle.text.specs.declared.Slot.the-variants.{OfVariables, OfCount, OfGroup, OfClause}
-use Rattle.text.specs.declared.State.{State}
-use Rattle.text.specs.declared.State.the-variants.{Dead, Fresh, Before, Parted, InNumber, Remark, AfterC, AfterCn, AfterMinus}
-use Rattle.text.specs.declared.Kept.{Kept}
-use Rattle.text.specs.declared.Reader.{Reader}
 use Rattle.text.specs.declared.Answer.{Answer}
 use Rattle.text.specs.declared.Answer.the-variants.{Accepted, Misfit, Refused, Row}
 use Rattle.text.specs.Tree.{readOf}
-use Rattle.text.specs.Pieces.{capped, begun, pieceOf, endOf}
+use Rattle.text.specs.Pieces.{pieceOf, endOf}
+use Rattle.saved.specs.Numbers.{readerOf, written}
 use Rattle.mokihazureo.specs.Called.{Lent, lent, told}
 
 -- ---- [calls.read] a text: status 0 and the block's length; 27 and the place; 28, 29 or 30, and 0; 31 and the row
@@ -39,94 +28,7 @@ readNumbers (Row n) = n ∷ []
 abbrev pub readCall : Limits → List ℕ → List ℤ → List ℕ → Outcome (Lent (List ℤ)) ℕ
 readCall L bs o a = told readStatus readNumbers a (readOf L bs o)
 
--- ---- [calls.pieces] the reader's state as two numbers, a kind and what it holds. Of what it holds a number over the last one counts as the last one;
--- a number that is no kind's counts as 0, Dead: no text goes on so
--- what stands at place n of a list that begins at i, and elsewhere z
-abbrev pub pick : {A : Type 0} → List A → A → ℕ → ℕ → A
-pick [] z i n = z
-pick (x ∷ xs) z i n = cond (eqb n i) x (pick xs z (suc i) n)
-
-abbrev pub bitOf : ℕ → Bool
-bitOf n = pick (false ∷ []) true 0 n
-
-unfoldable pub placeOf : ℕ → Place
-placeOf n = pick (AtHead ∷ AtCnf ∷ AtFirst ∷ AtSecond ∷ AtLine false ∷ AtLine true ∷ AtNumber ∷ AtNumbers ∷ AtLiterals ∷ AtEnd false ∷ []) (AtEnd true) 0 n
-
-unfoldable pub slotOf : ℕ → Slot
-slotOf n = pick (OfVariables ∷ OfCount ∷ OfGroup ∷ OfClause false ∷ []) (OfClause true) 0 n
-
-unfoldable pub stateOf : ℕ → ℕ → State
-stateOf k n = pick (Fresh (bitOf n) ∷ Before (placeOf n) ∷ Parted (placeOf n) ∷ InNumber (slotOf n) ∷ Remark ∷ AfterC ∷ AfterCn ∷ AfterMinus ∷ []) Dead 1 k
-
-abbrev pub bitNumber : Bool → ℕ
-bitNumber p = cond p 1 0
-
-abbrev pub placeNumber : Place → ℕ
-placeNumber AtHead = 0
-placeNumber AtCnf = 1
-placeNumber AtFirst = 2
-placeNumber AtSecond = 3
-placeNumber (AtLine more) = cond more 5 4
-placeNumber AtNumber = 6
-placeNumber AtNumbers = 7
-placeNumber AtLiterals = 8
-placeNumber (AtEnd more) = cond more 10 9
-
-abbrev pub slotNumber : Slot → ℕ
-slotNumber OfVariables = 0
-slotNumber OfCount = 1
-slotNumber OfGroup = 2
-slotNumber (OfClause s) = cond s 4 3
-
-abbrev pub kindNumber : State → ℕ
-kindNumber Dead = 0
-kindNumber (Fresh more) = 1
-kindNumber (Before k) = 2
-kindNumber (Parted k) = 3
-kindNumber (InNumber f) = 4
-kindNumber Remark = 5
-kindNumber AfterC = 6
-kindNumber AfterCn = 7
-kindNumber AfterMinus = 8
-
-abbrev pub heldNumber : State → ℕ
-heldNumber (Fresh more) = bitNumber more
-heldNumber (Before k) = placeNumber k
-heldNumber (Parted k) = placeNumber k
-heldNumber (InNumber f) = slotNumber f
-heldNumber Remark = 0
-heldNumber AfterC = 0
-heldNumber AfterCn = 0
-heldNumber AfterMinus = 0
-heldNumber Dead = 0
-
--- ---- the whole reader as twelve numbers, out and in
-abbrev pub keptNumbers : Kept → List ℕ
-keptNumbers k =
-    k .variables ∷ k .count ∷ bitNumber (k .universal) ∷ k .bound ∷ k .clauses ∷ k .literals ∷ bitNumber (k .large) ∷ bitNumber (k .over) ∷ []
-
-abbrev pub readerNumbers : Reader → List ℕ
-readerNumbers r = kindNumber (r .state) ∷ heldNumber (r .state) ∷ r .number ∷ r .at ∷ keptNumbers (r .kept)
-
-unfoldable pub keptOf : List ℕ → Kept
-keptOf s = record {
-  variables = capped (getD s 4 0);
-  count = capped (getD s 5 0);
-  universal = bitOf (getD s 6 0);
-  bound = capped (getD s 7 0);
-  clauses = capped (getD s 8 0);
-  literals = capped (getD s 9 0);
-  large = bitOf (getD s 10 0);
-  over = bitOf (getD s 11 0);
-}
-
-unfoldable pub readerOf : List ℕ → Reader
-readerOf s = record { state = stateOf (getD s 0 0) (getD s 1 0); number = capped (getD s 2 0); at = getD s 3 0; kept = keptOf s }
-
 -- ---- [calls.pieces] begin, a piece, and the end; s is the array of the reader's numbers
-abbrev pub written : Reader → List ℕ → List ℕ
-written r s = sets s 0 (readerNumbers r)
-
 abbrev pub pieceCall : List ℕ → List ℕ → List ℤ → Lent (List ℤ)
 pieceCall s bs o = let u = pieceOf bs (readerOf s) o in lent (u .memory) (written (u .answer) s)
 

@@ -13,15 +13,16 @@ use Rattle.session.specs.declared.Session.{Session}
 use Rattle.session.specs.declared.Answer.the-variants.{Refused}
 use Rattle.session.specs.declared.Stepped.the-variants.{Not}
 use Rattle.session.specs.declared.Ran.the-variants.{Stopped}
-use Rattle.session.specs.Memory.{Memory, places}
-use Rattle.session.specs.Refusals.{openRefusal, stepRefusal, runRefusal}
+use Rattle.memory.specs.Memory.{Memory, places}
+use Rattle.memory.specs.Refusals.{openRefusal}
+use Rattle.session.specs.Refusals.{stepRefusal, runRefusal}
 use Rattle.session.specs.Outcome.{openOutcome, stepOutcome}
 use Rattle.session.specs.Run.{runOf}
-use Rattle.rules.specs.Due.{literal}
+use Rattle.record.specs.Found.{literal}
 use Rattle.listing.specs.declared.Paged as paged
 use Rattle.listing.specs.Page.{PageMemory, pageRefusal, pageOf}
 use Rattle.text.specs.declared.Answer as text
-use Rattle.text.specs.Reads.{Read, spelled, misfit, reads}
+use Rattle.grammar.specs.Reads.{Read, spelled, misfit, reads}
 use Rattle.text.specs.Tree.{zeros, textRefusal, rowOf, textOf, answered, readOf}
 use Rattle.text.specs.Meaning.{accepted-or-wiped}
 use Rattle.mokihazureo.specs.Called.{Lent, lent, told, revision, openedStatus, openedNumbers, steppedStatus, steppedNumbers, ranStatus, ranNumbers, pagedStatus, pagedNumbers, openCall, stepCall, runCall, pageCall}

@@ -1,6 +1,5 @@
 // The library's calls for programs in other languages: numbers and slices in; a status, and numbers in a lent array, out.
-ghost use mathlib.Core.Path.{_≡_};
-ghost use Rattle.session.specs.Memory.{memory};
+ghost use Rattle.memory.specs.Memory.{memory};
 ghost use Rattle.listing.specs.Page.{pageMemory};
 ghost use Rattle.mokihazureo.specs.Called.{lent, sessionOf};
 ghost use Rattle.mokihazureo.specs.Promises.{CheckPromise, OpenPromise, StepPromise, RunPromise, PagePromise, ReadPromise, BeginPromise, PiecePromise, EndPromise};
@@ -9,7 +8,7 @@ use session::Revision;
 use words::Literal;
 
 mod numbers; // sessions and answers as numbers
-mod reading; // readers as numbers, and what reading answers
+mod reading; // what reading answers, as numbers
 
 // 0 for an accepted block, else the number of its refusal.
 #[no_mangle]
@@ -121,7 +120,7 @@ pub extern "C" fn moki_read(bytes: &[u8], output: &mut [i32], answer: &mut [u64;
 pub extern "C" fn moki_read_begin(state: &mut [u64; 12])
     ensures { λ r. ⌜ BeginPromise (now (state .entry)) (now (state .exit)) ⌝ }
 {
-    reading::write_reader(text::begin(), state);
+    saved::write_reader(text::begin(), state);
 }
 
 // One more piece, with the output as working memory.
@@ -129,9 +128,9 @@ pub extern "C" fn moki_read_begin(state: &mut [u64; 12])
 pub extern "C" fn moki_read_piece(state: &mut [u64; 12], bytes: &[u8], output: &mut [i32])
     ensures { λ r. ⌜ PiecePromise (now (state .entry)) (now (bytes .entry)) (now (output .entry)) (lent (now (output .exit)) (now (state .exit))) ⌝ }
 {
-    let before = reading::reader_of(state);
+    let before = saved::reader_of(state);
     let after = text::piece(before, bytes, output);
-    reading::write_reader(after, state);
+    saved::write_reader(after, state);
 }
 
 // The end: what a whole text would answer.
@@ -139,7 +138,7 @@ pub extern "C" fn moki_read_piece(state: &mut [u64; 12], bytes: &[u8], output: &
 pub extern "C" fn moki_read_end(state: &[u64; 12], output: &mut [i32], answer: &mut [u64; 1]) -> u32
     ensures { λ r. ⌜ EndPromise (now (state .entry)) (now (output .entry)) (now (answer .entry)) r (lent (now (output .exit)) (now (answer .exit))) ⌝ }
 {
-    let before = reading::reader_of(state);
+    let before = saved::reader_of(state);
     let outcome = text::end(before, output);
     reading::told(outcome, answer)
 }

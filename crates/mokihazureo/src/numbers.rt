@@ -15,7 +15,7 @@ pub(crate) fn session_of(length: usize, revision: u64, state: u32) -> Session
     Session {
         length: length,
         revision: Revision(revision),
-        state: session::state_of(state),
+        state: memory::state_of(state),
     }
 }
 
@@ -30,7 +30,7 @@ pub(crate) fn opened(outcome: Answer, answer: &mut [u64; 3]) -> u32
             let state = next.state;
             answer[0] = size as u64;
             answer[1] = revision;
-            answer[2] = session::number_of(state) as u64;
+            answer[2] = memory::number_of(state) as u64;
             0
         }
         Answer::Refused(number) => number,
@@ -51,7 +51,7 @@ pub(crate) fn stepped(outcome: Stepped, answer: &mut [u64; 4]) -> u32
             let state = next.state;
             answer[0] = size as u64;
             answer[1] = revision;
-            answer[2] = session::number_of(state) as u64;
+            answer[2] = memory::number_of(state) as u64;
             answer[3] = reason as u64;
             0
         }
@@ -74,7 +74,7 @@ pub(crate) fn ran(outcome: Ran, answer: &mut [u64; 5]) -> u32
             let state = next.state;
             answer[0] = size as u64;
             answer[1] = revision;
-            answer[2] = session::number_of(state) as u64;
+            answer[2] = memory::number_of(state) as u64;
             answer[3] = steps as u64;
             answer[4] = reason as u64;
             0

@@ -10,12 +10,13 @@ use lib.Dec.{eqb}
 use lib.IntN.{ℤ}
 use borrow.Author.Tests.{ne-eqb}
 use Rattle.words.specs.Lists.{any}
-use Rattle.rules.specs.Due.{onFound, onPicked, literal, lowest}
-use Rattle.rules.specs.Inner.Tables.{places}
+use Rattle.record.specs.Found.{onFound, literal}
+use Rattle.rules.specs.Due.{onPicked, lowest}
+use Rattle.record.specs.Inner.Tables.{places}
 use Rattle.rules.specs.Inner.Clauses.{byStatus, keepsBy, conflictBy, Sight, conflict, unit, neither, unitLiteral, staysUnit, unitIf, sightFrom, lowestUnitBy, decidingBy, decidedBy}
 use Rattle.rules.specs.declared.found.Deciding.{Deciding}
 use Rattle.rules.specs.declared.found.Deciding.the-variants.{Conflict, Quiet}
-use Rattle.rules.specs.declared.found.Found.the-variants.{At}
+use Rattle.record.specs.declared.found.Found.the-variants.{At}
 use Rattle.rules.specs.declared.found.UnitFound.the-variants.{On, NoUnit}
 
 module _ (st lev : ℤ → ℕ) where

@@ -9,7 +9,8 @@ use lib.ListN.{length, getD, drop}
 use borrow.Author.Tests.{eq-eqb, ne-eqb}
 use Rattle.words.specs.declared.Literal.{Literal}
 use Rattle.words.specs.Laws.Lists.{next, ended}
-use Rattle.rules.specs.Due.{literal, firstOf}
+use Rattle.record.specs.Found.{literal}
+use Rattle.rules.specs.Due.{firstOf}
 use Rattle.rules.specs.Inner.Variables.{unassignedIn, signsIn, bySigns, monotoneIn, openIn, preferredIn}
 use Rattle.rules.specs.declared.found.Picked.{Picked}
 use Rattle.rules.specs.declared.found.Picked.the-variants.{Is, NoLiteral}

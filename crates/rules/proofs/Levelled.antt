@@ -1,8 +1,8 @@
 -- The table of levels: the words left begin at the level reached, and no word passed stands again.
-use mathlib.Core.Path.{_≡_, refl, sym, _∙_, ap}
+use mathlib.Core.Path.{_≡_, refl, sym, _∙_}
 use mathlib.Core.Logic.{_⊎_, inl, inr}
-use mathlib.Core.Bool.{Bool, true, false, cond, Bool·beq, _||_, or-false}
-use mathlib.Core.List.{List, [], _∷_}
+use mathlib.Core.Bool.{Bool, true, false, cond, Bool·beq, or-false}
+use mathlib.Core.List.{List}
 use Prim.Native.Nat.{ℕ, _+_, _≤_, _<_}
 use native.Mathlib.Decide.{ℕ-discrete}
 use native.Mathlib.Omega.{arith}
@@ -18,8 +18,9 @@ use Rattle.words.specs.Words.{negative}
 use Rattle.formula.specs.Formula.{change, levelOf}
 use Rattle.formula.specs.Block.{names}
 use Rattle.formula.specs.Laws.Prefix.{change-few}
-use Rattle.rules.specs.Inner.Tables.{places, levelAt, Levels}
-use Rattle.rules.proofs.Filled.{named-more}
+use Rattle.record.specs.Inner.Tables.{places}
+use Rattle.rules.specs.Inner.Levels.{levelAt, Levels}
+use Rattle.record.specs.Laws.Filled.{named-more}
 
 -- ---- the change after a word
 pub change-last : (q : ℤ) (p : List ℤ) (i : ℕ) → length p ≤ i + 1 → change q (drop (i + 1) p) ≡ 0

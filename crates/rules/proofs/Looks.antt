@@ -11,7 +11,7 @@ use lib.ListN.{length, getD, drop}
 use borrow.Author.Tests.{lt-ltb, le-ltb, ltb-true, le-leb, lt-leb, leb-true, leb-false}
 use Rattle.words.specs.Laws.Bools.{look, and-l, and-r, or-fl, or-fr}
 use Rattle.words.specs.Laws.Lists.{next, ended}
-use Rattle.rules.specs.Inner.Tables.{places}
+use Rattle.record.specs.Inner.Tables.{places}
 use Rattle.rules.specs.Inner.Clauses.{levelBy, Sight, unit, neither, staysUnit, sightFrom, sightAfter, sightWith, Shown, decidesBy, sightOf}
 use Rattle.rules.specs.declared.clauses.Look.{Look}
 

@@ -20,7 +20,7 @@ use Rattle.theory.specs.Record.{Assignment}
 use Rattle.theory.specs.Tests.{occurs, untrueOf}
 use Rattle.rules.specs.Inner.ByLiteral.{Occurring, Marked, Counted, markedBy}
 use Rattle.rules.specs.Inner.Clauses.{Placed, Clauses}
-use Rattle.rules.proofs.Filled.{Filled, turn, end}
+use Rattle.record.specs.Laws.Filled.{Filled, turn, end}
 use Rattle.rules.proofs.Walk.{Turn}
 use Rattle.formula.specs.Block.{badEnds}
 use Rattle.formula.specs.Formula.{clausesFrom}

@@ -23,10 +23,10 @@ use Rattle.formula.specs.Inner.Named.{Named}
 use Rattle.formula.specs.Inner.Places.{placeOf}
 use Rattle.formula.specs.Laws.Named.{all-named}
 use Rattle.formula.specs.Laws.Prefix.{one-sign}
-use Rattle.rules.specs.Inner.Tables.{signOf}
-use Rattle.rules.specs.Inner.Ready.{Bound}
+use Rattle.record.specs.Inner.Tables.{signOf}
+use Rattle.record.specs.Inner.Ready.{Bound}
 use Rattle.rules.specs.Inner.ByLiteral.{statusOf, statusBy, statusIn, Blank, BlankBeyond, Statuses}
-use Rattle.rules.proofs.Filled.{named-more}
+use Rattle.record.specs.Laws.Filled.{named-more}
 
 -- the variables of the first i words are written
 pub record Stated (p : List ℤ) (values t : List ℕ) (i : ℕ) : Type 0 where

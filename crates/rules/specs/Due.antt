@@ -2,31 +2,24 @@
 use Prim.Native.Nat.{ℕ, suc}
 use mathlib.Core.Bool.{Bool, cond}
 use mathlib.Core.List.{List, [], _∷_}
-use lib.Dec.{eqb}
 use lib.IntN.{ℤ, pos, negℤ, natAbs}
 use lib.ListN.{getD}
 use Rattle.words.specs.declared.Literal.{Literal}
 use Rattle.formula.specs.Formula.{Formula}
 use Rattle.theory.specs.Record.{Record, Assignment, trueIn, assigned}
 use Rattle.theory.specs.Tests.{unassignedE, inConflict, unitOn, monotone, untrueOf}
-use Rattle.rules.specs.declared.rule.Rule.{Rule}
-use Rattle.rules.specs.declared.rule.Rule.the-variants.{BacktrackExists, Fail, Unit, Monotone, Decide, BacktrackForall, Succeed}
-use Rattle.rules.specs.declared.found.Found.{Found}
-use Rattle.rules.specs.declared.found.Found.the-variants.{At, Nothing}
+use Rattle.record.specs.Found.{literal, onFound, last}
+use Rattle.record.specs.declared.rule.Rule.{Rule}
+use Rattle.record.specs.declared.rule.Rule.the-variants.{BacktrackExists, Fail, Unit, Monotone, Decide, BacktrackForall, Succeed}
+use Rattle.record.specs.declared.found.Found.{Found}
+use Rattle.record.specs.declared.found.Found.the-variants.{At, Nothing}
 use Rattle.rules.specs.declared.found.Picked.{Picked}
 use Rattle.rules.specs.declared.found.Picked.the-variants.{Is, NoLiteral}
 use Rattle.rules.specs.declared.found.UnitFound.{UnitFound}
 use Rattle.rules.specs.declared.found.UnitFound.the-variants.{On, NoUnit}
 
-abbrev pub literal : ℤ → Literal
-literal l = record { 0 = l }
-
 module _ {A : Type 0} where
   -- what follows a search
-  abbrev pub onFound : Found → (ℕ → A) → A → A
-  onFound (At i) f b = f i
-  onFound Nothing f b = b
-
   abbrev pub onUnit : UnitFound → (Literal → ℕ → A) → A → A
   onUnit (On l c) f b = f l c
   onUnit NoUnit f b = b
@@ -40,11 +33,6 @@ module _ {A : Type 0} where
   unfoldable pub lowest : (A → Bool) → ℕ → List A → Found
   lowest f n [] = Nothing
   lowest f n (x ∷ xs) = cond (f x) (At n) (lowest f (suc n) xs)
-
--- the place of the last entry of kind k, the first being at n
-unfoldable pub last : ℕ → ℕ → Record → Found
-last k n [] = Nothing
-last k n (e ∷ r) = onFound (last k (suc n) r) At (cond (eqb (e .kind) k) (At n) Nothing)
 
 -- the first unassigned existential literal of a clause, 0 if there is none
 unfoldable pub candidate : List ℤ → Assignment → List ℤ → ℤ

@@ -4,10 +4,11 @@ use mathlib.Core.List.{List}
 use lib.IntN.{ℤ, pos}
 use Rattle.theory.specs.Record.{Assignment}
 use Rattle.theory.specs.Tests.{isOpen}
-use Rattle.rules.specs.Due.{literal, onPicked, firstOf}
+use Rattle.record.specs.Found.{literal}
+use Rattle.rules.specs.Due.{onPicked, firstOf}
 use Rattle.rules.specs.declared.found.Picked.the-variants.{Is, NoLiteral}
-use Rattle.rules.specs.declared.rule.Rule.{Rule}
-use Rattle.rules.specs.declared.rule.Rule.the-variants.{BacktrackExists, Fail, Unit, Monotone, Decide, BacktrackForall, Succeed}
+use Rattle.record.specs.declared.rule.Rule.{Rule}
+use Rattle.record.specs.declared.rule.Rule.the-variants.{BacktrackExists, Fail, Unit, Monotone, Decide, BacktrackForall, Succeed}
 
 -- the rule is Decide
 abbrev pub decides : Rule → Bool

@@ -2,13 +2,14 @@
 ghost use mathlib.Core.Path.{_≡_};
 ghost use Prim.Native.Nat.{_≤_};
 ghost use Rattle.formula.specs.Limits.{limits};
+ghost use Rattle.rules.specs.Promises.{FillPromise};
 ghost use Rattle.rules.specs.Inner.Variables.{signsIn};
-ghost use Rattle.rules.specs.Inner.Ready.{Bound};
-ghost use Rattle.rules.specs.Inner.ByLiteral.{statusOf, Blank, BlankBeyond, Statuses};
-use crate::tables::PLACES;
-use crate::tables::sign_at;
+ghost use Rattle.record.specs.Inner.Ready.{Bound};
+ghost use Rattle.rules.specs.Inner.ByLiteral.{statusOf, Blank, BlankBeyond};
 pub(crate) use formula::LITERAL_PLACES;
 use formula::MIDDLE;
+use record::PLACES;
+use record::sign_at;
 
 // The signs with which a variable occurs: 0 none, 1 positive, 2 negative, 3 both.
 pub(crate) fn signs_at(occurs: &[u8; LITERAL_PLACES], v: usize) -> u8
@@ -38,10 +39,10 @@ fn status_of(value: u8, quantifier: u8, sign: u8) -> u8
 }
 
 // Writes what each literal of the prefix's variables is to its clause.
-pub(crate) fn fill(prefix: &[i32], values: &[u8; PLACES], statuses: &mut [u8; LITERAL_PLACES])
+pub fn fill(prefix: &[i32], values: &[u8; PLACES], statuses: &mut [u8; LITERAL_PLACES])
     requires { ⌜ Bound (now prefix) ⌝ }
     requires { ⌜ Blank (now statuses) ⌝ }
-    ensures { λ r. ⌜ Statuses (now (prefix .entry)) (now (values .entry)) (now (statuses .exit)) ⌝ }
+    ensures { λ r. ⌜ FillPromise (now (prefix .entry)) (now (values .entry)) (now (statuses .exit)) ⌝ }
 {
     let mut i = 0;
     while i < prefix.len() {

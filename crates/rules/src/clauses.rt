@@ -1,12 +1,12 @@
 // The clauses in conflict, and the unit clauses. Clause c has the literal words from the end before it to its own.
 use crate::found::Deciding;
-use crate::found::Found;
 use crate::found::UnitFound;
 use crate::tables::NO_LEVEL;
-use crate::tables::PLACES;
-use crate::variables::literal_at;
 use formula::LITERAL_PLACES;
 use formula::place_at;
+use record::Found;
+use record::PLACES;
+use record::literal_at;
 ghost use mathlib.Core.Path.{_≡_};
 ghost use Prim.Native.Nat.{_+_, _≤_, _<_};
 ghost use lib.IntN.{pos, natAbs};

@@ -1,12 +1,6 @@
 // What a search finds.
 use words::Literal;
 
-// A place or a clause.
-pub enum Found {
-    At(usize),
-    Nothing,
-}
-
 // A literal.
 pub enum Picked {
     Is(Literal),

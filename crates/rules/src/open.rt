@@ -4,17 +4,17 @@ ghost use Prim.Native.Nat.{_≤_};
 ghost use lib.IntN.{pos};
 ghost use Rattle.formula.specs.Limits.{limits};
 ghost use Rattle.formula.specs.Formula.{prefixOf};
-ghost use Rattle.rules.specs.Inner.Tables.{Levels};
+ghost use Rattle.rules.specs.Inner.Levels.{Levels};
 ghost use Rattle.rules.specs.Promises.{IsOpenPromise, FirstOpenPromise};
-ghost use Rattle.rules.specs.Inner.Ready.{Bound, HeldOn};
+ghost use Rattle.record.specs.Inner.Ready.{Bound, HeldOn};
 ghost use Rattle.rules.specs.Inner.Variables.{lowestIn, openIn, preferredIn};
+ghost use Rattle.record.specs.Found.{literal};
 ghost use Rattle.rules.specs.Due as due;
 use crate::found::Picked;
-use crate::tables;
 use crate::tables::NO_LEVEL;
-use crate::tables::PLACES;
 use crate::variables::first_unassigned;
-use crate::variables::literal_at;
+use record::PLACES;
+use record::literal_at;
 use words::Literal;
 
 // The lowest level of an unassigned variable, which is that of the first; NO_LEVEL if there is none.
@@ -64,7 +64,7 @@ pub fn is_open(
     ensures { λ r. ⌜ IsOpenPromise (now (block .entry)) (now (lits .entry)) count literal r ⌝ }
 {
     let prefix = formula::prefix(block);
-    let values = tables::values_of(lits, count);
+    let values = record::values_of(lits, count);
     let lowest = lowest_level(prefix, &values, levels);
     let v = words::size(literal.0);
     open_variable(v, prefix.len(), &values, levels, lowest)
@@ -79,7 +79,7 @@ fn first_in(
     lowest: u16,
 ) -> Literal
     requires { ⌜ n ≤ limits .variables ⌝ }
-    ensures { λ r. ⌜ r ≡ due.literal (due.onPicked (due.firstOf (preferredIn n (now (values .entry)) (now (levels .entry)) lowest) (now (list .entry))) (λ l. l .0) (pos 0)) ⌝ }
+    ensures { λ r. ⌜ r ≡ literal (due.onPicked (due.firstOf (preferredIn n (now (values .entry)) (now (levels .entry)) lowest) (now (list .entry))) (λ l. l .0) (pos 0)) ⌝ }
 {
     let mut i = 0;
     while i < list.len() {
@@ -105,7 +105,7 @@ pub fn first_open(
     ensures { λ r. ⌜ FirstOpenPromise (now (block .entry)) (now (lits .entry)) count (now (list .entry)) r ⌝ }
 {
     let prefix = formula::prefix(block);
-    let values = tables::values_of(lits, count);
+    let values = record::values_of(lits, count);
     let lowest = lowest_level(prefix, &values, levels);
     first_in(list, prefix.len(), &values, levels, lowest)
 }

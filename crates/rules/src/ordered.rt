@@ -1,33 +1,32 @@
 // The due rule is the first that applies: conflict, Unit, Monotone, Decide, all assigned.
-use crate::buffers;
 use crate::by_literal;
 use crate::by_literal::LITERAL_PLACES;
 use crate::clauses;
 use crate::found::Deciding;
-use crate::found::Found;
 use crate::found::Picked;
 use crate::found::UnitFound;
 use crate::occurrences;
-use crate::rule::Rule;
-use crate::tables;
-use crate::tables::PLACES;
 use crate::variables;
+use record::Found;
+use record::PLACES;
+use record::Rule;
 use words::Literal;
 ghost use mathlib.Core.Path.{_≡_};
-ghost use mathlib.Core.List.{List};
-ghost use Prim.Native.Nat.{ℕ, _≤_};
+ghost use Prim.Native.Nat.{_≤_};
 ghost use lib.ListN.{length};
 ghost use Rattle.formula.specs.Limits.{limits};
 ghost use Rattle.formula.specs.Formula.{prefixOf, clausesFrom, formulaOf};
 ghost use Rattle.formula.specs.Block.{refusal};
 ghost use Rattle.theory.specs.Record.{Record, Assignment, trueIn};
 ghost use Rattle.theory.specs.Tests.{untrueOf};
-ghost use Rattle.rules.specs.Due.{onPicked, firstMonotone, dueConflict, dueMonotone, due};
-ghost use Rattle.rules.specs.declared.rule.Rule.the-variants.{Monotone, Decide};
-ghost use Rattle.rules.specs.Trail.{trail};
-ghost use Rattle.rules.specs.Promises.{DuePromise};
-ghost use Rattle.rules.specs.Inner.Tables.{Values, Levels};
-ghost use Rattle.rules.specs.Inner.Ready.{formula, Ready, OnBlock, LentTables};
+ghost use Rattle.rules.specs.Due.{onPicked, firstMonotone, dueMonotone, due};
+ghost use Rattle.record.specs.declared.rule.Rule.the-variants.{Monotone, Decide};
+ghost use Rattle.record.specs.Trail.{trail};
+ghost use Rattle.rules.specs.Promises.{DuePromise, DueConflictPromise};
+ghost use Rattle.record.specs.Inner.Tables.{Values};
+ghost use Rattle.rules.specs.Inner.Levels.{Levels};
+ghost use Rattle.record.specs.Inner.Ready.{formula, Ready, OnBlock};
+ghost use Rattle.rules.specs.Inner.Lent.{LentTables};
 ghost use Rattle.rules.specs.Inner.Tabled.{Sorts, Tabled};
 
 // The due rule of a record. The two tables are lent, so that a step costs what the block has and not what a table has room for; the second
@@ -45,7 +44,7 @@ pub fn due(
     ensures { λ r. ⌜ DuePromise (now (block .entry)) (trail (now (lits .entry)) (now (kinds .entry))) count (now (statuses .entry)) r (now (statuses .exit)) ⌝ }
 {
     let prefix = formula::prefix(block);
-    let values = tables::values_of(lits, count);
+    let values = record::values_of(lits, count);
     by_literal::fill(prefix, &values, statuses);
     let rule = due_by(block, kinds, count, &values, statuses, levels);
     by_literal::wipe(prefix.len(), statuses);
@@ -82,11 +81,11 @@ fn due_by(
 }
 
 // In conflict: Backtrack-exists, or Fail.
-fn due_conflict(kinds: &[u8], count: usize, clause: usize) -> Rule
+pub fn due_conflict(kinds: &[u8], count: usize, clause: usize) -> Rule
     requires { ⌜ count ≤ length (now kinds) ⌝ }
-    ensures { λ r. ⌜ ((R : Record) (table : List ℕ) → Tabled R table (now (kinds .entry)) count → r ≡ dueConflict R clause) ⌝ }
+    ensures { λ r. ⌜ DueConflictPromise (now (kinds .entry)) count clause r ⌝ }
 {
-    match buffers::last_kind(kinds, count, 1) {
+    match record::last_kind(kinds, count, 1) {
         Found::At(at) => Rule::BacktrackExists {
             at: at,
             clause: clause,
@@ -111,7 +110,7 @@ fn due_free(
 {
     match variables::first_unassigned(prefix, values) {
         Picked::Is(first) => due_chosen(prefix, ends, literals, values, statuses, first),
-        Picked::NoLiteral => match buffers::last_kind(kinds, count, 2) {
+        Picked::NoLiteral => match record::last_kind(kinds, count, 2) {
             Found::At(at) => Rule::BacktrackForall { at: at },
             Found::Nothing => Rule::Succeed,
         },

@@ -1,43 +1,18 @@
-// Tables by variable, each filled by one pass, so that a look at a variable costs one read.
+// The table of levels.
 ghost use mathlib.Core.Path.{_≡_};
 ghost use Prim.Native.Nat.{_+_, _<_};
 ghost use lib.IntN.{pos};
-ghost use lib.ListN.{length, getD, take, drop};
+ghost use lib.ListN.{length, getD, drop};
 ghost use Rattle.formula.specs.Formula.{change};
-ghost use Rattle.theory.specs.Record.{among};
 ghost use Rattle.formula.specs.Limits.{limits};
 ghost use Rattle.formula.specs.Block.{refusal};
+ghost use Rattle.record.specs.Inner.Ready.{Bound};
 ghost use Rattle.rules.specs.Promises.{LevelsPromise};
-ghost use Rattle.rules.specs.Inner.Ready.{Bound};
-ghost use Rattle.rules.specs.Inner.Tables.{signOf, Values, Levels, Written};
-
-// A place for each variable, and place 0, which is no variable's.
-pub const PLACES: usize = formula::MAX_VARIABLES + 1;
+ghost use Rattle.rules.specs.Inner.Levels.{Levels};
+use record::PLACES;
 
 // More than any level: with n variables there are at most n levels.
 pub(crate) const NO_LEVEL: u16 = (formula::MAX_VARIABLES + 1) as u16;
-
-// 1 for a positive word, 2 for a negative one.
-pub(crate) fn sign_at(ws: &[i32], i: usize) -> u8
-    ensures { λ r. ⌜ r ≡ signOf (getD (now (ws .entry)) i (pos 0)) ⌝ }
-{
-    if words::negative_at(ws, i) { 2 } else { 1 }
-}
-
-// The value of each variable: 0 unassigned, 1 true, 2 false. Of the prefix's words it is the quantifier: 1 existential, 2 universal.
-pub(crate) fn values_of(lits: &[i32], count: usize) -> [u8; PLACES]
-    requires { ⌜ Written (now lits) count ⌝ }
-    ensures { λ r. ⌜ Values (among (take count (now (lits .entry)))) r ⌝ }
-{
-    let mut values = [0u8; PLACES];
-    let mut i = 0;
-    while i < count {
-        let v = words::size_at(lits, i);
-        values[v] = sign_at(lits, i);
-        i += 1;
-    }
-    values
-}
 
 // 1 if the quantifier changes from the word at i to the next.
 fn change_at(prefix: &[i32], i: usize) -> u16

@@ -2,47 +2,14 @@
 use crate::by_literal::LITERAL_PLACES;
 use crate::by_literal::signs_at;
 use crate::found::Picked;
-use crate::tables::PLACES;
-use words::Literal;
+use record::PLACES;
+use record::literal_at;
+use record::opposite_at;
+use record::true_at;
 ghost use mathlib.Core.Path.{_≡_};
-ghost use Prim.Native.Nat.{_≤_};
-ghost use lib.IntN.{pos, negℤ, natAbs};
-ghost use lib.ListN.{getD};
-ghost use Rattle.formula.specs.Limits.{limits};
-ghost use Rattle.rules.specs.Due.{literal, firstOf};
-ghost use Rattle.rules.specs.Inner.Ready.{Bound};
+ghost use Rattle.rules.specs.Due.{firstOf};
+ghost use Rattle.record.specs.Inner.Ready.{Bound};
 ghost use Rattle.rules.specs.Inner.Variables.{unassignedIn, monotoneIn};
-
-// The literal at an index, its opposite, and its variable made true. Past the end there is the word 0.
-pub(crate) fn literal_at(ws: &[i32], i: usize) -> Literal
-    ensures { λ r. ⌜ r ≡ literal (getD (now (ws .entry)) i (pos 0)) ⌝ }
-{
-    if i < ws.len() {
-        let word = ws[i];
-        return Literal(word);
-    }
-    Literal(0)
-}
-
-fn opposite_at(ws: &[i32], i: usize) -> Literal
-    requires { ⌜ natAbs (getD (now ws) i (pos 0)) ≤ limits .variables ⌝ }
-    ensures { λ r. ⌜ r ≡ literal (negℤ (getD (now (ws .entry)) i (pos 0))) ⌝ }
-{
-    let l = literal_at(ws, i);
-    let word = words::opposite(l.0);
-    Literal(word)
-}
-
-fn true_at(ws: &[i32], i: usize) -> Literal
-    requires { ⌜ natAbs (getD (now ws) i (pos 0)) ≤ limits .variables ⌝ }
-    ensures { λ r. ⌜ r ≡ literal (pos (natAbs (getD (now (ws .entry)) i (pos 0)))) ⌝ }
-{
-    if words::negative_at(ws, i) {
-        opposite_at(ws, i)
-    } else {
-        literal_at(ws, i)
-    }
-}
 
 // The first unassigned variable in prefix order, true.
 pub(crate) fn first_unassigned(prefix: &[i32], values: &[u8; PLACES]) -> Picked

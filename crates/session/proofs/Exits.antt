@@ -1,40 +1,37 @@
--- The ways out of opening, a step and a run: one law for each, from the facts on that path.
-use Prim.Native.Nat.{ℕ, _+_, _-_, _≤_, _<_}
+-- The ways out of opening and of a step: one law for each, from the facts on that path.
+use Prim.Native.Nat.{ℕ, _+_, _-_}
 use mathlib.Core.Path.{_≡_, sym, ap, _∙_}
 use mathlib.Core.List.{List}
 use native.Mathlib.Omega.{arith}
 use lib.IntN.{ℤ}
 use lib.ListN.{take}
-use borrow.Author.Tests.{eq-eqb, ne-eqb, lt-ltb, le-ltb}
+use borrow.Author.Tests.{eq-eqb, ne-eqb}
 use Rattle.words.specs.Outcomes.{outcome, unless-number}
 use Rattle.words.specs.Rows.{refusalOf}
 use Rattle.words.specs.Laws.Rows.{stops}
 use Rattle.words.specs.declared.Literal.{Literal}
 use Rattle.formula.specs.Formula.{variablesOf, prefixOf, formulaOf}
 use Rattle.theory.specs.Record.{among}
-use Rattle.rules.specs.declared.rule.State.the-variants.{Open}
-use Rattle.rules.specs.declared.rule.Reached.{Reached}
-use Rattle.rules.specs.declared.rule.Rule.{Rule}
+use Rattle.record.specs.declared.rule.State.the-variants.{Open}
+use Rattle.record.specs.declared.rule.Reached.{Reached}
+use Rattle.record.specs.declared.rule.Rule.{Rule}
 use Rattle.rules.specs.Due.{due}
-use Rattle.rules.specs.Search.{Search, search, reached}
-use Rattle.rules.specs.Trail.{recordOf, Trail, wiped, wipedTrail}
-use Rattle.rules.specs.Apply.{apply}
-use Rattle.rules.specs.Laws.Accepted.{kept-true}
-use Rattle.rules.specs.Inner.Ready.{OnBlock}
+use Rattle.record.specs.Search.{search, reached}
+use Rattle.record.specs.Trail.{recordOf, Trail, wiped, wipedTrail}
+use Rattle.record.specs.Apply.{apply}
+use Rattle.record.specs.Laws.Accepted.{kept-true}
 use Rattle.session.specs.declared.Revision.{Revision}
 use Rattle.session.specs.declared.Session.{Session}
 use Rattle.session.specs.declared.Answer.the-variants.{To, Refused}
 use Rattle.session.specs.declared.Stepped.the-variants.{Next, Not}
-use Rattle.session.specs.declared.Ran.the-variants.{Until, Stopped}
-use Rattle.session.specs.Memory.{Memory, places}
-use Rattle.session.specs.Reasons.{Why, why, told}
-use Rattle.session.specs.Refusals.{lastRevision, openRefusal, sessionRows, ofStep, stepRefusal, ofRun, runRefusal}
+use Rattle.memory.specs.Memory.{Memory, places}
+use Rattle.memory.specs.Reasons.{Why, why, told}
+use Rattle.memory.specs.Refusals.{openRefusal}
+use Rattle.session.specs.Refusals.{lastRevision, sessionRows, ofStep, stepRefusal}
 use Rattle.session.specs.Outcome.{session, openOutcome, stepOutcome}
-use Rattle.session.specs.Run.{trip, runFrom, whyFrom, runOf}
-use Rattle.session.specs.Laws.Accepted.{guarded, step-from-15, run-from-15}
-use Rattle.session.specs.Laws.Runs.{travelled}
+use Rattle.session.specs.Laws.Accepted.{guarded, step-from-15}
 use Rattle.session.specs.Inner.Guards.{sessionRefusal, proposalRefusal}
-use Rattle.session.specs.Inner.Reasons.{OnMemory}
+use Rattle.memory.specs.Inner.Reasons.{OnMemory}
 use Rattle.formula.specs.Limits.{limits}
 
 -- ---- opening
@@ -92,32 +89,3 @@ module _ (s : Session) (b : List ℤ) (m : Memory) (seen : Revision) (l : Litera
             let x = ap (λ (w : Why). w .reasons) v in
             let q = ap (λ (w : Why). w .last) v in
             rw (step-from-16, y, g .live, ← is, ← a, is′, ← x, ← q)
-
--- ---- a run
-module _ (s : Session) (b : List ℤ) (m : Memory) (seen : Revision) (budget : ℕ) (preferred : List ℤ) {r : ℕ} (e : r ≡ sessionRefusal limits s b m seen) where
-  pub run-stops : (r ≡ 0 → ⊥) → outcome (Stopped r) m ≡ runOf limits s b m seen budget preferred
-  unfolding runOf runRefusal sessionRefusal
-  run-stops f = rw (← stops (sessionRows limits s b m seen) (ofRun s b m seen budget) e f) (unless-number Stopped r m _ f)
-
-  module _ (z : r ≡ 0) where
-    pub run-over : lastRevision - s .revision .0 < budget → outcome (Stopped 15) m ≡ runOf limits s b m seen budget preferred
-    unfolding runOf
-    run-over h = rw (run-from-15 limits s b m seen budget (sym e ∙ z), lt-ltb lastRevision (s .revision .0 + budget) (omega arith))
-
-    pub run-moves : s .revision .0 ≤ lastRevision → budget ≤ lastRevision - s .revision .0
-        → (t : Reached) (steps : ℕ) (t′ : Trail) → trip (reached t t′) steps ≡ runFrom (formulaOf b) preferred budget (search (m .trail) (s .length) Open) 0
-        → (ws : List ℕ) (w : ℕ) → why ws w ≡ whyFrom (formulaOf b) preferred budget (search (m .trail) (s .length) Open) (why (m .reasons) 0)
-        → {s′ : Session} → s′ ≡ session (t .count) (s .revision .0 + steps) (t .state)
-        → outcome (Until s′ steps w) (record { trail = t′; reasons = ws }) ≡ runOf limits s b m seen budget preferred
-    unfolding runOf
-    run-moves low h t steps t′ a ws w v d =
-        let g = guarded limits s b m seen (sym e ∙ z) in
-        rw (run-from-15 limits s b m seen budget (sym e ∙ z), le-ltb lastRevision (s .revision .0 + budget) (omega arith), g .live, ← a, ← v, d)
-
--- a run's steps are at most its budget
-pub steps-within : {b : List ℤ} {t : Trail} {n : ℕ} → OnBlock limits b t n → (budget : ℕ) (preferred : List ℤ) {u : Search} {steps : ℕ}
-    → trip u steps ≡ runFrom (formulaOf b) preferred budget (search t n Open) 0 → steps ≤ budget
-unfolding formulaOf
-steps-within {b} {t} {n} o budget preferred e =
-    let w = travelled (formulaOf b) preferred budget (search t n Open) (o .kept) .within in
-    rw (← e) at w

@@ -1,58 +1,34 @@
 -- Which row turns a call away, one law for each way out of the guard: the rows passed so far do not hold, the next one does.
-use Prim.Native.Nat.{ℕ, zero, suc, _≤_, _<_}
+use Prim.Native.Nat.{ℕ}
 use mathlib.Core.Path.{_≡_, sym, _∙_}
 use mathlib.Core.Bool.{Bool, true, false, not}
 use mathlib.Core.List.{List}
 use native.Mathlib.Omega.{arith}
 use lib.IntN.{ℤ, natAbs}
-use borrow.Author.Tests.{eq-eqb, ne-eqb, lt-ltb, le-ltb}
+use borrow.Author.Tests.{eq-eqb, ne-eqb}
 use Rattle.words.specs.Rows.{refusalOf}
 use Rattle.words.specs.Laws.Rows.{stops}
 use Rattle.words.specs.declared.Literal.{Literal}
-use Rattle.formula.specs.declared.Checked.{Checked}
-use Rattle.formula.specs.declared.Checked.the-variants.{Accepted, Refused}
 use Rattle.formula.specs.Limits.{limits}
-use Rattle.formula.specs.Formula.{variablesOf, clauseCountOf, prefixOf}
-use Rattle.formula.specs.Block.{rows, refusal}
-use Rattle.formula.specs.Check.{checkedOf}
-use Rattle.formula.specs.Laws.Check.{checked-accepted, checked-refused}
+use Rattle.formula.specs.Formula.{clauseCountOf, prefixOf}
 use Rattle.theory.specs.Record.{Assignment}
 use Rattle.theory.specs.Tests.{isOpen}
-use Rattle.rules.specs.declared.rule.Rule.{Rule}
-use Rattle.rules.specs.Check.{badRecord}
+use Rattle.record.specs.declared.rule.Rule.{Rule}
+use Rattle.record.specs.Check.{badRecord}
 use Rattle.rules.specs.Preferred.{decides}
-use Rattle.rules.specs.Inner.Ready.{OnBuffers}
-use Rattle.rules.specs.Laws.Records.{good}
-use Rattle.rules.specs.Laws.Accepted.{prefix-length}
+use Rattle.record.specs.Inner.Ready.{OnBuffers}
+use Rattle.record.specs.Laws.Records.{good}
+use Rattle.record.specs.Laws.Accepted.{prefix-length}
 use Rattle.session.specs.declared.Revision.{Revision}
 use Rattle.session.specs.declared.Session.{Session}
-use Rattle.session.specs.Memory.{Memory, places}
-use Rattle.session.specs.Reasons.{badReasons}
-use Rattle.session.specs.Refusals.{over, ofBuffers, openRows, openRefusal, ofSession}
-use Rattle.session.specs.Laws.Accepted.{Opened, opened, buffers-room, reasons-room, from-11, from-12}
-use Rattle.session.specs.Inner.Reasons.{Beside}
+use Rattle.memory.specs.Memory.{Memory, places}
+use Rattle.memory.specs.Reasons.{badReasons}
+use Rattle.memory.specs.Refusals.{openRows, openRefusal}
+use Rattle.session.specs.Refusals.{over, ofSession}
+use Rattle.memory.specs.Laws.Opened.{Opened, opened, buffers-room, reasons-room}
+use Rattle.session.specs.Laws.Accepted.{from-12}
+use Rattle.memory.specs.Inner.Reasons.{Beside}
 use Rattle.session.specs.Inner.Guards.{sessionRefusal, proposalRefusal}
-
--- ---- the block's rows and row 11
-refused-some : (n k : ℕ) → checkedOf n ≡ Refused k → k ≡ 0 → ⊥
-unfolding checkedOf
-refused-some zero k e z = let y : _≡_ {A = ℕ} 0 1 = cc in omega arith
-refused-some (suc n) k e z = let y : k ≡ suc n = cc in omega arith
-
-module _ (b : List ℤ) (n : ℕ) {r : Checked} (e : r ≡ checkedOf (refusal limits b)) where
-  pub block-refused : (k : ℕ) → r ≡ Refused k → k ≡ openRefusal limits b n
-  unfolding openRefusal refusal
-  block-refused k h = stops (rows limits b) (ofBuffers b n) (sym (checked-refused (refusal limits b) k (sym e ∙ h))) (refused-some (refusal limits b) k (sym e ∙ h))
-
-  module _ (h : r ≡ Accepted) {v : ℕ} (is : v ≡ variablesOf b) where
-    block-passed : openRefusal limits b n ≡ refusalOf (ofBuffers b n)
-    block-passed = from-11 limits b n (checked-accepted (refusal limits b) (sym e ∙ h))
-
-    pub buffers-short : n < v → 11 ≡ openRefusal limits b n
-    buffers-short x = rw (block-passed, ← is, lt-ltb n v x)
-
-    pub buffers-pass : v ≤ n → 0 ≡ openRefusal limits b n
-    buffers-pass x = rw (block-passed, ← is, le-ltb n v x)
 
 -- ---- rows 1 to 14
 module _ (s : Session) (b : List ℤ) (m : Memory) (seen : Revision) {n r : ℕ} (is : n ≡ places m) (e : r ≡ openRefusal limits b n) where

@@ -1,5 +1,3 @@
 -- What only the proofs of this crate need.
 pub mod Guards
 pub mod Exits
-pub mod Noted
-pub mod Rounds

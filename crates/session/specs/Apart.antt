@@ -7,16 +7,16 @@ use lib.IntN.{ℤ}
 use Rattle.words.specs.declared.Literal.{Literal}
 use Rattle.formula.specs.Limits.{Limits}
 use Rattle.formula.specs.Formula.{Formula, formulaOf}
-use Rattle.rules.specs.declared.rule.State.{State}
-use Rattle.rules.specs.declared.rule.State.the-variants.{Open, Valid, Unsat}
-use Rattle.rules.specs.Trail.{Trail}
-use Rattle.rules.specs.Search.{Search}
+use Rattle.record.specs.declared.rule.State.{State}
+use Rattle.record.specs.declared.rule.State.the-variants.{Open, Valid, Unsat}
+use Rattle.record.specs.Trail.{Trail}
+use Rattle.record.specs.Search.{Search}
 use Rattle.session.specs.declared.Revision.{Revision}
 use Rattle.session.specs.declared.Session.{Session}
 use Rattle.session.specs.declared.Stepped.the-variants.{Next}
 use Rattle.session.specs.declared.Ran.the-variants.{Until}
-use Rattle.session.specs.Memory.{Memory}
-use Rattle.session.specs.Reasons.{Why, why}
+use Rattle.memory.specs.Memory.{Memory}
+use Rattle.memory.specs.Reasons.{Why, why}
 use Rattle.session.specs.Refusals.{stepRefusal, runRefusal}
 use Rattle.session.specs.Refused.{unless-next, unless-until}
 use Rattle.session.specs.Outcome.{searchOf, stepOutcome}

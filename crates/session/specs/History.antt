@@ -17,15 +17,15 @@ use Rattle.formula.specs.Truth.{true?}
 use Rattle.theory.specs.Rules.{going, Path, stop}
 use Rattle.theory.specs.Laws.Moves.{path-snoc, good-none}
 use Rattle.theory.specs.Theorem.{accepted-any-order}
-use Rattle.rules.specs.declared.rule.State.{State}
-use Rattle.rules.specs.declared.rule.State.the-variants.{Open, Valid, Unsat}
-use Rattle.rules.specs.Due.{literal}
-use Rattle.rules.specs.Trail.{recordOf, wipedTrail}
-use Rattle.rules.specs.Laws.Wiped.{wiped-length}
-use Rattle.rules.specs.Laws.Good.{good-kept}
-use Rattle.rules.specs.Search.{standingOf}
-use Rattle.rules.specs.Inner.Ready.{KeptIn}
-use Rattle.rules.specs.Laws.Accepted.{prefix-length, accepted-binds}
+use Rattle.record.specs.declared.rule.State.{State}
+use Rattle.record.specs.declared.rule.State.the-variants.{Open, Valid, Unsat}
+use Rattle.record.specs.Found.{literal}
+use Rattle.record.specs.Trail.{recordOf, wipedTrail}
+use Rattle.record.specs.Laws.Wiped.{wiped-length}
+use Rattle.record.specs.Laws.Good.{good-kept}
+use Rattle.record.specs.Search.{standingOf}
+use Rattle.record.specs.Inner.Ready.{KeptIn}
+use Rattle.record.specs.Laws.Accepted.{prefix-length, accepted-binds}
 use Rattle.session.specs.declared.Revision.{Revision}
 use Rattle.session.specs.declared.Session.{Session}
 use Rattle.session.specs.declared.Answer.the-variants.{To}
@@ -33,13 +33,15 @@ use Rattle.session.specs.declared.Stepped.{Stepped}
 use Rattle.session.specs.declared.Stepped.the-variants.{Next, Not}
 use Rattle.session.specs.declared.Ran.{Ran}
 use Rattle.session.specs.declared.Ran.the-variants.{Until, Stopped}
-use Rattle.session.specs.Memory.{Memory, places}
+use Rattle.memory.specs.Memory.{Memory, places}
 use Rattle.session.specs.Forced.{Forced, Explained}
-use Rattle.session.specs.Reasons.{badReasons}
-use Rattle.session.specs.Refusals.{lastRevision, openRefusal}
+use Rattle.memory.specs.Reasons.{badReasons}
+use Rattle.memory.specs.Refusals.{openRefusal}
+use Rattle.session.specs.Refusals.{lastRevision}
 use Rattle.session.specs.Outcome.{session, openOutcome}
 use Rattle.session.specs.Calls.{Desk, desk, Call, step, run, afterStep, stepAt, runAt, call, play}
-use Rattle.session.specs.Laws.Accepted.{opened, buffers-room, reasons-room, Sound, Guarded, step-last, run-last, step-passes}
+use Rattle.memory.specs.Laws.Opened.{opened, buffers-room, reasons-room}
+use Rattle.session.specs.Laws.Accepted.{Sound, Guarded, step-last, run-last, step-passes}
 use Rattle.session.specs.Laws.Each.{Each}
 use Rattle.session.specs.Refused.{unless-to, step-refused, run-refused, step-refused-leaves}
 use Rattle.session.specs.Stepped.{accepted-is, accepted-step}

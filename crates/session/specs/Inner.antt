@@ -1,3 +1,2 @@
 -- What the functions of a call say to each other.
 pub mod Guards
-pub mod Reasons

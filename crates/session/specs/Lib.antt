@@ -1,9 +1,6 @@
 -- Open, step and run: what each answers and leaves, for every input. To be read in this order.
 
--- what is lent; when a call is refused; what it answers and leaves
-pub mod Memory
-pub mod States
-pub mod Reasons
+-- when a call is refused; what it answers and leaves
 pub mod Refusals
 pub mod Outcome
 pub mod Run

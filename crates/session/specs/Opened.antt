@@ -7,17 +7,17 @@ use lib.IntN.{ℤ, pos}
 use lib.ListN.{length, getD}
 use Rattle.formula.specs.Formula.{variablesOf}
 use Rattle.formula.specs.Limits.{Limits}
-use Rattle.rules.specs.declared.rule.State.the-variants.{Open}
-use Rattle.rules.specs.Laws.Wiped.{wiped-length, wiped-inside, wiped-outside}
+use Rattle.record.specs.declared.rule.State.the-variants.{Open}
+use Rattle.record.specs.Laws.Wiped.{wiped-length, wiped-inside, wiped-outside}
 use Rattle.session.specs.declared.Revision.{Revision}
 use Rattle.session.specs.declared.Session.{Session}
 use Rattle.session.specs.declared.Answer.the-variants.{To}
-use Rattle.session.specs.Memory.{Memory, places}
-use Rattle.session.specs.Refusals.{openRefusal}
+use Rattle.memory.specs.Memory.{Memory, places}
+use Rattle.memory.specs.Refusals.{openRefusal}
 use Rattle.session.specs.Refused.{unless-to}
 use Rattle.session.specs.Outcome.{session, openOutcome}
-use Rattle.rules.specs.Laws.Untouched.{wiped-blank, wiped-other}
-use Rattle.rules.specs.Trail.{entryAt, noEntry}
+use Rattle.record.specs.Laws.Untouched.{wiped-blank, wiped-other}
+use Rattle.record.specs.Trail.{entryAt, noEntry}
 
 pub record Fresh (b : List ℤ) (rev : Revision) (s : Session) (m m′ : Memory) : Type 0 where
   -- [session.fresh]

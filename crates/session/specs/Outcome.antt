@@ -6,21 +6,22 @@ use Rattle.words.specs.Outcomes.{Outcome, outcome, unless}
 use Rattle.words.specs.declared.Literal.{Literal}
 use Rattle.formula.specs.Formula.{formulaOf, variablesOf, prefixOf}
 use Rattle.formula.specs.Limits.{Limits}
-use Rattle.rules.specs.declared.rule.State.{State}
-use Rattle.rules.specs.declared.rule.State.the-variants.{Open}
+use Rattle.record.specs.declared.rule.State.{State}
+use Rattle.record.specs.declared.rule.State.the-variants.{Open}
 use Rattle.rules.specs.Due.{due}
-use Rattle.rules.specs.Trail.{wiped, wipedTrail}
-use Rattle.rules.specs.Search.{Search, search, recordIn}
-use Rattle.rules.specs.Apply.{apply}
+use Rattle.record.specs.Trail.{wiped, wipedTrail}
+use Rattle.record.specs.Search.{Search, search, recordIn}
+use Rattle.record.specs.Apply.{apply}
 use Rattle.session.specs.declared.Revision.{Revision}
 use Rattle.session.specs.declared.Session.{Session}
 use Rattle.session.specs.declared.Answer.{Answer}
 use Rattle.session.specs.declared.Answer.the-variants.{To, Refused}
 use Rattle.session.specs.declared.Stepped.{Stepped}
 use Rattle.session.specs.declared.Stepped.the-variants.{Next, Not}
-use Rattle.session.specs.Memory.{Memory, memoryOf, places}
-use Rattle.session.specs.Reasons.{reasonOf, noted}
-use Rattle.session.specs.Refusals.{openRefusal, stepRefusal}
+use Rattle.memory.specs.Memory.{Memory, memoryOf, places}
+use Rattle.memory.specs.Reasons.{reasonOf, noted}
+use Rattle.memory.specs.Refusals.{openRefusal}
+use Rattle.session.specs.Refusals.{stepRefusal}
 
 -- [session]
 abbrev pub session : ℕ → ℕ → State → Session

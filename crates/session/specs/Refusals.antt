@@ -1,39 +1,29 @@
--- When a call on a session is turned away: rows 11 to 17, after the block's rows, in the table's order.
+-- When a call on a session is turned away: rows 12 to 17, after the block's rows and row 11, in the table's order.
 use Prim.Native.Nat.{ℕ, _+_}
-use mathlib.Core.Bool.{Bool, true, false, not, _&&_, _||_}
+use mathlib.Core.Bool.{Bool, true, false, not, _&&_}
 use mathlib.Core.List.{List, [], _∷_, _++_}
 use lib.Dec.{eqb, ltb}
 use lib.IntN.{ℤ, natAbs}
 use Rattle.words.specs.Rows.{Row, row, refusalOf}
 use Rattle.words.specs.declared.Literal.{Literal}
 use Rattle.formula.specs.Limits.{Limits}
-use Rattle.formula.specs.Formula.{formulaOf, variablesOf, clauseCountOf, prefixOf}
-use Rattle.formula.specs.Block.{rows}
+use Rattle.formula.specs.Formula.{formulaOf}
 use Rattle.theory.specs.Record.{Assignment, trueIn}
 use Rattle.theory.specs.Tests.{isOpen}
-use Rattle.rules.specs.declared.rule.State.{State}
-use Rattle.rules.specs.declared.rule.State.the-variants.{Open, Valid, Unsat}
-use Rattle.rules.specs.declared.rule.Rule.{Rule}
-use Rattle.rules.specs.Trail.{recordOf}
+use Rattle.record.specs.declared.rule.State.{State}
+use Rattle.record.specs.declared.rule.State.the-variants.{Open, Valid, Unsat}
+use Rattle.record.specs.declared.rule.Rule.{Rule}
+use Rattle.record.specs.Trail.{recordOf}
 use Rattle.rules.specs.Due.{due}
 use Rattle.rules.specs.Preferred.{decides}
-use Rattle.rules.specs.Check.{badRecord}
 use Rattle.session.specs.declared.Revision.{Revision}
 use Rattle.session.specs.declared.Session.{Session}
-use Rattle.session.specs.Memory.{Memory, places}
-use Rattle.session.specs.Reasons.{badReasons}
+use Rattle.memory.specs.Memory.{Memory, places}
+use Rattle.memory.specs.Refusals.{broken, openRows}
 
 -- the largest revision, 2^64 - 1
 abbrev pub lastRevision : ℕ
 lastRevision = 18446744073709551615
-
--- [row.11] a buffer has fewer than V places, n being those that each of them has
-abbrev pub short : List ℤ → ℕ → Bool
-short b n = ltb n (variablesOf b)
-
--- [row.12] the record of n entries is broken, or one of its reasons is wrong
-abbrev pub broken : List ℤ → Memory → ℕ → Bool
-broken b m n = badRecord (prefixOf b) (m .trail) n || badReasons (clauseCountOf b) (m .trail .kinds) (m .reasons) n
 
 -- [row.13] the session has ended
 abbrev pub over : State → Bool
@@ -50,16 +40,6 @@ abbrev pub proposed : Literal → Bool
 proposed l = not (eqb (natAbs (l .0)) 0)
 
 -- ---- each call's table
-abbrev pub ofBuffers : List ℤ → ℕ → List Row
-ofBuffers b n = row 11 (short b n) ∷ []
-
--- [calls.open] on buffers of n places
-abbrev pub openRows : Limits → List ℤ → ℕ → List Row
-openRows L b n = rows L b ++ ofBuffers b n
-
-unfoldable pub openRefusal : Limits → List ℤ → ℕ → ℕ
-openRefusal L b n = refusalOf (openRows L b n)
-
 -- [row.16] [row.17] a proposal, where a rule is due
 abbrev pub ofProposal : List ℤ → Assignment → Rule → Literal → List Row
 ofProposal p ρ rule l =

@@ -22,8 +22,9 @@ use Rattle.session.specs.declared.Stepped.{Stepped}
 use Rattle.session.specs.declared.Stepped.the-variants.{Next, Not}
 use Rattle.session.specs.declared.Ran.{Ran}
 use Rattle.session.specs.declared.Ran.the-variants.{Until, Stopped}
-use Rattle.session.specs.Memory.{Memory, places}
-use Rattle.session.specs.Refusals.{lastRevision, over, openRefusal, stepRows, stepRefusal, runRows, runRefusal}
+use Rattle.memory.specs.Memory.{Memory, places}
+use Rattle.memory.specs.Refusals.{openRefusal}
+use Rattle.session.specs.Refusals.{lastRevision, over, stepRows, stepRefusal, runRows, runRefusal}
 use Rattle.session.specs.Outcome.{openOutcome, stepOutcome}
 use Rattle.session.specs.Run.{runOf}
 

@@ -11,8 +11,9 @@ use Rattle.formula.specs.Rows.{blockNumbers}
 use Rattle.formula.specs.Limits.{Limits}
 use Rattle.session.specs.declared.Revision.{Revision}
 use Rattle.session.specs.declared.Session.{Session}
-use Rattle.session.specs.Memory.{Memory}
-use Rattle.session.specs.Refusals.{openRows, openRefusal, stepRows, stepRefusal, runRows, runRefusal}
+use Rattle.memory.specs.Memory.{Memory}
+use Rattle.memory.specs.Refusals.{openRows, openRefusal}
+use Rattle.session.specs.Refusals.{stepRows, stepRefusal, runRows, runRefusal}
 
 -- the numbers of each table in its order, and 0 for an accepted call
 abbrev pub openNumbers : List ℕ

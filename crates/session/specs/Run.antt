@@ -7,18 +7,18 @@ use Rattle.words.specs.Outcomes.{Outcome, outcome, unless}
 use Rattle.formula.specs.Formula.{Formula, formulaOf}
 use Rattle.formula.specs.Limits.{Limits}
 use Rattle.theory.specs.Record.{trueIn}
-use Rattle.rules.specs.declared.rule.State.{State}
-use Rattle.rules.specs.declared.rule.State.the-variants.{Open, Valid, Unsat}
+use Rattle.record.specs.declared.rule.State.{State}
+use Rattle.record.specs.declared.rule.State.the-variants.{Open, Valid, Unsat}
 use Rattle.rules.specs.Due.{due}
-use Rattle.rules.specs.Search.{Search, recordIn}
+use Rattle.record.specs.Search.{Search, recordIn}
 use Rattle.rules.specs.Preferred.{proposalOf}
-use Rattle.rules.specs.Apply.{apply}
+use Rattle.record.specs.Apply.{apply}
 use Rattle.session.specs.declared.Revision.{Revision}
 use Rattle.session.specs.declared.Session.{Session}
 use Rattle.session.specs.declared.Ran.{Ran}
 use Rattle.session.specs.declared.Ran.the-variants.{Until, Stopped}
-use Rattle.session.specs.Memory.{Memory, memoryOf}
-use Rattle.session.specs.Reasons.{Why, why, told}
+use Rattle.memory.specs.Memory.{Memory, memoryOf}
+use Rattle.memory.specs.Reasons.{Why, why, told}
 use Rattle.session.specs.Refusals.{runRefusal}
 use Rattle.session.specs.Outcome.{moved, searchOf}
 

@@ -13,18 +13,19 @@ use Rattle.formula.specs.Limits.{Limits}
 use Rattle.formula.specs.Formula.{formulaOf, prefixOf}
 use Rattle.formula.specs.Block.{refusal}
 use Rattle.theory.specs.Record.{trueIn}
-use Rattle.rules.specs.declared.rule.State.the-variants.{Open}
-use Rattle.rules.specs.Due.{literal, due}
-use Rattle.rules.specs.Search.{Search, recordIn}
-use Rattle.rules.specs.Inner.Ready.{KeptIn}
+use Rattle.record.specs.declared.rule.State.the-variants.{Open}
+use Rattle.record.specs.Found.{literal}
+use Rattle.rules.specs.Due.{due}
+use Rattle.record.specs.Search.{Search, recordIn}
+use Rattle.record.specs.Inner.Ready.{KeptIn}
 use Rattle.rules.specs.Preferred.{proposalOf}
 use Rattle.session.specs.declared.Revision.{Revision}
 use Rattle.session.specs.declared.Session.{Session}
 use Rattle.session.specs.declared.Ran.{Ran}
 use Rattle.session.specs.declared.Ran.the-variants.{Until, Stopped}
-use Rattle.session.specs.Memory.{memoryOf}
+use Rattle.memory.specs.Memory.{memoryOf}
 use Rattle.session.specs.Refusals.{lastRevision, over, runRefusal}
-use Rattle.session.specs.Reasons.{Why, why, told}
+use Rattle.memory.specs.Reasons.{Why, why, told}
 use Rattle.session.specs.Laws.Accepted.{over-open, Sound, Guarded, run-guarded, step-passes}
 use Rattle.session.specs.Laws.Sound.{sound-after}
 use Rattle.session.specs.Outcome.{moved, searchOf}

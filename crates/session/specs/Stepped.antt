@@ -9,24 +9,24 @@ use Rattle.words.specs.declared.Literal.{Literal}
 use Rattle.formula.specs.Formula.{formulaOf, prefixOf}
 use Rattle.formula.specs.Limits.{Limits}
 use Rattle.theory.specs.Rules.{Step}
-use Rattle.rules.specs.declared.rule.State.the-variants.{Open}
-use Rattle.rules.specs.declared.rule.Rule.{Rule}
+use Rattle.record.specs.declared.rule.State.the-variants.{Open}
+use Rattle.record.specs.declared.rule.Rule.{Rule}
 use Rattle.rules.specs.Due.{due}
-use Rattle.rules.specs.Search.{Search, standingOf}
-use Rattle.rules.specs.Trail.{recordOf, entryAt, noEntry}
-use Rattle.rules.specs.Apply.{apply}
-use Rattle.rules.specs.Inner.Ready.{KeptIn}
-use Rattle.rules.specs.Laws.Untouched.{apply-lengths, Elsewhere, apply-untouched, apply-zeros, apply-ended}
+use Rattle.record.specs.Search.{Search, standingOf}
+use Rattle.record.specs.Trail.{recordOf, entryAt, noEntry}
+use Rattle.record.specs.Apply.{apply}
+use Rattle.record.specs.Inner.Ready.{KeptIn}
+use Rattle.record.specs.Laws.Untouched.{apply-lengths, Elsewhere, apply-untouched, apply-zeros, apply-ended}
 use Rattle.rules.specs.Laws.Steps.{due-step, due-keeps}
 use Rattle.session.specs.declared.Revision.{Revision}
 use Rattle.session.specs.declared.Session.{Session}
 use Rattle.session.specs.declared.Stepped.the-variants.{Next}
-use Rattle.session.specs.Memory.{Memory, memoryOf}
+use Rattle.memory.specs.Memory.{Memory, memoryOf}
 use Rattle.session.specs.Refusals.{stepRefusal}
-use Rattle.session.specs.Reasons.{reasonOf, noted}
+use Rattle.memory.specs.Reasons.{reasonOf, noted}
 use Rattle.session.specs.Laws.Accepted.{Sound, step-guarded}
 use Rattle.session.specs.Forced.{Explained}
-use Rattle.session.specs.Laws.Noted.{noted-length, noted-untouched, noted-zeros}
+use Rattle.memory.specs.Laws.Noted.{noted-length, noted-untouched, noted-zeros}
 use Rattle.session.specs.Laws.Each.{Each}
 use Rattle.session.specs.Laws.Sound.{sound-after}
 use Rattle.session.specs.Laws.Forced.{explained-after}

@@ -1,63 +1,24 @@
-// The rows of the table that speak of buffers, of a session and of a proposal, in its order. Row 15 needs no look at them: it stands with the calls.
+// The rows of the table that speak of a session and of a proposal, in its order. Row 15 needs no look at them: it stands with the calls.
 ghost use mathlib.Core.Path.{_≡_};
 ghost use lib.ListN.{take};
-ghost use Rattle.formula.specs.Limits.{limits};
 ghost use Rattle.formula.specs.Formula.{prefixOf};
 ghost use Rattle.theory.specs.Record.{among};
-ghost use Rattle.session.specs.Memory.{memory, places};
-ghost use Rattle.rules.specs.Trail.{trail};
+ghost use Rattle.memory.specs.Memory.{memory};
 ghost use Rattle.rules.specs.Preferred.{decides};
-ghost use Rattle.rules.specs.Inner.Ready.{HeldOn};
-ghost use Rattle.rules.specs.Inner.Tables.{Levels};
-ghost use Rattle.session.specs.Refusals.{over};
-ghost use Rattle.session.specs.Promises.{RecordPlacesPromise, OpenRefusalPromise};
-ghost use Rattle.session.specs.Inner.Guards.{sessionRefusal, proposalRefusal};
+ghost use Rattle.record.specs.Inner.Ready.{HeldOn};
+ghost use Rattle.rules.specs.Inner.Levels.{Levels};
+ghost use Rattle.session.specs.Promises.{IsOverPromise, SessionRefusalPromise};
+ghost use Rattle.session.specs.Inner.Guards.{proposalRefusal};
 use crate::Revision;
 use crate::Session;
-use crate::reasons;
-use formula::Checked;
-use rules::PLACES;
-use rules::Rule;
-use rules::State;
+use record::PLACES;
+use record::Rule;
+use record::State;
 use words::Literal;
 
-// How many places each of the record's two buffers has, and each of all three.
-pub fn record_places(lits: &[i32], kinds: &[u8]) -> usize
-    ensures { λ r. ⌜ RecordPlacesPromise (trail (now (lits .entry)) (now (kinds .entry))) r ⌝ }
-{
-    if lits.len() < kinds.len() {
-        return lits.len();
-    }
-    kinds.len()
-}
-
-pub(crate) fn places(lits: &[i32], kinds: &[u8], reasons: &[u32]) -> usize
-    ensures { λ r. ⌜ r ≡ places (memory (now (lits .entry)) (now (kinds .entry)) (now (reasons .entry))) ⌝ }
-{
-    let both = record_places(lits, kinds);
-    if both < reasons.len() {
-        return both;
-    }
-    reasons.len()
-}
-
-// The block's rows and row 11, on buffers of so many places: the number of the first that applies, 0 if none does. A page asks them too.
-pub fn open_refusal(block: &[i32], places: usize) -> u32
-    ensures { λ r. ⌜ OpenRefusalPromise (now (block .entry)) places r ⌝ }
-{
-    match formula::check(block) {
-        Checked::Refused(number) => number,
-        Checked::Accepted => if places < words::size_at(block, 0) {
-            11
-        } else {
-            0
-        },
-    }
-}
-
 // Whether a session has ended.
-pub(crate) fn is_over(state: State) -> bool
-    ensures { λ r. ⌜ r ≡ over state ⌝ }
+pub fn is_over(state: State) -> bool
+    ensures { λ r. ⌜ IsOverPromise state r ⌝ }
 {
     match state {
         State::Open => false,
@@ -84,8 +45,8 @@ pub(crate) fn is_decide(rule: Rule) -> bool
     }
 }
 
-// The same and rows 12 to 14, which a step and a run share.
-pub(crate) fn session_refusal(
+// The block's rows and rows 11 to 14, which a step and a run share: the number of the first that applies, 0 if none does.
+pub fn session_refusal(
     session: Session,
     block: &[i32],
     lits: &[i32],
@@ -93,17 +54,17 @@ pub(crate) fn session_refusal(
     reasons: &[u32],
     seen: Revision,
 ) -> u32
-    ensures { λ r. ⌜ r ≡ sessionRefusal limits session (now (block .entry)) (memory (now (lits .entry)) (now (kinds .entry)) (now (reasons .entry))) seen ⌝ }
+    ensures { λ r. ⌜ SessionRefusalPromise session (now (block .entry)) (memory (now (lits .entry)) (now (kinds .entry)) (now (reasons .entry))) seen r ⌝ }
 {
-    let refused = open_refusal(block, places(lits, kinds, reasons));
+    let refused = memory::open_refusal(block, memory::places(lits, kinds, reasons));
     if refused != 0 {
         return refused;
     }
     let count = session.length;
-    if rules::bad_record(block, lits, kinds, count) {
+    if record::bad_record(block, lits, kinds, count) {
         return 12;
     }
-    if reasons::bad_reasons(block, kinds, reasons, count) {
+    if memory::bad_reasons(block, kinds, reasons, count) {
         return 12;
     }
     let state = session.state;

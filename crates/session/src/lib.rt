@@ -1,24 +1,20 @@
 // A session that goes step by step, and the run with a budget. [demand.1.any] [demand.1.ends] No entrance asks anything of its input, and each of
 // them comes to an end.
 ghost use mathlib.Core.Path.{_≡_};
-ghost use Rattle.session.specs.Memory.{memory};
+ghost use Rattle.memory.specs.Memory.{memory};
 ghost use Rattle.session.specs.Outcome.{session};
 ghost use Rattle.session.specs.Promises.{OpenPromise, StepPromise, RunPromise};
 
 mod guard; // which row of the table turns a call away, but for row 15
-mod reasons; // why an entry was made
 mod searches; // rule after rule
-mod states; // a state as a number
 
 use formula::LITERAL_PLACES;
-pub use guard::open_refusal;
-pub use guard::record_places;
-use rules::Reached;
-use rules::State;
+pub use guard::is_over;
+pub use guard::session_refusal;
+use record::Reached;
+use record::State;
 pub use searches::Searched;
 pub use searches::search;
-pub use states::number_of;
-pub use states::state_of;
 use words::Literal;
 
 // [session.types] A revision and a literal are numbers of different types: neither can stand for the other.
@@ -66,13 +62,13 @@ pub fn open(
 ) -> Answer
     ensures { λ r. ⌜ OpenPromise (now (block .entry)) (memory (now (lits .entry)) (now (kinds .entry)) (now (reasons .entry))) first r (memory (now (lits .exit)) (now (kinds .exit)) (now (reasons .exit))) ⌝ }
 {
-    let refused = open_refusal(block, guard::places(lits, kinds, reasons));
+    let refused = memory::open_refusal(block, memory::places(lits, kinds, reasons));
     if refused != 0 {
         return Answer::Refused(refused);
     }
     let n = words::size_at(block, 0);
-    rules::clear(lits, kinds, n);
-    reasons::wipe(reasons, 0, n);
+    record::clear(lits, kinds, n);
+    memory::wipe(reasons, 0, n);
     Answer::To(Session {
         length: 0,
         revision: first,
@@ -109,8 +105,8 @@ impl Session {
         if improper != 0 {
             return Stepped::Not(improper);
         }
-        let reason = reasons::tell(reasons, rule, count);
-        let reached = rules::apply(block, lits, kinds, count, rule, proposal);
+        let reason = memory::tell(reasons, rule, count);
+        let reached = record::apply(block, lits, kinds, count, rule, proposal);
         Stepped::Next {
             session: moved(reached, revision + 1),
             reason: reason,

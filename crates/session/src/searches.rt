@@ -3,26 +3,27 @@ ghost use mathlib.Core.Path.{_≡_};
 ghost use lib.ListN.{take};
 ghost use Rattle.formula.specs.Formula.{prefixOf, formulaOf};
 ghost use Rattle.theory.specs.Record.{among};
-ghost use Rattle.rules.specs.Due.{literal, due};
-ghost use Rattle.rules.specs.Trail.{trail, recordOf};
-ghost use Rattle.rules.specs.Search as rules;
+ghost use Rattle.record.specs.Found.{literal};
+ghost use Rattle.rules.specs.Due.{due};
+ghost use Rattle.record.specs.Trail.{trail, recordOf};
+ghost use Rattle.record.specs.Search as spec;
 ghost use Rattle.rules.specs.Preferred.{proposalOf};
 ghost use Rattle.words.specs.Outcomes.{outcome};
-ghost use Rattle.rules.specs.Inner.Tables.{Levels};
-ghost use Rattle.rules.specs.Inner.Ready.{HeldOn, LentTables};
-ghost use Rattle.rules.specs.declared.rule.State.the-variants.{Open};
-ghost use Rattle.session.specs.Memory.{memory};
-ghost use Rattle.session.specs.Reasons.{why, told};
+ghost use Rattle.rules.specs.Inner.Levels.{Levels};
+ghost use Rattle.record.specs.Inner.Ready.{HeldOn};
+ghost use Rattle.rules.specs.Inner.Lent.{LentTables};
+ghost use Rattle.record.specs.declared.rule.State.the-variants.{Open};
+ghost use Rattle.memory.specs.Memory.{memory};
+ghost use Rattle.memory.specs.Reasons.{why, told};
 ghost use Rattle.session.specs.Run.{advance};
-ghost use Rattle.session.specs.Inner.Reasons.{OnMemory};
+ghost use Rattle.memory.specs.Inner.Reasons.{OnMemory};
 ghost use Rattle.session.specs.Promises.{SearchPromise};
 use crate::guard;
-use crate::reasons;
 use formula::LITERAL_PLACES;
-use rules::PLACES;
-use rules::Reached;
-use rules::Rule;
-use rules::State;
+use record::PLACES;
+use record::Reached;
+use record::Rule;
+use record::State;
 use words::Literal;
 
 // Where a number of steps lead, how many they are, and the reason of the last one, 0 if there is none.
@@ -71,12 +72,12 @@ fn advance(
 ) -> Advanced
     requires { ⌜ OnMemory (now block) (memory (now lits) (now kinds) (now reasons)) count ⌝ }
     requires { ⌜ LentTables (now block) (now levels) (now statuses) ⌝ }
-    ensures { λ r. ⌜ (outcome (rules.reached (r .reached) (trail (now (lits .exit)) (now (kinds .exit)))) (now (statuses .exit)) ≡ outcome (advance (formulaOf (now (block .entry))) (now (preferred .entry)) (rules.search (trail (now (lits .entry)) (now (kinds .entry))) count Open)) (now (statuses .entry))) × (why (now (reasons .exit)) (r .reason) ≡ told (due (formulaOf (now (block .entry))) (recordOf (trail (now (lits .entry)) (now (kinds .entry))) count)) count (now (reasons .entry))) ⌝ }
+    ensures { λ r. ⌜ (outcome (spec.reached (r .reached) (trail (now (lits .exit)) (now (kinds .exit)))) (now (statuses .exit)) ≡ outcome (advance (formulaOf (now (block .entry))) (now (preferred .entry)) (spec.search (trail (now (lits .entry)) (now (kinds .entry))) count Open)) (now (statuses .entry))) × (why (now (reasons .exit)) (r .reason) ≡ told (due (formulaOf (now (block .entry))) (recordOf (trail (now (lits .entry)) (now (kinds .entry))) count)) count (now (reasons .entry))) ⌝ }
 {
     let rule = rules::due(block, lits, kinds, count, levels, statuses);
     let literal = proposal(block, lits, count, rule, preferred, levels);
-    let reason = reasons::tell(reasons, rule, count);
-    let reached = rules::apply(block, lits, kinds, count, rule, literal);
+    let reason = memory::tell(reasons, rule, count);
+    let reached = record::apply(block, lits, kinds, count, rule, literal);
     Advanced {
         reached: reached,
         reason: reason,

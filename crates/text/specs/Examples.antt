@@ -11,10 +11,10 @@ use Rattle.formula.specs.Limits.{limits}
 use Rattle.formula.specs.Block.{twice, bothSigns, repeats}
 use Rattle.text.specs.declared.Answer.{Answer}
 use Rattle.text.specs.declared.Answer.the-variants.{Accepted, Misfit, Refused, Row as AtRow}
-use Rattle.text.specs.Grammar.{digit, nonzero, printable}
-use Rattle.text.specs.Machine.{rows, choose, blank, between, parted, past, alive, fresh, move, shift, trace}
-use Rattle.text.specs.Events.{hear, heard}
-use Rattle.text.specs.Reads.{taken, reads}
+use Rattle.grammar.specs.Grammar.{digit, nonzero, printable}
+use Rattle.grammar.specs.Machine.{rows, choose, blank, between, parted, past, alive, fresh, move, shift, trace}
+use Rattle.grammar.specs.Events.{hear, heard}
+use Rattle.grammar.specs.Reads.{taken, reads}
 use Rattle.text.specs.Tree.{wordsOf, numbersOf, literalsOf, endsOf, beyond, someBeyond, textRefusal, those, completed, laid, blockOf, rowOf, textOf, answered, readOf}
 
 -- with room for n words

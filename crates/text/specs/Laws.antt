@@ -1,7 +1,4 @@
 -- Laws for the proofs of this room.
-pub mod Left
-pub mod Taken
-pub mod Viable
 pub mod Capped
 pub mod Followed
 pub mod Kept

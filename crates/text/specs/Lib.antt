@@ -1,13 +1,5 @@
--- The text of a formula: its grammar, the block that it gives, and a reader that takes it byte by byte.
+-- The text of a formula: the block that it gives, and a reader that takes it byte by byte.
 
--- the grammar: a tree, and which bytes spell it
-pub mod Grammar
--- the machine that reads it; a tree as events and back; what is read
-pub mod Machine
-pub mod Events
-pub mod Reads
--- what is read is what the grammar says
-pub mod Spelled
 -- what a tree gives: refusals, the block, the whole call
 pub mod Tree
 pub mod Examples

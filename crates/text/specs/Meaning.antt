@@ -21,10 +21,10 @@ use Rattle.formula.specs.Truth.{asked, truth, true?}
 use Rattle.formula.specs.Block.{names, refusal}
 use Rattle.text.specs.declared.Answer.{Answer}
 use Rattle.text.specs.declared.Answer.the-variants.{Accepted, Misfit, Refused, Row as AtRow}
-use Rattle.text.specs.Grammar.{Text, Spells}
-use Rattle.text.specs.Reads.{Read, spelled, misfit, reads}
+use Rattle.grammar.specs.Grammar.{Text, Spells}
+use Rattle.grammar.specs.Reads.{Read, spelled, misfit, reads}
 use Rattle.text.specs.Tree.{wordsOf, literalsOf, endsOf, those, free, idle, completed, blockOf, textRefusal, rowOf, treeRows, zeros, filled, textOf, answered, readOf, ownFormula}
-use Rattle.text.specs.Spelled.{reads-right}
+use Rattle.grammar.specs.Spelled.{reads-right}
 use Rattle.text.specs.Laws.Completed.{those-in, completed-length}
 use Rattle.text.specs.Laws.Block.{ends-length, laid-length, tree-formula, tree-rows}
 use Rattle.text.specs.Laws.Settled.{Fit, fit, Bound, bound}

@@ -14,7 +14,7 @@ use Rattle.text.specs.declared.Kept.{Kept}
 use Rattle.text.specs.declared.Reader.{Reader}
 use Rattle.text.specs.declared.Answer.{Answer}
 use Rattle.text.specs.declared.Answer.the-variants.{Accepted, Misfit, Refused, Row as AtRow}
-use Rattle.text.specs.Machine.{Event, announces, counts, opens, binds, holds, ends, alive, fresh, move, shift, start, signed, events}
+use Rattle.grammar.specs.Machine.{Event, announces, counts, opens, binds, holds, ends, alive, fresh, move, shift, start, signed, events}
 use Rattle.text.specs.Tree.{isForall, beyond, countRows, laid, zeros, filled, lastPlace}
 
 -- a number of any length in 32 bits: past 2^31 all count as one

@@ -14,9 +14,9 @@ use Rattle.formula.specs.Formula.{Formula}
 use Rattle.formula.specs.Block.{names, noVariable, twice, bothSigns, repeats}
 use Rattle.text.specs.declared.Answer.{Answer}
 use Rattle.text.specs.declared.Answer.the-variants.{Accepted, Misfit, Refused, Row as AtRow}
-use Rattle.text.specs.Grammar.{Quantifier, forall, exists, Group, Text}
-use Rattle.text.specs.Machine.{signed}
-use Rattle.text.specs.Reads.{Read, spelled, misfit, reads}
+use Rattle.grammar.specs.Grammar.{Quantifier, forall, exists, Group, Text}
+use Rattle.grammar.specs.Machine.{signed}
+use Rattle.grammar.specs.Reads.{Read, spelled, misfit, reads}
 
 -- ---- the tree's words
 -- [text.prefix] a bound number as a word: below 0 for a universal one

@@ -13,13 +13,13 @@ use Rattle.formula.specs.Limits.{Limits, limits}
 use Rattle.text.specs.declared.Kept.{Kept}
 use Rattle.text.specs.declared.Reader.{Reader}
 use Rattle.text.specs.declared.Answer.{Answer}
-use Rattle.text.specs.Machine.{Event, announces, counts, opens, binds, holds, ends, fresh, start, trace}
-use Rattle.text.specs.Events.{heard, hear-say}
-use Rattle.text.specs.Reads.{taken, reads}
+use Rattle.grammar.specs.Machine.{Event, announces, counts, opens, binds, holds, ends, fresh, start, trace}
+use Rattle.grammar.specs.Events.{heard, hear-say}
+use Rattle.grammar.specs.Reads.{taken, reads}
 use Rattle.text.specs.Tree.{textOf, answered, readOf}
 use Rattle.text.specs.Pieces.{capped, keep, keeps, byteOf, pieceOf, nothingKept, begun, settled, endOf, inPieces, whole}
-use Rattle.text.specs.Laws.Left.{sound}
-use Rattle.text.specs.Laws.Viable.{fresh-state}
+use Rattle.grammar.specs.Laws.Left.{sound}
+use Rattle.grammar.specs.Laws.Viable.{fresh-state}
 use Rattle.text.specs.Laws.Followed.{Followed, followed}
 use Rattle.text.specs.Laws.Kept.{tree-kept, treeKept, treeOutput}
 use Rattle.text.specs.Laws.Rows.{Hidden, limits-hidden}

@@ -4,9 +4,9 @@ ghost use Rattle.words.specs.Outcomes.{outcome};
 ghost use Rattle.text.specs.Pieces.{byteOf};
 use crate::Reader;
 use crate::keep::keep;
-use crate::machine::step;
 use crate::numbers::next_number;
 use crate::numbers::next_place;
+use grammar::step;
 
 pub(crate) fn take(reader: Reader, b: u8, output: &mut [i32]) -> Reader
     ensures { λ r. ⌜ outcome r (now (output .exit)) ≡ byteOf reader (now (output .entry)) b ⌝ }

@@ -6,16 +6,16 @@ ghost use lib.IntN.{pos};
 ghost use lib.ListN.{set};
 ghost use Rattle.words.specs.Outcomes.{outcome};
 ghost use Rattle.formula.specs.Block.{noVariable};
-ghost use Rattle.text.specs.Machine.{announces, counts, binds, holds, ends, signed, numbered, events};
+ghost use Rattle.grammar.specs.Machine.{announces, counts, binds, holds, ends, signed, numbered, events};
 ghost use Rattle.text.specs.Pieces.{keep as after, keeps};
 ghost use Rattle.text.specs.Inner.Opened.{opened};
 use crate::Kept;
-use crate::Says;
-use crate::Slot;
 use crate::numbers::cap;
 use crate::numbers::either;
 use crate::numbers::is_beyond;
 use crate::numbers::stored_word;
+use grammar::Says;
+use grammar::Slot;
 
 // A word at its place, if the output goes so far.
 fn put(output: &mut [i32], at: usize, word: i32)

@@ -1,71 +1,13 @@
 // The text of a formula, read into a block: whole or in pieces.
 ghost use Rattle.text.specs.Promises.{ReadPromise, BeginPromise, PiecePromise, EndPromise};
+use grammar::Place;
+use grammar::State;
 
-mod bytes; // which bytes are blanks, digits, and bytes of a comment
-mod places; // what a word may begin with
-mod machine; // where a byte leads from a state
 mod numbers; // numbers of any length in 32 bits
 mod keep; // what is kept of a text
 mod bytewise; // a text byte by byte
 mod prefix; // the completed prefix
 mod ending; // the answer at a text's end
-
-// Where the next word stands.
-pub enum Place {
-    // the first of a line before the problem line; `cnf`; its two numbers
-    AtHead,
-    AtCnf,
-    AtFirst,
-    AtSecond,
-    // the first of a line after it: may it be a quantifier?
-    AtLine(bool),
-    // a quantifier's first number; a further one, or 0; a literal, or 0
-    AtNumber,
-    AtNumbers,
-    AtLiterals,
-    // no word: the line ends here; may a quantifier's line come next?
-    AtEnd(bool),
-}
-
-// Which number it is that is being read; a literal is negative or not.
-pub enum Slot {
-    OfVariables,
-    OfCount,
-    OfGroup,
-    OfClause(bool),
-}
-
-pub enum State {
-    // no text goes on so
-    Dead,
-    // at a line's start, where the text may end
-    Fresh(bool),
-    // before a word: where blanks may stand, and where one must
-    Before(Place),
-    Parted(Place),
-    // in a number
-    InNumber(Slot),
-    // in a comment; in `cnf`; behind a minus
-    Remark,
-    AfterC,
-    AfterCn,
-    AfterMinus,
-}
-
-// What a byte says: nothing; that the number 0 stands, or the one whose digits were read; a quantifier; a clause's end.
-pub enum Says {
-    Nothing,
-    Zero(Slot),
-    Value(Slot),
-    Forall,
-    Exists,
-    Ends,
-}
-
-pub struct Move {
-    pub to: State,
-    pub says: Says,
-}
 
 // What is kept of a text so far, beside the words that stand in the output. Counts go up to 2^31 + 1 and no further.
 pub struct Kept {
@@ -143,7 +85,7 @@ pub fn end(reader: Reader, output: &mut [i32]) -> Answer
     let state = reader.state;
     let at = reader.at;
     let kept = reader.kept;
-    if numbers::is_fresh(state) {
+    if grammar::is_fresh(state) {
         return ending::settle(kept, output);
     }
     ending::wipe(output, 0);

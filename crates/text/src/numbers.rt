@@ -2,10 +2,12 @@
 ghost use mathlib.Core.Path.{_≡_};
 ghost use mathlib.Core.Bool.{_||_, false};
 ghost use Prim.Native.Nat.{_-_};
-ghost use Rattle.text.specs.Machine.{inside, fresh, alive, ifInside, oneMore, signed};
+ghost use Rattle.grammar.specs.Machine.{alive, ifInside, oneMore, signed};
 ghost use Rattle.text.specs.Tree.{beyond};
 ghost use Rattle.text.specs.Pieces.{capped, stored, counted};
-use crate::State;
+use grammar::State;
+use grammar::is_alive;
+use grammar::is_inside;
 
 // 2^31 + 1: numbers go up to it and no further. The largest word.
 const CAP: u32 = 2147483649;
@@ -17,32 +19,6 @@ const LEAST: i32 = -2147483648;
 
 // 2^64 - 1.
 const LAST_PLACE: u64 = 18446744073709551615;
-
-pub(crate) fn is_inside(state: State) -> bool
-    ensures { λ r. ⌜ r ≡ inside state ⌝ }
-{
-    if let State::InNumber(_) = state {
-        true
-    } else {
-        false
-    }
-}
-
-pub(crate) fn is_fresh(state: State) -> bool
-    ensures { λ r. ⌜ r ≡ fresh state ⌝ }
-{
-    if let State::Fresh(_) = state {
-        true
-    } else {
-        false
-    }
-}
-
-pub(crate) fn is_alive(state: State) -> bool
-    ensures { λ r. ⌜ r ≡ alive state ⌝ }
-{
-    if let State::Dead = state { false } else { true }
-}
 
 pub(crate) fn cap(n: u64) -> u32
     ensures { λ r. ⌜ r ≡ capped n ⌝ }

@@ -5,13 +5,13 @@ use mathlib.Core.List.{List}
 use lib.IntN.{ℤ, pos, natAbs}
 use lib.ListN.{length, getD}
 use Rattle.formula.specs.Formula.{Formula, prefixOf, firstGroup}
-use Rattle.rules.specs.Trail.{Trail, wipedTrail}
+use Rattle.record.specs.Trail.{Trail, wipedTrail}
 use Rattle.listing.specs.declared.Paged.{Paged}
 use Rattle.listing.specs.Rows.{PageGuarded}
 use Rattle.formula.specs.Limits.{limits}
 use Rattle.listing.specs.Page.{PageMemory}
 use Rattle.words.specs.Outcomes.{Outcome, outcome}
-use Rattle.rules.specs.Inner.Ready.{OnBuffers}
+use Rattle.record.specs.Inner.Ready.{OnBuffers}
 
 -- the block passes its rows, the buffers row 11, and the first group, of k variables, row 19
 pub record OnGroup (b : List ℤ) (work : Trail) (k : ℕ) : Type 0 where

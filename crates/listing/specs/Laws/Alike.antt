@@ -9,17 +9,17 @@ use lib.ListN.{length, getD, take}
 use lib.Seq.{take-take}
 use Rattle.formula.specs.Formula.{Formula}
 use Rattle.theory.specs.Record.{entry, trueIn}
-use Rattle.rules.specs.declared.rule.State.{State}
-use Rattle.rules.specs.declared.rule.State.the-variants.{Open, Valid, Unsat}
-use Rattle.rules.specs.declared.rule.Rule.{Rule}
-use Rattle.rules.specs.declared.rule.Rule.the-variants.{BacktrackExists, Fail, Unit, Monotone, Decide, BacktrackForall, Succeed}
-use Rattle.rules.specs.Trail.{recordOf, noEntry}
-use Rattle.rules.specs.Search.{Search, recordIn}
+use Rattle.record.specs.declared.rule.State.{State}
+use Rattle.record.specs.declared.rule.State.the-variants.{Open, Valid, Unsat}
+use Rattle.record.specs.declared.rule.Rule.{Rule}
+use Rattle.record.specs.declared.rule.Rule.the-variants.{BacktrackExists, Fail, Unit, Monotone, Decide, BacktrackForall, Succeed}
+use Rattle.record.specs.Trail.{recordOf, noEntry}
+use Rattle.record.specs.Search.{Search, recordIn}
 use Rattle.rules.specs.Due.{due}
-use Rattle.rules.specs.Apply.{append, flip, apply}
+use Rattle.record.specs.Apply.{append, flip, apply}
 use Rattle.rules.specs.Preferred.{proposalOf}
-use Rattle.rules.specs.Inner.Ready.{KeptIn, Fitting}
-use Rattle.rules.specs.Laws.Records.{kept-room, kept-more, record-get, record-put, record-cut}
+use Rattle.record.specs.Inner.Ready.{KeptIn, Fitting}
+use Rattle.record.specs.Laws.Records.{kept-room, kept-more, record-get, record-put, record-cut}
 use Rattle.rules.specs.Laws.Steps.{due-fits}
 use Rattle.session.specs.Run.{Trip, trip, whileOpen, advance, runFrom}
 use Rattle.session.specs.Laws.Runs.{advance-keeps}

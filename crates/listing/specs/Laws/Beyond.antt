@@ -15,13 +15,13 @@ use Rattle.formula.specs.Formula.{Formula}
 use Rattle.theory.specs.Record.{trueIn, Entry}
 use Rattle.rules.specs.Due.{due}
 use Rattle.rules.specs.Preferred.{proposalOf}
-use Rattle.rules.specs.Search.{Search, recordIn}
-use Rattle.rules.specs.Trail.{wiped, Trail, wipedTrail}
-use Rattle.rules.specs.Inner.Ready.{Binds, KeptIn, Room}
+use Rattle.record.specs.Search.{Search, recordIn}
+use Rattle.record.specs.Trail.{wiped, Trail, wipedTrail}
+use Rattle.record.specs.Inner.Ready.{Binds, KeptIn, Room}
 use Rattle.words.specs.Laws.Stores.{sets-outside}
-use Rattle.rules.specs.Laws.Wiped.{wiped-length, wiped-inside, wiped-outside}
-use Rattle.rules.specs.Laws.Records.{kept-good}
-use Rattle.rules.specs.Laws.Untouched.{apply-lengths, wiped-other, apply-untouched}
+use Rattle.record.specs.Laws.Wiped.{wiped-length, wiped-inside, wiped-outside}
+use Rattle.record.specs.Laws.Records.{kept-good}
+use Rattle.record.specs.Laws.Untouched.{apply-lengths, wiped-other, apply-untouched}
 use Rattle.session.specs.Run.{advance, runFrom}
 use Rattle.session.specs.Refusals.{over}
 use Rattle.session.specs.Laws.Accepted.{over-open}

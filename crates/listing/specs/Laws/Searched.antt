@@ -20,16 +20,16 @@ use Rattle.theory.specs.Laws.Value.{rest-append, rest-set, rest-unset}
 use Rattle.theory.specs.Rules.{going, Path}
 use Rattle.theory.specs.Laws.Monotone.{open-within}
 use Rattle.theory.specs.Theorem.{AnyOrder, any-order-from}
-use Rattle.rules.specs.declared.rule.State.the-variants.{Open, Valid, Unsat}
-use Rattle.rules.specs.Search.{standingOf}
-use Rattle.rules.specs.Inner.Ready.{Binds, Room}
+use Rattle.record.specs.declared.rule.State.the-variants.{Open, Valid, Unsat}
+use Rattle.record.specs.Search.{standingOf}
+use Rattle.record.specs.Inner.Ready.{Binds, Room}
 use Rattle.session.specs.Run.{runFrom}
 use Rattle.session.specs.Laws.Runs.{Travelled, travelled}
 use Rattle.listing.specs.Opening.{groupOf, valuesOf, openingStart, openingSearch, openingEnd}
 use Rattle.listing.specs.Laws.Start.{opened, given-literals, Starts, starts}
 use Rattle.listing.specs.Laws.Values.{values-stand, before-rest}
 use Rattle.listing.specs.Wins.{wins}
-use Rattle.rules.specs.Trail.{Trail}
+use Rattle.record.specs.Trail.{Trail}
 
 -- ---- the truth of the rest is what the theory speaks of
 group-set : (F : Formula) (n : ℕ) → allAssigned (groupOf F) (among (valuesOf n (groupOf F))) ≡ true

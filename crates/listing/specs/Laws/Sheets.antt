@@ -12,8 +12,8 @@ use lib.ListN.{length, getD, take, drop, set, length-set}
 use lib.Seq.{take-suc-set, drop-set-lt, getD-set-same, getD-set-other, drop-drop}
 use borrow.Author.Tests.{le-leb, lt-leb}
 use Rattle.formula.specs.Formula.{Formula}
-use Rattle.rules.specs.declared.rule.State.{State}
-use Rattle.rules.specs.declared.rule.State.the-variants.{Open, Valid, Unsat}
+use Rattle.record.specs.declared.rule.State.{State}
+use Rattle.record.specs.declared.rule.State.the-variants.{Open, Valid, Unsat}
 use Rattle.listing.specs.Opening.{openings}
 use Rattle.listing.specs.Page.{Sheet, sheet, written, bySearch, pageFrom}
 use Rattle.listing.specs.Wins.{wins, listing, listing-won, listing-lost}

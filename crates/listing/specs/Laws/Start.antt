@@ -16,12 +16,12 @@ use Rattle.formula.specs.Formula.{Formula, firstGroup, existential, universal}
 use Rattle.formula.specs.Laws.Prefix.{stands, stands-i, stands-append, stands-bound}
 use Rattle.theory.specs.Record.{entry, Record, literals, forced}
 use Rattle.theory.specs.Start.{suits, allSuit, Good}
-use Rattle.rules.specs.Trail.{Trail, wiped, noEntry}
-use Rattle.rules.specs.Search.{recordIn}
-use Rattle.rules.specs.Inner.Ready.{Binds, KeptIn, Room}
-use Rattle.rules.specs.Laws.Wiped.{wiped-length, wiped-inside}
-use Rattle.rules.specs.Laws.Records.{room-less, record-length, record-get}
-use Rattle.rules.specs.Laws.Good.{good-kept}
+use Rattle.record.specs.Trail.{Trail, wiped, noEntry}
+use Rattle.record.specs.Search.{recordIn}
+use Rattle.record.specs.Inner.Ready.{Binds, KeptIn, Room}
+use Rattle.record.specs.Laws.Wiped.{wiped-length, wiped-inside}
+use Rattle.record.specs.Laws.Records.{room-less, record-length, record-get}
+use Rattle.record.specs.Laws.Good.{good-kept}
 use Rattle.listing.specs.Opening.{groupOf, valuesOf, openingStart}
 use Rattle.words.specs.Laws.Stores.{sets-first}
 use Rattle.listing.specs.Laws.Values.{values-length, values-stand, values-twice, group-few, group-length, twice-take}

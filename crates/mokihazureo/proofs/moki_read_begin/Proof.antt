@@ -1,7 +1,7 @@
 -- The numbers of the reader before the first byte.
 use mathlib.Core.Path.{_∙_, ap}
 use borrow.Author.Needs.{needs}
-use Rattle.mokihazureo.specs.Reading.{written}
+use Rattle.saved.specs.Numbers.{written}
 use Rattle.text.specs.declared.Reader.{Reader}
 use Rattle.mokihazureo.proofs.moki_read_begin.Statement.{statement}
 use Rattle.mokihazureo.proofs.moki_read_begin.Tie as tie

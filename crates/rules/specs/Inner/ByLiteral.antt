@@ -14,7 +14,7 @@ use Rattle.formula.specs.Limits.{maxVariables}
 use Rattle.formula.specs.Inner.Places.{literalPlaces, placeOf, wordAt}
 use Rattle.theory.specs.Record.{Assignment}
 use Rattle.theory.specs.Tests.{occurs, untrueOf}
-use Rattle.rules.specs.Inner.Tables.{signOf}
+use Rattle.record.specs.Inner.Tables.{signOf}
 
 -- 1 at the place of each literal that occurs in the clauses, else 0
 abbrev pub Occurring : List (List ℤ) → List ℕ → Type 0

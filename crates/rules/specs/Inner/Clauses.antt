@@ -9,8 +9,9 @@ use lib.ListN.{length, getD}
 use Rattle.words.specs.Lists.{any}
 use Rattle.formula.specs.Limits.{limits}
 use Rattle.formula.specs.Block.{badEnds}
-use Rattle.rules.specs.Due.{onFound, onPicked, literal, lowest}
-use Rattle.rules.specs.Inner.Tables.{places}
+use Rattle.record.specs.Found.{onFound, literal}
+use Rattle.rules.specs.Due.{onPicked, lowest}
+use Rattle.record.specs.Inner.Tables.{places}
 use Rattle.rules.specs.declared.clauses.Look.{Look}
 use Rattle.rules.specs.declared.found.Deciding.{Deciding}
 use Rattle.rules.specs.declared.found.Deciding.the-variants.{Conflict, Quiet}

@@ -8,10 +8,10 @@ use lib.ListN.{length}
 use Rattle.formula.specs.Inner.Named.{Named}
 use Rattle.theory.specs.Record.{Record, Assignment, trueIn}
 use Rattle.theory.specs.Tests.{unassignedE, unassignedU}
-use Rattle.rules.specs.Due.{last}
-use Rattle.rules.specs.Inner.Tables.{Values}
+use Rattle.record.specs.Found.{last}
+use Rattle.record.specs.Inner.Tables.{Values}
 use Rattle.rules.specs.Inner.ByLiteral.{statusIn}
-use Rattle.rules.specs.Inner.Buffers.{lastKind}
+use Rattle.record.specs.Inner.Buffers.{lastKind}
 
 -- no variable is both true and false
 abbrev pub Consistent : Assignment → Type 0

@@ -6,8 +6,9 @@ use lib.Dec.{eqb, leb}
 use lib.IntN.{ℤ, pos, negℤ, natAbs}
 use lib.ListN.{getD}
 use Rattle.formula.specs.Limits.{maxVariables}
-use Rattle.rules.specs.Due.{literal, onPicked, firstOf}
-use Rattle.rules.specs.Inner.Tables.{places}
+use Rattle.record.specs.Found.{literal}
+use Rattle.rules.specs.Due.{onPicked, firstOf}
+use Rattle.record.specs.Inner.Tables.{places}
 use Rattle.rules.specs.declared.found.Picked.{Picked}
 use Rattle.rules.specs.declared.found.Picked.the-variants.{Is, NoLiteral}
 

@@ -19,17 +19,18 @@ use Rattle.formula.specs.Formula.{level}
 use Rattle.formula.specs.Block.{repeats}
 use Rattle.theory.specs.Record.{Assignment}
 use Rattle.theory.specs.Tests.{unassignedE, unassignedU, inConflict, unitOn, untrueOf}
-use Rattle.rules.specs.Due.{onFound, onPicked, literal, lowest, candidate, isUnit, lowestUnit}
+use Rattle.record.specs.Found.{onFound, literal}
+use Rattle.rules.specs.Due.{onPicked, lowest, candidate, isUnit, lowestUnit}
 use Rattle.rules.specs.Inner.Tabled.{Sorted, as-false, as-true, as-existential, as-universal}
 use Rattle.rules.specs.Inner.ByLiteral.{trueBy}
 use Rattle.rules.specs.Inner.Clauses.{keepsBy, conflictBy, unit, neither, unitLiteral, staysUnit, sightFrom, lowestUnitBy}
 use Rattle.rules.specs.declared.found.Picked.{Picked}
 use Rattle.rules.specs.declared.found.Picked.the-variants.{Is, NoLiteral}
-use Rattle.rules.specs.declared.found.Found.the-variants.{At}
+use Rattle.record.specs.declared.found.Found.the-variants.{At}
 use Rattle.rules.specs.declared.found.UnitFound.the-variants.{On, NoUnit}
-use Rattle.rules.specs.Inner.Tables.{places}
+use Rattle.record.specs.Inner.Tables.{places}
 
-ltb-min : (a b c : ℕ) → ltb a (min b c) ≡ (ltb a b && ltb a c)
+pub ltb-min : (a b c : ℕ) → ltb a (min b c) ≡ (ltb a b && ltb a c)
 ltb-min a b c = go (look (ltb a b)) (look (ltb a c))
   where
     go : (ltb a b ≡ true) ⊎ (ltb a b ≡ false) → (ltb a c ≡ true) ⊎ (ltb a c ≡ false) → ltb a (min b c) ≡ (ltb a b && ltb a c)
@@ -61,7 +62,7 @@ module _ (p : List ℤ) (ρ : Assignment) (st : ℤ → ℕ) where
   lowest-conflict-means m h = lowest-same (conflictBy st) (inConflict p ρ) 0 m (λ C i. conflict-means C (h C i))
 
   -- a status says whether its literal is true
-  status-true : (x : ℤ) → Sorted p ρ st x → trueBy st x ≡ ρ x
+  pub status-true : (x : ℤ) → Sorted p ρ st x → trueBy st x ≡ ρ x
   status-true x (as-false s t e u) = rw (s, t)
   status-true x (as-true s t) = rw (s, t)
   status-true x (as-existential s t e u) = rw (s, t)

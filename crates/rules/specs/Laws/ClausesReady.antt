@@ -3,11 +3,12 @@
 use mathlib.Core.Path.{_≡_, _∙_, ap, refl}
 use mathlib.Core.Bool.{false, Bool, true, cond, not, and-false}
 use mathlib.Core.List.{List}
-use Prim.Native.Nat.{ℕ, _-_, _≤_, zero, suc, _<_, zero-le}
+use Prim.Native.Nat.{ℕ, _+_, _-_, _≤_, zero, suc, _<_, zero-le}
 use native.Mathlib.Omega.{arith}
 use lib.Dec.{eqb, ltb}
 use lib.IntN.{ℤ, natAbs, pos, negsuc, negℤ}
-use lib.ListN.{length, getD, List·getD-eq-default}
+use lib.ListN.{length, getD, take, drop, length-take, List·getD-eq-default}
+use lib.Seq.{getD-take, getD-drop}
 use borrow.Author.Tests.{ltb-false, ltb-true}
 use Rattle.words.specs.Laws.Bools.{clash, look, to-false}
 use Rattle.words.specs.Lists.{In}
@@ -16,8 +17,13 @@ use Rattle.words.specs.Laws.Words.{mem-e}
 use Rattle.formula.specs.Formula.{clausesFrom, existential, universal, level}
 use Rattle.formula.specs.Block.{twice}
 use Rattle.theory.specs.Tests.{untrueOf, unassignedE, unassignedU, inConflict}
-use Rattle.rules.specs.Inner.Tables.{signOf, valueIn, Values, Levels}
-use Rattle.rules.specs.Inner.Ready.{Ready, Bound}
+use Rattle.record.specs.Inner.Tables.{signOf, valueIn, Values}
+use Rattle.rules.specs.Inner.Levels.{Levels}
+use Rattle.record.specs.Trail.{Trail, recordOf}
+use Rattle.record.specs.Inner.Ready.{Ready, Bound, Kept}
+use Rattle.record.specs.Laws.Records.{kept-good, kept-room}
+use Rattle.record.specs.Laws.Last.{last-kind}
+use Rattle.record.specs.Laws.Accepted.{kept-literals}
 use Rattle.formula.specs.Limits.{limits}
 use Rattle.formula.specs.Laws.Limits.{variables-are}
 use Rattle.formula.specs.Laws.Named.{in-named}
@@ -26,17 +32,18 @@ use mathlib.Core.Logic.{_⊎_, inl, inr}
 use Rattle.formula.specs.Laws.Prefix.{once-in, level-few}
 use Rattle.formula.specs.Laws.Permuted.{all-bound, quantifier}
 use Rattle.formula.specs.Laws.Clauses.{clauses-in}
-use Rattle.theory.specs.Record.{Assignment, among, assigned}
-use Rattle.rules.specs.Due.{onFound, lowest, lowestUnit}
+use Rattle.theory.specs.Record.{Assignment, among, assigned, literals}
+use Rattle.record.specs.Found.{onFound}
+use Rattle.rules.specs.Due.{lowest, lowestUnit}
 use Rattle.rules.specs.Inner.Clauses.{Placed, Clauses, levelBy, conflictBy, onDeciding, lowestUnitBy, decidingBy}
 use Rattle.rules.specs.Inner.ByLiteral.{statusBy, statusIn, trueBy, Statuses}
-use Rattle.rules.specs.Inner.Tabled.{Consistent, Sorted, as-false, as-true, as-existential, as-universal, Sorts}
+use Rattle.rules.specs.Inner.Tabled.{Consistent, Tabled, Sorted, as-false, as-true, as-existential, as-universal, Sorts}
 use Rattle.rules.specs.Laws.VariablesMean.{level-at}
 use Rattle.rules.specs.Laws.ClausesMean.{Meant, untrue-means, lowest-conflict-means, lowest-unit-means}
 use Rattle.rules.specs.declared.found.Deciding.{Deciding}
 use Rattle.rules.specs.declared.found.Deciding.the-variants.{Conflict, Quiet}
-use Rattle.rules.specs.declared.found.Found.{Found}
-use Rattle.rules.specs.declared.found.Found.the-variants.{At, Nothing}
+use Rattle.record.specs.declared.found.Found.{Found}
+use Rattle.record.specs.declared.found.Found.the-variants.{At, Nothing}
 use Rattle.rules.specs.declared.found.UnitFound.{UnitFound}
 
 module _ (p : List ℤ) (b : Bound p) (ρ : Assignment) (values : List ℕ) (vals : Values ρ values) (con : Consistent ρ) where
@@ -89,6 +96,17 @@ once-consistent ls h (suc n) z e = to-false _ (λ f. opposite (once-in ls h (mem
     opposite : pos (suc n) ≡ negsuc n → ⊥
     opposite q = let k : _≡_ {A = ℕ} 0 1 = cc in omega arith
 
+-- every word of a part has a place
+pub placed-part : (ls : List ℤ) (k j : ℕ) → Placed ls → Placed (take k (drop j ls))
+placed-part ls k j p i = go (look (ltb i k))
+  where
+    go : (ltb i k ≡ true) ⊎ (ltb i k ≡ false) → natAbs (getD (take k (drop j ls)) i (pos 0)) ≤ limits .variables
+    go (inl h) = rw (getD-take k (drop j ls) i (pos 0) (ltb-true i k h), getD-drop j ls i (pos 0)) (p (j + i))
+    go (inr h) =
+        let l : k ≤ i = ltb-false i k h in
+        let m : length (take k (drop j ls)) ≤ i = simp length-take (omega arith) in
+        rw (List·getD-eq-default (take k (drop j ls)) (pos 0) m) zero-le
+
 -- ---- checked input
 module _ (p es ls : List ℤ) (ready : Ready p es ls) where
   -- every literal names a variable, and so has a place
@@ -138,3 +156,13 @@ module _ (p es ls : List ℤ) (ready : Ready p es ls) where
         by : (o : Found) (u : UnitFound) → onDeciding (onFound o Conflict (Quiet u)) f g ≡ onFound o f (g u)
         by (At c) u = refl
         by Nothing u = refl
+
+-- ---- the record
+module _ (p : List ℤ) (t : Trail) (n : ℕ) (kept : Kept p t n) where
+  -- what the code of the due rule knows of the record
+  pub kept-tabled : (table : List ℕ) → Values (among (take n (t .lits))) table → Tabled (recordOf t n) table (t .kinds) n
+  kept-tabled table h = record {
+    values = λ v. rw (kept-literals p t n kept) (h v);
+    consistent = once-consistent (literals (recordOf t n)) (kept-good kept .once);
+    lasts = λ k. last-kind t k n (kept-room kept);
+  }

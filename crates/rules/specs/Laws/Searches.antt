@@ -15,10 +15,11 @@ use Rattle.theory.specs.Record.{Assignment, assigned}
 use Rattle.theory.specs.Tests.{unassignedE, unassignedU, unitOn, monotone, isOpen, allAssigned}
 use Rattle.theory.specs.Laws.First.{First}
 use Rattle.theory.specs.Laws.Assignment.{assigned-neg}
-use Rattle.rules.specs.Due.{literal, onFound, onPicked, firstOf, lowest, candidate, isUnit, lowestUnit, firstMonotone, firstUnassigned}
+use Rattle.record.specs.Found.{literal, onFound}
+use Rattle.rules.specs.Due.{onPicked, firstOf, lowest, candidate, isUnit, lowestUnit, firstMonotone, firstUnassigned}
 use Rattle.rules.specs.Preferred.{firstOpen}
-use Rattle.rules.specs.declared.found.Found.{Found}
-use Rattle.rules.specs.declared.found.Found.the-variants.{At, Nothing}
+use Rattle.record.specs.declared.found.Found.{Found}
+use Rattle.record.specs.declared.found.Found.the-variants.{At, Nothing}
 use Rattle.rules.specs.declared.found.Picked.{Picked}
 use Rattle.rules.specs.declared.found.Picked.the-variants.{Is, NoLiteral}
 use Rattle.rules.specs.declared.found.UnitFound.the-variants.{On, NoUnit}

@@ -16,8 +16,7 @@ use Rattle.words.specs.Laws.Bools.{look, bool-eq, and-r, or-l, or-r, or-e}
 use Rattle.words.specs.Lists.{In, all, any}
 use Rattle.words.specs.Laws.Lists.{all-i, all-e, any-i, in-middle}
 use Rattle.words.specs.declared.Literal.{Literal}
-use Rattle.words.specs.Words.{mem}
-use Rattle.words.specs.Laws.Words.{mem-i, mem-e, natAbs-neg, negneg}
+use Rattle.words.specs.Laws.Words.{mem-i, natAbs-neg, negneg}
 use Rattle.formula.specs.Limits.{limits, maxVariables}
 use Rattle.formula.specs.Laws.Limits.{variables-are}
 use Rattle.formula.specs.Formula.{existential, universal, levelOf, level}
@@ -30,13 +29,15 @@ use Rattle.formula.specs.Laws.Permuted.{all-bound, no-other}
 use Rattle.theory.specs.Record.{Assignment, assigned}
 use Rattle.theory.specs.Tests.{unassignedE, unassignedU, oneSign, monotone, isOpen, allAssigned, occurs}
 use Rattle.theory.specs.Laws.First.{first-open}
-use Rattle.rules.specs.Due.{literal, onPicked, firstOf, firstMonotone, firstUnassigned}
+use Rattle.record.specs.Found.{literal}
+use Rattle.rules.specs.Due.{onPicked, firstOf, firstMonotone, firstUnassigned}
 use Rattle.rules.specs.Preferred.{firstOpen}
-use Rattle.rules.specs.Inner.Tables.{valueIn, Values, Quantifiers, Levels, Lowest, places}
+use Rattle.record.specs.Inner.Tables.{valueIn, Values, places}
+use Rattle.rules.specs.Inner.Levels.{Levels, Lowest}
 use Rattle.rules.specs.Inner.ByLiteral.{Occurring}
 use Rattle.rules.specs.Inner.Variables.{assignedIn, unassignedIn, signsIn, monotoneIn, lowestIn, openIn, preferredIn}
-use Rattle.rules.specs.Inner.Ready.{Bound}
-use Rattle.rules.specs.Laws.Good.{bare, bare-proper}
+use Rattle.record.specs.Inner.Ready.{Bound}
+use Rattle.record.specs.Laws.Good.{bare, bare-proper}
 use Rattle.rules.specs.Laws.Searches.{first-found, first-same, unassigned-none, unassigned-found}
 use Rattle.rules.specs.declared.found.Picked.{Picked}
 use Rattle.rules.specs.declared.found.Picked.the-variants.{Is, NoLiteral}
@@ -78,16 +79,6 @@ unassigned-in values p l e =
     go q true e = let z : _≡_ {A = ℕ} 0 1 = cc in absurd (omega arith)
     go q false e = let z : literal (pos (natAbs q)) ≡ l = cc in ap (λ (x : Literal). natAbs (x .0)) (sym z)
 
--- ---- quantifiers: a variable has one sign in the prefix
-pub quantifier-in : (p : List ℤ) → Bound p → (t : List ℕ) → Quantifiers p t → (l : ℤ) → eqb (getD t (natAbs l) 0) 2 ≡ universal p l
-unfolding universal
-quantifier-in p b t said l = rw (said (natAbs l)) (go (mem (pos (natAbs l)) p) (mem (negℤ (pos (natAbs l))) p) (λ e. let i = mem-e (pos (natAbs l)) p e in one-sign p (b .binds .once) i (in-named (length p) p (b .binds .named) i .some)))
-  where
-    go : (x y : Bool) → (x ≡ true → y ≡ false) → eqb (cond x 1 (cond y 2 0)) 2 ≡ y
-    go true y f = rw (f refl)
-    go false true f = refl
-    go false false f = refl
-
 -- ---- signs
 module _ (m : List (List ℤ)) (table : List ℕ) (said : Occurring m table) (v : ℕ) (h : v ≤ limits .variables) where
   plus : getD table (maxVariables + v) 0 ≡ cond (occurs m (pos v)) 1 0
@@ -118,7 +109,7 @@ module _ (m : List (List ℤ)) (table : List ℕ) (said : Occurring m table) (v 
 
 -- ---- Monotone: a word of the prefix and its opposite
 module _ (p : List ℤ) (b : Bound p) (m : List (List ℤ)) (ρ : Assignment) where
-  monotone-own : (q : ℤ) → In q p → monotone p m ρ q ≡ (not (assigned ρ q) && oneSign m (pos (natAbs q)))
+  pub monotone-own : (q : ℤ) → In q p → monotone p m ρ q ≡ (not (assigned ρ q) && oneSign m (pos (natAbs q)))
   unfolding monotone unassignedE unassignedU existential universal
   monotone-own (pos zero) i = absurd (let k = in-named (length p) p (b .binds .named) i in omega (arith, k .some))
   monotone-own (pos (suc n)) i =
@@ -126,7 +117,7 @@ module _ (p : List ℤ) (b : Bound p) (m : List (List ℤ)) (ρ : Assignment) wh
       (or-false (not (assigned ρ (pos (suc n))) && oneSign m (pos (suc n))))
   monotone-own (negsuc n) i = rw (mem-i i, one-sign p (b .binds .once) i (omega arith))
 
-  monotone-opposite : (q : ℤ) → In q p → monotone p m ρ (negℤ q) ≡ (not (assigned ρ q) && oneSign m (negℤ (pos (natAbs q))))
+  pub monotone-opposite : (q : ℤ) → In q p → monotone p m ρ (negℤ q) ≡ (not (assigned ρ q) && oneSign m (negℤ (pos (natAbs q))))
   unfolding monotone unassignedE unassignedU existential universal assigned
   monotone-opposite (pos zero) i = absurd (let k = in-named (length p) p (b .binds .named) i in omega (arith, k .some))
   monotone-opposite (pos (suc n)) i =

@@ -10,14 +10,15 @@ use Rattle.theory.specs.Record.{Record, trueIn}
 use Rattle.theory.specs.Tests.{inConflict, conflict, monotone as isMonotone, untrueOf, isOpen}
 use Rattle.theory.specs.Rules.{Conflict, Quiet, Full}
 use Rattle.theory.specs.Laws.First.{first-open}
-use Rattle.rules.specs.Due.{onFound, onUnit, onPicked, lowest, last, lowestUnit, firstMonotone, firstUnassigned, dueAssigned, dueDecide, dueMonotone, dueUnit, dueConflict, due}
-use Rattle.rules.specs.Inner.Ready.{Binds}
-use Rattle.rules.specs.Laws.Good.{bare, bare-proper}
+use Rattle.record.specs.Found.{onFound, last}
+use Rattle.rules.specs.Due.{onUnit, onPicked, lowest, lowestUnit, firstMonotone, firstUnassigned, dueAssigned, dueDecide, dueMonotone, dueUnit, dueConflict, due}
+use Rattle.record.specs.Inner.Ready.{Binds}
+use Rattle.record.specs.Laws.Good.{bare, bare-proper}
 use Rattle.rules.specs.Laws.Searches.{lowest-none, lowest-at, UnitOf, unit-found, monotone-found, unassigned-none, unassigned-found}
-use Rattle.rules.specs.declared.rule.Rule.{Rule}
-use Rattle.rules.specs.declared.rule.Rule.the-variants.{BacktrackExists, Fail, Unit, Monotone, Decide, BacktrackForall, Succeed}
-use Rattle.rules.specs.declared.found.Found.{Found}
-use Rattle.rules.specs.declared.found.Found.the-variants.{At, Nothing}
+use Rattle.record.specs.declared.rule.Rule.{Rule}
+use Rattle.record.specs.declared.rule.Rule.the-variants.{BacktrackExists, Fail, Unit, Monotone, Decide, BacktrackForall, Succeed}
+use Rattle.record.specs.declared.found.Found.{Found}
+use Rattle.record.specs.declared.found.Found.the-variants.{At, Nothing}
 use Rattle.rules.specs.declared.found.Picked.{Picked}
 use Rattle.rules.specs.declared.found.Picked.the-variants.{Is, NoLiteral}
 use Rattle.rules.specs.declared.found.UnitFound.{UnitFound}

@@ -6,10 +6,10 @@ use Rattle.words.specs.Rows.{refusalOf}
 use Rattle.words.specs.declared.Literal.{Literal}
 use Rattle.formula.specs.Limits.{Limits}
 use Rattle.theory.specs.Record.{Assignment}
-use Rattle.rules.specs.declared.rule.Rule.{Rule}
+use Rattle.record.specs.declared.rule.Rule.{Rule}
 use Rattle.session.specs.declared.Revision.{Revision}
 use Rattle.session.specs.declared.Session.{Session}
-use Rattle.session.specs.Memory.{Memory}
+use Rattle.memory.specs.Memory.{Memory}
 use Rattle.session.specs.Refusals.{ofProposal, sessionRows}
 
 unfoldable pub sessionRefusal : Limits → Session → List ℤ → Memory → Revision → ℕ

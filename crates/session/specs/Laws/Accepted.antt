@@ -9,67 +9,34 @@ use lib.Dec.{eqb}
 use lib.IntN.{ℤ, natAbs}
 use lib.ListN.{length}
 use native.Mathlib.Omega.{arith}
-use borrow.Author.Tests.{eqb-true, ltb-false, not-false, le-ltb, lt-ltb, eq-eqb, ne-eqb}
+use borrow.Author.Tests.{eqb-true, ltb-false, not-false, lt-ltb, eq-eqb, ne-eqb}
 use Rattle.words.specs.Laws.Bools.{clash, or-fl, or-fr}
 use Rattle.words.specs.Rows.{refusalOf}
 use Rattle.words.specs.Laws.Rows.{goes-on, first-part, passed}
 use Rattle.words.specs.declared.Literal.{Literal}
 use Rattle.formula.specs.Limits.{Limits}
 use Rattle.formula.specs.Formula.{variablesOf, clauseCountOf, prefixOf, formulaOf}
-use Rattle.formula.specs.Block.{rows, refusal}
 use Rattle.theory.specs.Record.{trueIn}
 use Rattle.theory.specs.Tests.{isOpen}
-use Rattle.rules.specs.declared.rule.State.{State}
-use Rattle.rules.specs.declared.rule.State.the-variants.{Open, Valid, Unsat}
+use Rattle.record.specs.declared.rule.State.{State}
+use Rattle.record.specs.declared.rule.State.the-variants.{Open, Valid, Unsat}
 use Rattle.rules.specs.Due.{due}
 use Rattle.rules.specs.Preferred.{decides}
-use Rattle.rules.specs.Trail.{Trail, recordOf}
-use Rattle.rules.specs.Search.{search, recordIn}
-use Rattle.rules.specs.Check.{badRecord}
-use Rattle.rules.specs.Inner.Ready.{OnBuffers, OnBlock, Fitting, Permitted}
-use Rattle.rules.specs.Laws.Accepted.{prefix-length, on-block}
+use Rattle.record.specs.Trail.{Trail, recordOf}
+use Rattle.record.specs.Search.{search, recordIn}
+use Rattle.record.specs.Check.{badRecord}
+use Rattle.record.specs.Inner.Ready.{OnBlock, Fitting, Permitted}
+use Rattle.record.specs.Laws.Accepted.{prefix-length, on-block}
 use Rattle.rules.specs.Laws.Steps.{due-fits}
+use Rattle.memory.specs.Laws.Opened.{opened, open-passes, buffers-room, reasons-room, room-buffers}
 use Rattle.session.specs.declared.Revision.{Revision}
 use Rattle.session.specs.declared.Session.{Session}
-use Rattle.session.specs.Memory.{Memory, recordPlaces, places}
-use Rattle.session.specs.Reasons.{badReasons}
-use Rattle.session.specs.Refusals.{lastRevision, over, proposed, ofBuffers, openRows, openRefusal, ofSession, sessionRows, ofStep, stepRows, stepRefusal, ofRun, runRows, runRefusal}
+use Rattle.memory.specs.Memory.{Memory, places}
+use Rattle.memory.specs.Reasons.{badReasons}
+use Rattle.memory.specs.Refusals.{openRows, openRefusal}
+use Rattle.session.specs.Refusals.{lastRevision, over, proposed, ofSession, sessionRows, ofStep, stepRows, stepRefusal, ofRun, runRows, runRefusal}
 use Rattle.session.specs.Inner.Guards.{sessionRefusal}
 use Rattle.session.specs.Outcome.{searchOf}
-
--- ---- the block's rows and row 11: the buffers have a place for each variable
-pub record Opened (L : Limits) (b : List ℤ) (n : ℕ) : Type 0 where
-  pub block : refusal L b ≡ 0
-  pub enough : variablesOf b ≤ n
-
-module _ (L : Limits) (b : List ℤ) (n : ℕ) where
-  pub from-11 : refusal L b ≡ 0 → openRefusal L b n ≡ refusalOf (ofBuffers b n)
-  unfolding refusal openRefusal
-  from-11 = goes-on (rows L b) (ofBuffers b n) refl
-
-  pub opened : openRefusal L b n ≡ 0 → Opened L b n
-  unfolding refusal openRefusal
-  opened e = record { block = first-part (rows L b) (ofBuffers b n) e; enough = ltb-false n (variablesOf b) (passed (openRows L b n) refl e 11) }
-
-  pub open-passes : Opened L b n → openRefusal L b n ≡ 0
-  open-passes o = rw (from-11 (o .block), le-ltb n (variablesOf b) (o .enough))
-
--- the record's two buffers, and all three
-pub record-room : {L : Limits} {b : List ℤ} (t : Trail) → Opened L b (recordPlaces t) → OnBuffers L b t
-record-room t o = let h = o .enough in record { block = o .block; room = record { lits = omega arith; kinds = omega arith } }
-
-pub room-record : {L : Limits} {b : List ℤ} (t : Trail) → OnBuffers L b t → Opened L b (recordPlaces t)
-room-record t o = record { block = o .block; enough = omega (arith, o .room .lits, o .room .kinds) }
-
-module _ {L : Limits} {b : List ℤ} (m : Memory) where
-  pub buffers-room : Opened L b (places m) → OnBuffers L b (m .trail)
-  buffers-room o = let h = o .enough in record-room (m .trail) (record { block = o .block; enough = omega arith })
-
-  pub reasons-room : Opened L b (places m) → variablesOf b ≤ length (m .reasons)
-  reasons-room o = let h = o .enough in omega arith
-
-  pub room-buffers : OnBuffers L b (m .trail) → variablesOf b ≤ length (m .reasons) → Opened L b (places m)
-  room-buffers o h = record { block = o .block; enough = omega (arith, room-record (m .trail) o .enough) }
 
 -- ---- rows 1 to 12: the due rule has a place to write to
 pub fitting : {L : Limits} {b : List ℤ} {t : Trail} {n : ℕ} → OnBlock L b t n → Fitting (prefixOf b) n (due (formulaOf b) (recordOf t n))

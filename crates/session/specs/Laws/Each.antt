@@ -11,17 +11,17 @@ use lib.ListN.{length, getD}
 use lib.Seq.{getD-set-same}
 use Rattle.words.specs.declared.Literal.{Literal}
 use Rattle.theory.specs.Record.{Entry, entry, Record}
-use Rattle.rules.specs.declared.rule.Rule.{Rule}
-use Rattle.rules.specs.declared.rule.Rule.the-variants.{BacktrackExists, Fail, Unit, Monotone, Decide, BacktrackForall, Succeed}
-use Rattle.rules.specs.Trail.{Trail, recordOf, entryAt}
-use Rattle.rules.specs.Search.{Search, recordIn}
-use Rattle.rules.specs.Apply.{apply}
-use Rattle.rules.specs.Inner.Ready.{Room, KeptIn, Fitting}
-use Rattle.rules.specs.Laws.Wiped.{wiped-inside}
-use Rattle.rules.specs.Laws.Records.{kept-room, kept-more, room-less, record-more}
-use Rattle.rules.specs.Laws.Untouched.{apply-untouched, apply-lengths}
-use Rattle.session.specs.Reasons.{noted}
-use Rattle.session.specs.Laws.Noted.{noted-untouched}
+use Rattle.record.specs.declared.rule.Rule.{Rule}
+use Rattle.record.specs.declared.rule.Rule.the-variants.{BacktrackExists, Fail, Unit, Monotone, Decide, BacktrackForall, Succeed}
+use Rattle.record.specs.Trail.{Trail, recordOf, entryAt}
+use Rattle.record.specs.Search.{Search, recordIn}
+use Rattle.record.specs.Apply.{apply}
+use Rattle.record.specs.Inner.Ready.{Room, KeptIn, Fitting}
+use Rattle.record.specs.Laws.Wiped.{wiped-inside}
+use Rattle.record.specs.Laws.Records.{kept-room, kept-more, room-less, record-more}
+use Rattle.record.specs.Laws.Untouched.{apply-untouched, apply-lengths}
+use Rattle.memory.specs.Reasons.{noted}
+use Rattle.memory.specs.Laws.Noted.{noted-untouched}
 
 -- a property of an entry, of those before it and of its reason, at every entry
 abbrev pub Each : (Record → Entry → ℕ → Type 0) → Search → List ℕ → Type 0

@@ -20,13 +20,13 @@ use Rattle.formula.specs.Laws.Clauses.{clauses-in}
 use Rattle.formula.specs.Laws.Permuted.{quantified}
 use Rattle.theory.specs.Record.{entry, Record, Assignment, trueIn, assigned}
 use Rattle.theory.specs.Laws.Tested.{unassignedE-i, unassignedU-i, UnitAt, unit-e}
-use Rattle.rules.specs.declared.rule.Rule.the-variants.{Unit}
-use Rattle.rules.specs.Search.{Search, recordIn}
+use Rattle.record.specs.declared.rule.Rule.the-variants.{Unit}
+use Rattle.record.specs.Search.{Search, recordIn}
 use Rattle.rules.specs.Due.{due}
-use Rattle.rules.specs.Apply.{apply}
-use Rattle.rules.specs.Inner.Ready.{OnBlock}
-use Rattle.rules.specs.Laws.Accepted.{prefix-length, accepted-binds}
-use Rattle.session.specs.Reasons.{noted}
+use Rattle.record.specs.Apply.{apply}
+use Rattle.record.specs.Inner.Ready.{OnBlock}
+use Rattle.record.specs.Laws.Accepted.{prefix-length, accepted-binds}
+use Rattle.memory.specs.Reasons.{noted}
 use Rattle.session.specs.Forced.{Aside, Forced, Explained}
 use Rattle.session.specs.Laws.Accepted.{fitting}
 use Rattle.session.specs.Laws.Named.{Names, due-names}

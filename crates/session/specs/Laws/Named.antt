@@ -16,22 +16,23 @@ use Rattle.formula.specs.Laws.Accepted.{accepted}
 use Rattle.formula.specs.Laws.Clauses.{clauses-length}
 use Rattle.theory.specs.Record.{Record, trueIn}
 use Rattle.theory.specs.Tests.{inConflict, unitOn}
-use Rattle.rules.specs.declared.rule.Rule.{Rule}
-use Rattle.rules.specs.declared.rule.Rule.the-variants.{BacktrackExists, Fail, Unit, Monotone, Decide, BacktrackForall, Succeed}
-use Rattle.rules.specs.declared.found.Found.{Found}
-use Rattle.rules.specs.declared.found.Found.the-variants.{At, Nothing}
+use Rattle.record.specs.declared.rule.Rule.{Rule}
+use Rattle.record.specs.declared.rule.Rule.the-variants.{BacktrackExists, Fail, Unit, Monotone, Decide, BacktrackForall, Succeed}
+use Rattle.record.specs.declared.found.Found.{Found}
+use Rattle.record.specs.declared.found.Found.the-variants.{At, Nothing}
 use Rattle.rules.specs.declared.found.Picked.{Picked}
 use Rattle.rules.specs.declared.found.Picked.the-variants.{Is, NoLiteral}
 use Rattle.rules.specs.declared.found.UnitFound.{UnitFound}
 use Rattle.rules.specs.declared.found.UnitFound.the-variants.{On, NoUnit}
-use Rattle.rules.specs.Trail.{recordOf}
-use Rattle.rules.specs.Due.{literal, onFound, onUnit, onPicked, lowest, last, candidate, isUnit, lowestUnit, firstMonotone, firstUnassigned, dueAssigned, dueDecide, dueMonotone, dueUnit, dueConflict, due}
-use Rattle.rules.specs.Inner.Ready.{Fitting}
-use Rattle.rules.specs.Laws.Accepted.{prefix-length}
+use Rattle.record.specs.Trail.{recordOf}
+use Rattle.record.specs.Found.{literal, onFound, last}
+use Rattle.rules.specs.Due.{onUnit, onPicked, lowest, candidate, isUnit, lowestUnit, firstMonotone, firstUnassigned, dueAssigned, dueDecide, dueMonotone, dueUnit, dueConflict, due}
+use Rattle.record.specs.Inner.Ready.{Fitting}
+use Rattle.record.specs.Laws.Accepted.{prefix-length}
 use Rattle.rules.specs.Laws.Searches.{lowest-at}
-use Rattle.session.specs.Memory.{Memory}
-use Rattle.session.specs.Reasons.{reasonOf}
-use Rattle.session.specs.Inner.Reasons.{PlaceFits, Tellable, OnMemory}
+use Rattle.memory.specs.Memory.{Memory}
+use Rattle.memory.specs.Reasons.{reasonOf}
+use Rattle.memory.specs.Inner.Reasons.{PlaceFits, Tellable, OnMemory}
 use Rattle.session.specs.Laws.Accepted.{fitting}
 
 lowest-below : {A : Type 0} (f : A → Bool) (n : ℕ) (xs : List A) (i : ℕ) → lowest f n xs ≡ At i → i < n + length xs

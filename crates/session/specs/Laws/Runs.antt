@@ -11,17 +11,17 @@ use Rattle.words.specs.Laws.Bools.{clash, look}
 use Rattle.formula.specs.Formula.{Formula}
 use Rattle.theory.specs.Record.{Record, Assignment, trueIn}
 use Rattle.theory.specs.Rules.{State as Standing, Step, Path, stop, take}
-use Rattle.rules.specs.declared.rule.State.{State}
-use Rattle.rules.specs.declared.rule.State.the-variants.{Open, Valid, Unsat}
-use Rattle.rules.specs.declared.rule.Rule.{Rule}
+use Rattle.record.specs.declared.rule.State.{State}
+use Rattle.record.specs.declared.rule.State.the-variants.{Open, Valid, Unsat}
+use Rattle.record.specs.declared.rule.Rule.{Rule}
 use Rattle.rules.specs.Due.{due}
 use Rattle.rules.specs.Preferred.{firstOpen, decides, proposalOf}
-use Rattle.rules.specs.Search.{Search, recordIn, standing, standingOf}
-use Rattle.rules.specs.Inner.Ready.{KeptIn, Permitted}
+use Rattle.record.specs.Search.{Search, recordIn, standing, standingOf}
+use Rattle.record.specs.Inner.Ready.{KeptIn, Permitted}
 use Rattle.rules.specs.Laws.Searches.{first-open}
 use Rattle.rules.specs.Laws.Steps.{due-step, due-keeps}
 use Rattle.session.specs.Refusals.{over}
-use Rattle.session.specs.Reasons.{Why, why, told}
+use Rattle.memory.specs.Reasons.{Why, why, told}
 use Rattle.session.specs.Run.{Trip, trip, whileOpen, advance, runFrom, whyFrom}
 use Rattle.session.specs.Calls.{lastReason}
 use Rattle.session.specs.Laws.Accepted.{over-open}

@@ -1,51 +1,30 @@
 -- The due rule leaves reasons that rows 11 and 12 let pass: row 12 is a property of every entry with its reason, and the clause named is one of C.
-use Prim.Native.Nat.{ℕ, zero, suc, _+_, _<_}
-use mathlib.Core.Path.{_≡_, refl}
-use mathlib.Core.Bool.{false, not, and-false}
+use Prim.Native.Nat.{ℕ, _+_}
+use mathlib.Core.Path.{_≡_}
+use mathlib.Core.Bool.{false}
 use mathlib.Core.List.{List}
-use native.Mathlib.Decide.{ℕ-discrete}
 use native.Mathlib.Omega.{arith}
-use lib.Dec.{eqb}
 use lib.IntN.{ℤ}
 use lib.ListN.{getD, replicate, length-replicate}
 use borrow.Author.Tests.{le-ltb}
-use Rattle.words.specs.Laws.Bools.{or-fl, or-fr}
 use Rattle.words.specs.Laws.Lists.{blank as zeros}
 use Rattle.words.specs.declared.Literal.{Literal}
 use Rattle.formula.specs.Limits.{Limits}
 use Rattle.formula.specs.Formula.{variablesOf, clauseCountOf, prefixOf, formulaOf}
 use Rattle.theory.specs.Record.{Entry, Record}
-use Rattle.rules.specs.declared.rule.Rule.the-variants.{Unit}
-use Rattle.rules.specs.Trail.{Trail}
-use Rattle.rules.specs.Search.{Search, recordIn}
+use Rattle.record.specs.declared.rule.Rule.the-variants.{Unit}
+use Rattle.record.specs.Search.{Search, recordIn}
 use Rattle.rules.specs.Due.{due}
-use Rattle.rules.specs.Apply.{apply}
-use Rattle.rules.specs.Inner.Ready.{OnBlock}
-use Rattle.rules.specs.Laws.Accepted.{prefix-length}
-use Rattle.session.specs.Memory.{memoryOf}
-use Rattle.session.specs.Reasons.{noted, badReason, badReasons}
+use Rattle.record.specs.Apply.{apply}
+use Rattle.record.specs.Inner.Ready.{OnBlock}
+use Rattle.record.specs.Laws.Accepted.{prefix-length}
+use Rattle.memory.specs.Memory.{memoryOf}
+use Rattle.memory.specs.Reasons.{noted, badReason}
+use Rattle.memory.specs.Laws.BadReasons.{bad-each, each-bad, zero-right}
 use Rattle.session.specs.Laws.Accepted.{fitting, Sound}
-use Rattle.session.specs.Laws.Noted.{noted-length}
+use Rattle.memory.specs.Laws.Noted.{noted-length}
 use Rattle.session.specs.Laws.Named.{due-names, clause-count}
 use Rattle.session.specs.Laws.Each.{Each, each-after}
-
--- a wrong reason is one of the entries'
-module _ (c : ℕ) (t : Trail) (ws : List ℕ) where
-  bad-each : (n : ℕ) → badReasons c (t .kinds) ws n ≡ false → (j : ℕ) → j < n → badReason c (getD (t .kinds) j 0) (getD ws j 0) ≡ false
-  unfolding badReasons
-  bad-each zero h j l = absurd (omega arith)
-  bad-each (suc n) h j l =
-      let x = badReason c (getD (t .kinds) n 0) (getD ws n 0) in
-      let y = badReasons c (t .kinds) ws n in
-      elim (ℕ-discrete j n) [ yes e ↦ rw e (or-fl x y h) | no f ↦ bad-each n (or-fr x y h) j (omega arith) ]
-
-  each-bad : (n : ℕ) → ((j : ℕ) → j < n → badReason c (getD (t .kinds) j 0) (getD ws j 0) ≡ false) → badReasons c (t .kinds) ws n ≡ false
-  unfolding badReasons
-  each-bad zero h = refl
-  each-bad (suc n) h = rw (h n (omega arith), each-bad n (λ j l. h j (omega arith)))
-
-pub zero-right : (c k : ℕ) → badReason c k 0 ≡ false
-zero-right c k = rw (le-ltb c 0 (omega arith)) (and-false (not (eqb k 0)))
 
 -- reasons that are all 0 pass rows 11 and 12, beside any record
 pub none-sound : (b : List ℤ) (t : Search) (n : ℕ) → Sound b (memoryOf t (replicate (variablesOf b) 0)) n

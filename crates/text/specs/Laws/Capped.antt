@@ -3,10 +3,10 @@ use mathlib.Core.Path.{_≡_, refl, sym, _∙_, ap}
 use mathlib.Core.Bool.{Bool, true, false, cond}
 use Prim.Native.Nat.{ℕ, _+_, _*_, _-_, _≤_, min}
 use native.Mathlib.Omega.{arith}
-use Rattle.text.specs.Grammar.{'0'}
-use Rattle.text.specs.declared.State.{State}
+use Rattle.grammar.specs.Grammar.{'0'}
+use Rattle.grammar.specs.declared.State.{State}
 use Rattle.text.specs.Pieces.{capped}
-use Rattle.text.specs.Machine.{inside, move, ifInside, oneMore, shift}
+use Rattle.grammar.specs.Machine.{inside, move, ifInside, oneMore, shift}
 
 -- one byte, with the cap
 unfoldable pub cappedShift : State → ℕ → ℕ → ℕ

@@ -12,19 +12,19 @@ use lib.IntN.{ℤ, pos}
 use borrow.Author.Tests.{lt-ltb, le-ltb}
 use Rattle.words.specs.Laws.Bools.{look}
 use Rattle.words.specs.Outcomes.{Outcome, outcome}
-use Rattle.text.specs.declared.Slot.{Slot}
-use Rattle.text.specs.declared.Slot.the-variants.{OfVariables, OfCount, OfGroup, OfClause}
-use Rattle.text.specs.declared.State.{State}
-use Rattle.text.specs.declared.State.the-variants.{Dead}
-use Rattle.text.specs.declared.Says.{Says}
-use Rattle.text.specs.declared.Says.the-variants.{Nothing, Zero, Value, Forall, Exists, Ends}
+use Rattle.grammar.specs.declared.Slot.{Slot}
+use Rattle.grammar.specs.declared.Slot.the-variants.{OfVariables, OfCount, OfGroup, OfClause}
+use Rattle.grammar.specs.declared.State.{State}
+use Rattle.grammar.specs.declared.State.the-variants.{Dead}
+use Rattle.grammar.specs.declared.Says.{Says}
+use Rattle.grammar.specs.declared.Says.the-variants.{Nothing, Zero, Value, Forall, Exists, Ends}
 use Rattle.text.specs.declared.Kept.{Kept}
 use Rattle.text.specs.declared.Reader.{Reader}
-use Rattle.text.specs.Machine.{Event, alive, move, shift, signed, numbered, events, trace}
-use Rattle.text.specs.Reads.{taken}
+use Rattle.grammar.specs.Machine.{Event, alive, move, shift, signed, numbered, events, trace}
+use Rattle.grammar.specs.Reads.{taken}
 use Rattle.text.specs.Tree.{beyond, lastPlace}
 use Rattle.text.specs.Pieces.{capped, stored, keep, keeps, counted, byteOf, pieceOf}
-use Rattle.text.specs.Laws.Viable.{dead-is}
+use Rattle.grammar.specs.Laws.Viable.{dead-is}
 use Rattle.text.specs.Laws.Capped.{cappedShift, cap-shift}
 
 -- ---- the cap

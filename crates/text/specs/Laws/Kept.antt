@@ -12,9 +12,9 @@ use Rattle.words.specs.Laws.Lists.{any-append}
 use Rattle.words.specs.Outcomes.{outcome}
 use Rattle.formula.specs.Block.{noVariable}
 use Rattle.text.specs.declared.Kept.{Kept}
-use Rattle.text.specs.Grammar.{Group, Text}
-use Rattle.text.specs.Machine.{Event, ends, signed}
-use Rattle.text.specs.Events.{sayNumbers, sayLiterals, sayGroups, sayClauses, say}
+use Rattle.grammar.specs.Grammar.{Group, Text}
+use Rattle.grammar.specs.Machine.{Event, ends, signed}
+use Rattle.grammar.specs.Events.{sayNumbers, sayLiterals, sayGroups, sayClauses, say}
 use Rattle.text.specs.Tree.{isForall, numbersOf, literalsOf, beyond}
 use Rattle.text.specs.Pieces.{capped, stored, keep, keeps, nothingKept}
 

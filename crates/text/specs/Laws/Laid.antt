@@ -12,8 +12,8 @@ use borrow.Author.Tests.{ltb-false, le-ltb}
 use Rattle.words.specs.Laws.Bools.{or-fl, or-fr}
 use Rattle.words.specs.Lists.{any}
 use Rattle.words.specs.Laws.Lists.{any-append}
-use Rattle.text.specs.Grammar.{Group}
-use Rattle.text.specs.Machine.{signed}
+use Rattle.grammar.specs.Grammar.{Group}
+use Rattle.grammar.specs.Machine.{signed}
 use Rattle.text.specs.Tree.{isForall, wordsOf, numbersOf, literalsOf, endsOf, beyond}
 use Rattle.text.specs.Pieces.{capped, stored}
 use Rattle.text.specs.Laws.Kept.{put, putClauses, put-append, large, storedAs, storedIs, storedWords}

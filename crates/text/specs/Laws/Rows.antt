@@ -15,7 +15,7 @@ use Rattle.words.specs.Lists.{any}
 use Rattle.words.specs.Rows.{refusalOf}
 use Rattle.formula.specs.Limits.{Limits, limits}
 use Rattle.formula.specs.Laws.Limits.{variables-are, clauses-are, literals-are}
-use Rattle.text.specs.Grammar.{Text}
+use Rattle.grammar.specs.Grammar.{Text}
 use Rattle.text.specs.Tree.{numbersOf, literalsOf, beyond, someBeyond, countRows, textRefusal}
 use Rattle.text.specs.Pieces.{capped}
 use Rattle.text.specs.Laws.Followed.{beyond-cap}

@@ -24,8 +24,8 @@ use Rattle.formula.specs.Laws.Permuted.{words-count}
 use Rattle.formula.specs.Limits.{Limits}
 use Rattle.formula.specs.Block.{names, noVariable, twice, refusal}
 use Rattle.text.specs.declared.Answer.the-variants.{Refused, Row as AtRow}
-use Rattle.text.specs.Grammar.{Group, Text}
-use Rattle.text.specs.Machine.{signed}
+use Rattle.grammar.specs.Grammar.{Group, Text}
+use Rattle.grammar.specs.Machine.{signed}
 use Rattle.text.specs.Tree.{isForall, wordsOf, numbersOf, literalsOf, endsOf, someBeyond, countRows, textRefusal, blockOf, treeRows, rowOf, zeros, textOf}
 use Rattle.text.specs.Pieces.{capped, keptWords, keptEnds, keptLiterals, keptBlock, keptRow, settled}
 use Rattle.text.specs.Laws.Stores.{drop-take, take-run, drop-run}

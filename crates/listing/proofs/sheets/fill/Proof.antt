@@ -6,8 +6,8 @@ use Rattle.formula.specs.Limits.{maxVariables}
 use native.Mathlib.Omega.{arith}
 use borrow.Author.Needs.{needs}
 use Rattle.words.specs.Outcomes.{same-answer, same-memory}
-use Rattle.rules.specs.Trail.{trail}
-use Rattle.rules.specs.Inner.Ready.{LentTables}
+use Rattle.record.specs.Trail.{trail}
+use Rattle.rules.specs.Inner.Lent.{LentTables}
 use Rattle.rules.specs.Laws.Blanks.{new-blank}
 use Rattle.listing.specs.Page.{pageMemory}
 use Rattle.listing.proofs.Pages.{Round, narrow, begins, still-on, full, pauses, wins, loses, stops}

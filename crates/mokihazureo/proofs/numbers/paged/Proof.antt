@@ -1,6 +1,6 @@
 -- One case of the answer to a return; the numbers are stored one after the other.
 use mathlib.Core.Path.{refl}
-use Rattle.mokihazureo.proofs.Exits.{bit}
+use Rattle.saved.specs.Back.{bit}
 use borrow.Author.Needs.{needs}
 use Rattle.mokihazureo.proofs.numbers.paged.Statement.{statement}
 use Rattle.mokihazureo.proofs.numbers.paged.Tie as tie

@@ -1,6 +1,6 @@
 -- The walk over the clauses; none of those passed is in conflict or a unit clause. In a clause, what is left of it decides with the look so far.
 use Prim.Native.Nat.{_-_}
-use mathlib.Core.Path.{_≡_, refl, sym, _∙_}
+use mathlib.Core.Path.{_≡_, refl, _∙_}
 use mathlib.Core.Bool.{false}
 use mathlib.Core.Logic.{⊎-elim}
 use native.Mathlib.Omega.{arith}
@@ -11,11 +11,12 @@ use Rattle.rules.specs.Inner.ByLiteral.{statusIn}
 use Rattle.rules.specs.Inner.Clauses.{Placed, levelBy, sightFrom, sightWith, decidingBy}
 use Rattle.rules.specs.declared.found.Deciding.the-variants.{Quiet}
 use Rattle.rules.specs.declared.found.UnitFound.the-variants.{NoUnit}
-use Rattle.rules.proofs.Walk.{Turn, turn, placed-part, Walk, walk-on, walk-stop, walk-end}
+use Rattle.rules.specs.Laws.ClausesReady.{placed-part}
+use Rattle.rules.proofs.Walk.{Turn, turn, Walk, walk-on, walk-stop, walk-end}
 use Rattle.rules.proofs.Looks.{look-start, clause-decides, clause-neither, clause-next, clause-over}
 use Rattle.rules.proofs.Deciding.{deciding-next, deciding-past, deciding-none}
 use Rattle.rules.proofs.clauses.deciding.Statement.{statement}
-use Rattle.rules.specs.Inner.Tables.{places}
+use Rattle.record.specs.Inner.Tables.{places}
 use Rattle.rules.proofs.clauses.deciding.Tie as tie
 
 abbrev Inv-loop : tie.InvT-loop

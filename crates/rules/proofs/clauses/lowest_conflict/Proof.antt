@@ -8,7 +8,8 @@ use Rattle.formula.specs.Formula.{clausesFrom}
 use Rattle.rules.specs.Due.{lowest}
 use Rattle.rules.specs.Inner.ByLiteral.{statusIn}
 use Rattle.rules.specs.Inner.Clauses.{conflictBy}
-use Rattle.rules.proofs.Walk.{Turn, turn, placed-part, Walk, walk-on, walk-stop, walk-end, lowest-hit, lowest-miss, lowest-none}
+use Rattle.rules.specs.Laws.ClausesReady.{placed-part}
+use Rattle.rules.proofs.Walk.{Turn, turn, Walk, walk-on, walk-stop, walk-end, lowest-hit, lowest-miss, lowest-none}
 use Rattle.rules.proofs.clauses.lowest_conflict.Statement.{statement}
 use Rattle.rules.proofs.clauses.lowest_conflict.Tie as tie
 

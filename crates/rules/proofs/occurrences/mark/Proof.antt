@@ -3,7 +3,7 @@ use Prim.Native.Nat.{_-_}
 use lib.ListN.{length}
 use borrow.Author.Needs.{needs}
 use Rattle.formula.specs.Inner.Places.{literalPlaces}
-use Rattle.rules.proofs.Filled.{Filled}
+use Rattle.record.specs.Laws.Filled.{Filled}
 use Rattle.rules.proofs.Occurring.{marked, mark-begin, mark-placed, mark-next, mark-end}
 use Rattle.rules.proofs.occurrences.mark.Statement.{statement}
 use Rattle.rules.proofs.occurrences.mark.Tie as tie

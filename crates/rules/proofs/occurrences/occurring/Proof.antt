@@ -4,7 +4,8 @@ use native.Mathlib.Omega.{arith}
 use lib.ListN.{length}
 use borrow.Author.Needs.{needs}
 use Rattle.rules.specs.Inner.ByLiteral.{statusIn, trueBy}
-use Rattle.rules.proofs.Walk.{Turn, turn, placed-part}
+use Rattle.rules.specs.Laws.ClausesReady.{placed-part}
+use Rattle.rules.proofs.Walk.{Turn, turn}
 use Rattle.rules.proofs.Occurring.{Counting, count-begin, count-next, count-end}
 use Rattle.rules.proofs.occurrences.occurring.Statement.{statement}
 use Rattle.rules.proofs.occurrences.occurring.Tie as tie

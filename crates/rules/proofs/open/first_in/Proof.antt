@@ -5,7 +5,8 @@ use lib.IntN.{pos}
 use lib.ListN.{length}
 use borrow.Author.Needs.{needs}
 use native.Mathlib.Omega.{arith}
-use Rattle.rules.specs.Due.{literal, onPicked}
+use Rattle.record.specs.Found.{literal}
+use Rattle.rules.specs.Due.{onPicked}
 use Rattle.rules.specs.Inner.Variables.{preferredIn}
 use Rattle.rules.proofs.First.{Left, left-begin, left-end, left-here, left-past, preferred-here, preferred-past}
 use Rattle.rules.proofs.open.first_in.Statement.{statement}

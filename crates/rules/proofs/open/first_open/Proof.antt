@@ -2,9 +2,9 @@
 use denote.Ref.{now}
 use mathlib.Core.Path.{_∙_, ap}
 use borrow.Author.Needs.{needs}
-use Rattle.rules.specs.Due.{literal}
-use Rattle.rules.specs.Inner.Ready.{Bound}
-use Rattle.rules.specs.Laws.Accepted.{accepted-bound}
+use Rattle.record.specs.Found.{literal}
+use Rattle.record.specs.Inner.Ready.{Bound}
+use Rattle.record.specs.Laws.Accepted.{accepted-bound}
 use Rattle.rules.specs.Laws.VariablesMean.{lowest-means, preferred-means}
 use Rattle.rules.proofs.open.first_open.Statement.{statement}
 use Rattle.rules.proofs.open.first_open.Tie as tie

@@ -5,8 +5,8 @@ use lib.IntN.{natAbs}
 use mir.Syntax.{w32}
 use mir.ValLaws.{toZ-ofZ}
 use borrow.Author.Needs.{needs}
-use Rattle.rules.specs.Inner.Ready.{Bound}
-use Rattle.rules.specs.Laws.Accepted.{accepted-bound}
+use Rattle.record.specs.Inner.Ready.{Bound}
+use Rattle.record.specs.Laws.Accepted.{accepted-bound}
 use Rattle.rules.specs.Laws.VariablesMean.{lowest-means, open-means}
 use Rattle.rules.proofs.open.is_open.Statement.{statement}
 use Rattle.rules.proofs.open.is_open.Tie as tie

@@ -9,7 +9,7 @@ use mir.ValLaws.{toZ-ofZ}
 use borrow.Author.Needs.{needs}
 use Rattle.formula.specs.Laws.Limits.{variables-are}
 use Rattle.formula.specs.Laws.Named.{in-named}
-use Rattle.rules.specs.Inner.Tables.{places}
+use Rattle.record.specs.Inner.Tables.{places}
 use Rattle.rules.specs.Inner.Variables.{lowestIn}
 use Rattle.rules.specs.Laws.VariablesMean.{unassigned-in}
 use Rattle.rules.proofs.open.lowest_level.Statement.{statement}

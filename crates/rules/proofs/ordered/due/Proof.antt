@@ -1,16 +1,16 @@
 -- The tables are those of a checked record, and what was written of them is wiped.
-use mathlib.Core.Path.{_≡_, sym, _∙_}
 use denote.Ref.{now}
 use borrow.Author.Needs.{needs}
 use Rattle.words.specs.Outcomes.{both-same}
 use Rattle.theory.specs.Record.{Record}
-use Rattle.rules.specs.Trail.{trail, recordOf}
-use Rattle.rules.specs.Inner.Ready.{Bound}
+use Rattle.record.specs.Trail.{trail, recordOf}
+use Rattle.record.specs.Inner.Ready.{Bound}
 use Rattle.rules.specs.Inner.Tabled.{Tabled}
-use Rattle.rules.specs.Laws.Records.{kept-room}
+use Rattle.record.specs.Laws.Records.{kept-room}
 use Rattle.rules.specs.Laws.Blanks.{same-blank}
 use Rattle.rules.specs.Laws.ClausesReady.{sorts}
-use Rattle.rules.specs.Laws.Accepted.{held-on, kept-tabled, accepted-bound}
+use Rattle.record.specs.Laws.Accepted.{held-on, accepted-bound}
+use Rattle.rules.specs.Laws.ClausesReady.{kept-tabled}
 use Rattle.rules.proofs.ordered.due.Statement.{statement}
 use Rattle.rules.proofs.ordered.due.Tie as tie
 

@@ -6,12 +6,12 @@ use Rattle.theory.specs.Record.{Record, trueIn}
 use Rattle.rules.specs.Due.{onUnit, dueConflict, dueMonotone, due}
 use Rattle.rules.specs.Inner.Clauses.{levelBy, onDeciding, decidingBy}
 use Rattle.rules.specs.Inner.ByLiteral.{statusIn}
-use Rattle.rules.specs.Inner.Ready.{formula, Ready}
-use Rattle.rules.specs.Inner.Tables.{Levels}
+use Rattle.record.specs.Inner.Ready.{formula, Ready}
+use Rattle.rules.specs.Inner.Levels.{Levels}
 use Rattle.rules.specs.Inner.Tabled.{Sorts}
 use Rattle.rules.specs.Laws.ClausesReady.{ready-clauses, deciding-ready}
-use Rattle.rules.specs.Laws.Accepted.{accepted-ready, formula-is}
-use Rattle.rules.specs.declared.rule.Rule.the-variants.{Unit}
+use Rattle.record.specs.Laws.Accepted.{accepted-ready, formula-is}
+use Rattle.record.specs.declared.rule.Rule.the-variants.{Unit}
 use Rattle.rules.specs.declared.found.Deciding.{Deciding}
 use Rattle.rules.specs.declared.found.Deciding.the-variants.{Quiet}
 use borrow.Author.Needs.{needs}

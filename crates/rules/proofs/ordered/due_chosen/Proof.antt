@@ -5,7 +5,7 @@ use Rattle.formula.specs.Formula.{clausesFrom}
 use Rattle.theory.specs.Record.{Assignment}
 use Rattle.theory.specs.Tests.{untrueOf}
 use Rattle.rules.specs.Due.{firstMonotone}
-use Rattle.rules.specs.Inner.Tables.{Values}
+use Rattle.record.specs.Inner.Tables.{Values}
 use Rattle.rules.specs.Inner.Tabled.{Sorts}
 use Rattle.rules.specs.Laws.VariablesMean.{monotone-means}
 use Rattle.rules.specs.Laws.ClausesReady.{ready-clauses, untrue-ready}

@@ -1,6 +1,6 @@
 -- An accepted block's prefix is bound.
 use borrow.Author.Needs.{needs}
-use Rattle.rules.specs.Laws.Accepted.{accepted-bound}
+use Rattle.record.specs.Laws.Accepted.{accepted-bound}
 use Rattle.rules.proofs.tables.levels.Statement.{statement}
 use Rattle.rules.proofs.tables.levels.Tie as tie
 

@@ -6,7 +6,7 @@ use lib.IntN.{pos}
 use lib.ListN.{length, getD, drop}
 use Rattle.formula.specs.Laws.Limits.{variables-are}
 use Rattle.formula.specs.Laws.Prefix.{change-few, fresh-at}
-use Rattle.rules.proofs.Filled.{placed, bound-named}
+use Rattle.record.specs.Laws.Filled.{placed, bound-named}
 use Rattle.rules.proofs.Levelled.{Levelled, begin, turn, end}
 use Rattle.rules.proofs.tables.levels_of.Statement.{statement}
 use Rattle.rules.proofs.tables.levels_of.Tie as tie

@@ -9,7 +9,7 @@ use native.Mathlib.Omega.{arith}
 use Rattle.formula.specs.Limits.{limits}
 use Rattle.rules.specs.Inner.Variables.{monotoneIn}
 use Rattle.rules.specs.declared.found.Picked.the-variants.{Is}
-use Rattle.rules.proofs.Filled.{placed, bound-named, word-small}
+use Rattle.record.specs.Laws.Filled.{placed, bound-named, word-small}
 use Rattle.rules.proofs.First.{Left, left-begin, left-end, left-here, left-past, monotone-set, monotone-plus, monotone-minus, monotone-mixed}
 use Rattle.rules.proofs.variables.first_monotone.Statement.{statement}
 use Rattle.rules.proofs.variables.first_monotone.Tie as tie

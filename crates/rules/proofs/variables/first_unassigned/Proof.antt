@@ -6,7 +6,7 @@ use borrow.Author.Needs.{needs}
 use native.Mathlib.Omega.{arith}
 use Rattle.rules.specs.Inner.Variables.{unassignedIn}
 use Rattle.rules.specs.declared.found.Picked.the-variants.{Is}
-use Rattle.rules.proofs.Filled.{placed, bound-named, word-small}
+use Rattle.record.specs.Laws.Filled.{placed, bound-named, word-small}
 use Rattle.rules.proofs.First.{Left, left-begin, left-end, left-here, left-past, unassigned-here, unassigned-past}
 use Rattle.rules.proofs.variables.first_unassigned.Statement.{statement}
 use Rattle.rules.proofs.variables.first_unassigned.Tie as tie

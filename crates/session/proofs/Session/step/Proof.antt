@@ -4,7 +4,7 @@ use borrow.Author.Needs.{needs}
 use mathlib.Core.Path.{sym, _∙_}
 use Rattle.formula.specs.Limits.{limits}
 use Rattle.words.specs.Outcomes.{same-answer}
-use Rattle.rules.specs.Laws.Accepted.{held-on}
+use Rattle.record.specs.Laws.Accepted.{held-on}
 use Rattle.rules.specs.Laws.Blanks.{new-blank}
 use Rattle.session.specs.Laws.Accepted.{fitting, guarded}
 use Rattle.session.specs.Laws.Named.{tellable}

@@ -1,7 +1,7 @@
 -- The rows in the table's order; each is asked where those before it have passed.
 use native.Mathlib.Omega.{arith}
 use borrow.Author.Needs.{needs}
-use Rattle.session.specs.Memory.{memory}
+use Rattle.memory.specs.Memory.{memory}
 use Rattle.session.proofs.Guards.{session-buffers, record-asked, reasons-asked, session-record, session-reasons, session-over, session-stale, session-passes}
 use Rattle.session.proofs.guard.session_refusal.Statement.{statement}
 use Rattle.session.proofs.guard.session_refusal.Tie as tie

@@ -1,10 +1,10 @@
 -- The due rule, with the proposal that the preferences give it, and what it leaves beside the record.
 use borrow.Author.Needs.{needs}
 use Rattle.words.specs.Outcomes.{same-answer, same-memory, both-same}
-use Rattle.rules.specs.Laws.Accepted.{held-on}
+use Rattle.record.specs.Laws.Accepted.{held-on}
 use Rattle.session.specs.Laws.Accepted.{fitting}
 use Rattle.session.specs.Laws.Named.{tellable}
-use Rattle.session.proofs.Rounds.{advanced}
+use Rattle.session.specs.Laws.Rounds.{advanced}
 use Rattle.session.proofs.searches.advance.Statement.{statement}
 use Rattle.session.proofs.searches.advance.Tie as tie
 

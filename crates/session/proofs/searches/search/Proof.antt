@@ -3,8 +3,8 @@ use mathlib.Core.Path.{_≡_, refl, _∙_}
 use Prim.Native.Nat.{_-_}
 use Rattle.words.specs.Outcomes.{same-answer, same-memory, both-same}
 use borrow.Author.Needs.{needs}
-use Rattle.session.specs.Memory.{memory}
-use Rattle.session.proofs.Rounds.{Round, begun, ended, more, used}
+use Rattle.memory.specs.Memory.{memory}
+use Rattle.session.specs.Laws.Rounds.{Round, begun, ended, more, used}
 use Rattle.session.proofs.searches.search.Statement.{statement}
 use Rattle.session.proofs.searches.search.Tie as tie
 

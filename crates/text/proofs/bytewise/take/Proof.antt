@@ -1,5 +1,5 @@
 -- The machine's step, and what it keeps, field by field.
-use Rattle.text.specs.Machine.{shift}
+use Rattle.grammar.specs.Machine.{shift}
 use Rattle.text.specs.Pieces.{byteOf}
 use borrow.Author.Needs.{needs}
 use Rattle.text.proofs.bytewise.take.Statement.{statement}

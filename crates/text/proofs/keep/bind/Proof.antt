@@ -5,7 +5,7 @@ use Prim.Native.Nat.{ℕ, zero, suc}
 use native.Mathlib.Omega.{arith}
 use lib.IntN.{pos}
 use borrow.Author.Tests.{ltb-false, le-ltb}
-use Rattle.text.specs.Machine.{signed}
+use Rattle.grammar.specs.Machine.{signed}
 use Rattle.text.specs.Tree.{beyond}
 use Rattle.text.specs.Pieces.{keep}
 use mir.Syntax.{w32}

@@ -7,7 +7,7 @@ use native.Mathlib.Omega.{arith}
 use lib.Dec.{ltb}
 use borrow.Author.Tests.{lt-ltb, le-ltb}
 use borrow.Author.Needs.{needs}
-use Rattle.text.specs.Machine.{signed}
+use Rattle.grammar.specs.Machine.{signed}
 use Rattle.text.specs.Tree.{beyond}
 use Rattle.text.proofs.numbers.is_beyond.Statement.{statement}
 use Rattle.text.proofs.numbers.is_beyond.Tie as tie

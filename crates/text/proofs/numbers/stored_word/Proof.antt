@@ -12,7 +12,7 @@ use mir.ValLaws.{toZ-ofZ}
 use borrow.Author.Needs.{needs}
 use Rattle.words.specs.Words.{opposite}
 use Rattle.words.specs.Laws.Words.{opposite-is}
-use Rattle.text.specs.Machine.{signed}
+use Rattle.grammar.specs.Machine.{signed}
 use Rattle.text.specs.Tree.{beyond}
 use Rattle.text.specs.Pieces.{stored}
 use Rattle.text.proofs.Words.{word}

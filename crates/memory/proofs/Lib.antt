@@ -1,0 +1,3 @@
+-- What only the proofs of this crate need.
+pub mod Guards
+pub mod Noted

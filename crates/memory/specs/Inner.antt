@@ -1,0 +1,2 @@
+-- What functions say to each other.
+pub mod Reasons
