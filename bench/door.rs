@@ -1,9 +1,12 @@
 //! The yardsticks as C functions, with numbers and slices as the library's own
-//! `moki_run` and `moki_read` have them, so that one program can call both.
+//! `moki_run`, `moki_read` and `moki_write` have them, so that one program can call
+//! both.
 #![no_std]
 
 #[path = "../judge/src/textyard.rs"]
 mod textyard;
+#[path = "../judge/src/writeyard.rs"]
+mod writeyard;
 #[path = "../judge/src/yardstick.rs"]
 mod yardstick;
 
@@ -76,6 +79,28 @@ pub unsafe extern "C" fn yardstick_read(
     let (number, told) = textyard::read(bytes, output);
     *answer = [told as u64];
     number.into()
+}
+
+/// # Safety
+///
+/// Each pointer of a slice leads to as many places as the number after it says.
+#[no_mangle]
+pub unsafe extern "C" fn yardstick_write(
+    block: *const i32,
+    block_length: usize,
+    output: *mut u8,
+    output_length: usize,
+    answer: &mut [u64; 1],
+) -> u32 {
+    let block = unsafe { from_raw_parts(block, block_length) };
+    let output = unsafe { from_raw_parts_mut(output, output_length) };
+    match writeyard::write(block, output) {
+        (0, length) => {
+            *answer = [length as u64];
+            0
+        }
+        (number, _) => number.into(),
+    }
 }
 
 #[panic_handler]

@@ -10,9 +10,9 @@
 #include <stdio.h>
 #include <stdlib.h>
 #include <string.h>
-#include <time.h>
 #include <unistd.h>
 
+#include "clock.h"
 #include "formula.h"
 #include "mokihazureo.h"
 
@@ -48,11 +48,9 @@ static void run_counted(solver solve, const struct formula *f, struct outcome *t
 
 static double microseconds(solver solve, const struct formula *f, struct outcome *to)
 {
-    struct timespec start, end;
-    clock_gettime(CLOCK_MONOTONIC, &start);
+    double start = now();
     run(solve, f, to);
-    clock_gettime(CLOCK_MONOTONIC, &end);
-    return 1e6 * (double)(end.tv_sec - start.tv_sec) + 1e-3 * (double)(end.tv_nsec - start.tv_nsec);
+    return now() - start;
 }
 
 /* The best of some runs, the sides by turns. */

@@ -9,9 +9,9 @@
 #include <inttypes.h>
 #include <stdio.h>
 #include <string.h>
-#include <time.h>
 #include <unistd.h>
 
+#include "clock.h"
 #include "mokihazureo.h"
 
 enum { REPEATS = 200, MOST = 1 << 20, BLOCK = 6 + 1024 + 4096 + 8192 };
@@ -46,11 +46,9 @@ static void take_counted(reader read_text, struct outcome *to)
 
 static double microseconds(reader read_text, struct outcome *to)
 {
-    struct timespec start, end;
-    clock_gettime(CLOCK_MONOTONIC, &start);
+    double start = now();
     take(read_text, to);
-    clock_gettime(CLOCK_MONOTONIC, &end);
-    return 1e6 * (double)(end.tv_sec - start.tv_sec) + 1e-3 * (double)(end.tv_nsec - start.tv_nsec);
+    return now() - start;
 }
 
 /* The best of some readings, the sides by turns. */

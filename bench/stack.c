@@ -3,7 +3,8 @@
    is looked for, and counted from the frame that made the call.
 
    The input is as bench/formula.h says. On each formula a check, an opening, some
-   steps, a run and a page are made; its text is read whole, and as one piece; and for each kind of call the most bytes are
+   steps, a run and a page are made; its text is read whole, and as one piece, and
+   the block written as a text; and for each kind of call the most bytes are
    printed. The word BYTES, if given, is the size of the thread's stack, of which
    the system keeps some for itself; under it is a page that nobody may touch, so
    that a call which asks for more ends the program. */
@@ -20,9 +21,9 @@ enum { GUARD = 4096, STEPS = 40, BUDGET = 2000, ROOM = 64 };
 
 static const uint64_t pattern = 0xa5c3965a3c69f00d;
 
-enum call { CHECK, OPEN, STEP, RUN, PAGE, READ, BEGIN, PIECE, END, CALLS };
+enum call { CHECK, OPEN, STEP, RUN, PAGE, READ, BEGIN, PIECE, END, WRITE, CALLS };
 
-static const char *const names[CALLS] = {"check", "open", "step", "run", "page", "read", "begin", "piece", "end"};
+static const char *const names[CALLS] = {"check", "open", "step", "run", "page", "read", "begin", "piece", "end", "write"};
 
 /* What the calls are made on. */
 static struct formula formula;
@@ -36,6 +37,7 @@ static uint64_t session[MOKI_RUN_WORDS];
 static char text[16 * BLOCK];
 static size_t bytes;
 static int32_t block_read[BLOCK];
+static uint8_t written[16 * BLOCK];
 static uint64_t reader[MOKI_READER_WORDS];
 
 static void put(const char *form, int32_t word)
@@ -87,6 +89,8 @@ static uint32_t make(enum call call)
         return 0;
     case END:
         return moki_read_end(reader, block_read, BLOCK, page);
+    case WRITE:
+        return moki_write(block, length, written, sizeof written, page);
     default:
         return moki_page(block, length, lits, PLACES, kinds, PLACES, 0, block, 6, BUDGET, output, ROOM, page);
     }

@@ -23,7 +23,7 @@ enum { MOKI_OPEN = 0, MOKI_VALID = 1, MOKI_UNSAT = 2 };
 
 /* How many words a call's answer has. Its array must have as many places or more;
    it comes as a pointer alone, so no call can see how many there are. */
-enum { MOKI_SESSION_WORDS = 3, MOKI_STEP_WORDS = 4, MOKI_RUN_WORDS = 5, MOKI_PAGE_WORDS = 3, MOKI_READ_WORDS = 1 };
+enum { MOKI_SESSION_WORDS = 3, MOKI_STEP_WORDS = 4, MOKI_RUN_WORDS = 5, MOKI_PAGE_WORDS = 3, MOKI_READ_WORDS = 1, MOKI_WRITE_WORDS = 1 };
 
 /* How many words a reader has between two pieces of a text. */
 enum { MOKI_READER_WORDS = 12 };
@@ -101,6 +101,13 @@ void moki_read_piece(uint64_t reader[MOKI_READER_WORDS],
 uint32_t moki_read_end(const uint64_t reader[MOKI_READER_WORDS],
                        int32_t *output, size_t output_length,
                        uint64_t answer[MOKI_READ_WORDS]);
+
+/* Refusals 1 to 10, 23, and 30 if the text doesn't fit the output. Writes the block as
+   a text: a problem line, a line for each group and one for each clause. The answer is
+   the text's length. The bytes behind the text stay as they were. */
+uint32_t moki_write(const int32_t *block, size_t block_length,
+                    uint8_t *output, size_t output_length,
+                    uint64_t answer[MOKI_WRITE_WORDS]);
 
 #ifdef __cplusplus
 }

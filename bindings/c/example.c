@@ -1,4 +1,4 @@
-/* A text read whole and in pieces, two administrators at one session, the reasons of
+/* A text read whole and in pieces, and written; two administrators at one session, the reasons of
    its steps, a listing page by page, and what happens to bad input. */
 #include <stdio.h>
 #include <string.h>
@@ -71,6 +71,27 @@ static void a_text(void)
     memset(reader, 0, sizeof reader);
     moki_read_piece(reader, (const uint8_t *)text, sizeof text - 1, output, COUNT(output));
     expect("nor is one that was never begun with", moki_read_end(reader, output, COUNT(output), answer) == 27 && answer[0] == 0);
+}
+
+/* Case A's text without its comment line. */
+static void a_written_text(void)
+{
+    const char *wanted = strchr(text, '\n') + 1;
+    size_t length = strlen(wanted);
+    uint8_t output[sizeof text];
+    uint8_t before[sizeof text];
+    int32_t back[COUNT(block)];
+    uint64_t answer[MOKI_WRITE_WORDS] = {7};
+
+    memset(output, 7, sizeof output);
+    memset(before, 7, sizeof before);
+    expect("a byte too few is refused with 30", moki_write(block, COUNT(block), output, length - 1, answer) == 30);
+    expect("a wrong block with its row, whatever the room", moki_write(block, 5, output, 0, answer) == 1);
+    expect("and nothing is written", memcmp(output, before, sizeof output) == 0 && answer[0] == 7);
+    expect("case A's block is written", moki_write(block, COUNT(block), output, length, answer) == 0 && answer[0] == length);
+    expect("it is case A's text", memcmp(output, wanted, length) == 0);
+    expect("what is behind it stays", memcmp(output + length, before, sizeof output - length) == 0);
+    expect("and it is read back", moki_read(output, length, back, COUNT(back), answer) == 0 && memcmp(back, block, sizeof block) == 0);
 }
 
 static void two_administrators(void)
@@ -187,6 +208,7 @@ static void bad_input(void)
 int main(void)
 {
     a_text();
+    a_written_text();
     two_administrators();
     eight_reasons();
     a_listing();

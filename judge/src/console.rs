@@ -112,6 +112,8 @@ impl Desk {
             b"read" => self.read(words),
             b"pieces" => self.pieces(words),
             b"words" => self.words(words),
+            b"write" => self.write(words),
+            b"bytes" => self.bytes(words),
             _ => None,
         }
     }

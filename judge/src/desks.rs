@@ -15,6 +15,7 @@ use crate::session::State;
 use crate::shapes;
 
 mod texts;
+mod writes;
 
 /// Revisions at the edges of 32 and 64 bits.
 const REVISIONS: [u64; 8] = [
@@ -38,10 +39,10 @@ pub fn write(seed: u64, lines: usize, to: &mut impl Write) -> io::Result<()> {
     };
     let mut written = 0;
     while written < lines {
-        if play.dice.chance(2, 5) {
-            play.text_scene();
-        } else {
-            play.scene();
+        match play.dice.weighted(&[12, 7, 3]) {
+            0 => play.scene(),
+            1 => play.text_scene(),
+            _ => play.writing_scene(),
         }
         for line in play.lines.drain(..).take(lines - written) {
             writeln!(to, "{line}")?;
@@ -456,6 +457,9 @@ impl Play {
         }
         if self.dice.chance(1, 2) {
             self.page();
+        }
+        if self.dice.chance(1, 8) {
+            self.write_block();
         }
     }
 

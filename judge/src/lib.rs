@@ -25,4 +25,7 @@ pub mod text;
 pub mod text_cases;
 pub mod textyard;
 pub mod truth;
+pub mod writeyard;
+pub mod writing;
+pub mod written_cases;
 pub mod yardstick;

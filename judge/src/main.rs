@@ -14,6 +14,7 @@ use judge::qdimacs::Asked;
 use judge::sheets::Sheet;
 use judge::tally::Tally;
 use judge::text_cases::text_cases;
+use judge::written_cases::written_cases;
 
 const USAGE: &str = "\
 judge bench                        writes the benchmark's formulas, one to a line: name, budget, count of words, words
@@ -21,10 +22,11 @@ judge cases                        writes the check's cases as console lines
 judge console                      answers console lines from standard input
 judge desks SEED LINES             writes generated console lines
 judge largest-text SEED            writes a text with all counts at their limits
-judge qdimacs SEED COUNT FOLDER    writes generated formulas: N.qdimacs for each, and console lines that run them all
+judge qdimacs SEED COUNT FOLDER    writes generated formulas: N.qdimacs for each, and console lines that read, write and run them all
 judge tally                        counts what console lines from standard input try
 judge talks                        writes the cases that ask for more than a check as console lines
 judge text-cases                   writes the cases of the reader of texts as console lines
+judge written-cases                writes the cases of the writer of texts as console lines
 ";
 
 fn main() -> ExitCode {
@@ -37,6 +39,7 @@ fn main() -> ExitCode {
         ["tally"] => count(&mut io::stdin().lock(), &mut io::stdout().lock()),
         ["talks"] => write_talks(&mut io::stdout().lock()),
         ["text-cases"] => write_text_cases(&mut io::stdout().lock()),
+        ["written-cases"] => write_written_cases(&mut io::stdout().lock()),
         ["desks", seed, lines] => match (seed.parse(), lines.parse()) {
             (Ok(seed), Ok(lines)) => write_desks(seed, lines),
             _ => return usage(),
@@ -106,6 +109,22 @@ fn write_text_cases(to: &mut impl Write) -> io::Result<()> {
         writeln!(to, "# {}", case.name)?;
         writeln!(to, "{}", console::line("text", &case.text))?;
         writeln!(to, "{block}\nread\nwords\n{block}\n{pieces}\nwords")?;
+    }
+    Ok(())
+}
+
+/// Each block is written, and what is then in the text buffer read back into a
+/// block buffer that isn't 0 before.
+fn write_written_cases(to: &mut impl Write) -> io::Result<()> {
+    for case in written_cases() {
+        writeln!(to, "# {}", case.name)?;
+        writeln!(to, "{}", console::line("block", &case.block))?;
+        writeln!(to, "{}", console::line("text", &case.before))?;
+        writeln!(to, "write\nbytes")?;
+        if case.answer.starts_with("0 ") {
+            let block = console::line("block", &vec![7; case.block.len()]);
+            writeln!(to, "{block}\nread\nwords")?;
+        }
     }
     Ok(())
 }

@@ -46,11 +46,13 @@ pub fn about_texts(dice: &mut Dice) -> String {
         return console::line("text", &vec![0; TEXT_ROOM + dice.below(2)]);
     }
     let bad = dice.pick(&BAD_NUMBERS);
-    match dice.below(5) {
+    match dice.below(7) {
         0 => format!("text 112 {bad}"),
         1 => format!("pieces 1 {bad}"),
         2 => format!("read {bad}"),
         3 => format!("words {bad}"),
+        4 => format!("write {bad}"),
+        5 => format!("bytes {bad}"),
         _ => dice.pick(&BAD_TEXT_LINES).to_string(),
     }
 }
@@ -98,6 +100,7 @@ const BAD_LINES: [&str; 16] = [
     " #",
 ];
 
-const BAD_TEXT_LINES: [&str; 8] = [
-    "texts", "Text 112", "text p", "read\t", "pieces a", "piece 1", "word", "words -",
+const BAD_TEXT_LINES: [&str; 12] = [
+    "texts", "Text 112", "text p", "read\t", "pieces a", "piece 1", "word", "words -", "writes",
+    "Write", "byte", "bytes\t",
 ];

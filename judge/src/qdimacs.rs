@@ -1,5 +1,6 @@
 //! Random formulas for an outside solver: each as a QDIMACS text, and as the
-//! console lines that read this text and ask for its verdict.
+//! console lines that read this text, write the block as a text again, and ask for
+//! the verdict.
 //!
 //! The standard's text has at least one variable and one clause, no empty
 //! clause, and never two neighbouring lines of one quantifier, so formulas are
@@ -11,6 +12,8 @@ use crate::block::HEADER;
 use crate::console::line;
 use crate::dice::Dice;
 use crate::shapes::{self, Shape};
+use crate::text;
+use crate::writing;
 
 pub struct Asked {
     /// V.
@@ -64,16 +67,23 @@ impl Asked {
         text
     }
 
-    /// The text read into a block buffer of the right length, a record of V
-    /// places, a new session, and a run to its end.
-    pub fn lines(&self) -> [String; 8] {
+    /// The text read into a block buffer of the right length; the block written
+    /// into a text buffer of the right length; a record of V places, a new session,
+    /// and a run to its end.
+    pub fn lines(&self) -> [String; 11] {
         let literals: usize = self.clauses.iter().map(Vec::len).sum();
         let length = HEADER + self.variables + self.clauses.len() + literals;
+        let mut block = vec![0; length];
+        text::read(self.text().as_bytes(), &mut block);
+        let written = writing::text_of(&block).len();
         let zeros = vec![0; self.variables];
         [
             line("block", &vec![0; length]),
             line("text", self.text().as_bytes()),
             "read".to_string(),
+            line("text", &vec![0; written]),
+            "write".to_string(),
+            "bytes".to_string(),
             line("lits", &zeros),
             line("kinds", &zeros),
             line("reasons", &zeros),

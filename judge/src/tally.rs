@@ -9,11 +9,13 @@ use crate::console::Desk;
 use crate::hits::NAMES;
 
 /// The commands whose answer begins with a number of the table.
-const CALLS: [&str; 7] = ["block", "open", "step", "run", "page", "read", "pieces"];
+const CALLS: [&str; 8] = [
+    "block", "open", "step", "run", "page", "read", "pieces", "write",
+];
 
-const COMMANDS: [&str; 15] = [
+const COMMANDS: [&str; 17] = [
     "block", "lits", "kinds", "reasons", "out", "session", "open", "step", "run", "page", "show",
-    "text", "read", "pieces", "words",
+    "text", "read", "pieces", "words", "write", "bytes",
 ];
 
 /// The refusals of a reading, 31 with its rows.

@@ -85,15 +85,15 @@ pub fn run(
 }
 
 /// The three parts of an accepted block.
-struct Parts<'a> {
-    prefix: &'a [i32],
-    ends: &'a [i32],
+pub(crate) struct Parts<'a> {
+    pub(crate) prefix: &'a [i32],
+    pub(crate) ends: &'a [i32],
     words: &'a [i32],
 }
 
 impl<'a> Parts<'a> {
     /// The check, refusals 1 to 10 and 23.
-    fn of(block: &'a [i32]) -> Result<Parts<'a>, u8> {
+    pub(crate) fn of(block: &'a [i32]) -> Result<Parts<'a>, u8> {
         let ([v, c, t], offsets, rest) = match *block {
             [v, c, t, prefix, ends, words, ref rest @ ..] => {
                 ([v, c, t], [prefix, ends, words], rest)
@@ -185,7 +185,7 @@ impl<'a> Parts<'a> {
         word != 0 && size(word) <= self.prefix.len()
     }
 
-    fn clause(&self, clause: usize) -> &'a [i32] {
+    pub(crate) fn clause(&self, clause: usize) -> &'a [i32] {
         let start = match clause {
             0 => 0,
             _ => self.ends[clause - 1] as usize,

@@ -10,6 +10,12 @@ fn lines(seed: u64, count: usize) -> Vec<u8> {
     bytes
 }
 
+/// The share of a command in a line of the tally.
+fn share(counts: &str, command: &str) -> u64 {
+    let mut words = counts.split(' ').skip_while(|&word| word != command);
+    words.nth(1).map_or(0, |count| count.parse().unwrap())
+}
+
 #[test]
 fn the_same_seed_gives_the_same_lines() {
     let once = lines(7, 2000);
@@ -78,4 +84,25 @@ fn every_number_and_rule_is_hit() {
         assert_eq!(counts.len(), 41);
         assert!(counts.iter().all(|&count| count >= 30), "{told}");
     }
+}
+
+/// Writings are refused with every number that they can be, and not refused, and
+/// what is written is read.
+#[test]
+fn every_answer_of_a_writing_is_hit() {
+    let mut tally = Tally::default();
+    for line in lines(4, 35_000).split(|&byte| byte == b'\n') {
+        tally.note(line);
+    }
+    let told = tally.to_string();
+    for name in ROWS
+        .iter()
+        .chain(&[30])
+        .map(|row| format!("refusal {row} "))
+    {
+        let counts = told.lines().find(|line| line.starts_with(&name)).unwrap();
+        assert!(share(counts, "write") >= 10, "{counts}");
+    }
+    let accepted = told.lines().find(|line| line.starts_with("accepted "));
+    assert!(share(accepted.unwrap(), "write") >= 200, "{told}");
 }

@@ -90,6 +90,13 @@ mod c {
             output_length: usize,
             answer: &mut [u64; 1],
         ) -> u32;
+        pub fn moki_write(
+            block: *const i32,
+            block_length: usize,
+            output: *mut u8,
+            output_length: usize,
+            answer: &mut [u64; 1],
+        ) -> u32;
     }
 }
 
@@ -265,4 +272,13 @@ impl Reader {
         let status = call!(moki_read_end(&self.words, out output, &mut answer));
         told(status, answer[0])
     }
+}
+
+/// Writes the block as a formula's text, and answers the text's length; refusals 1 to
+/// 10, 23, and 30 if the text doesn't fit. The bytes behind the text stay as they were.
+pub fn write(block: &[i32], output: &mut [u8]) -> Result<usize, Refusal> {
+    let mut answer = [0; 1];
+    let status = call!(moki_write(in block, out output, &mut answer));
+    accepted(status)?;
+    Ok(answer[0] as usize)
 }

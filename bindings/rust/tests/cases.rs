@@ -1,7 +1,7 @@
-//! Cases A, G and K of docs/SPEC.md, and A's text.
+//! Cases A, G and K of docs/SPEC.md, and the texts of A and G.
 
-use mokihazureo::{open, page, read, Literal, Page, Reason, Refusal, Revision, Session, State};
-use mokihazureo::{Reader, Unread};
+use mokihazureo::{open, page, read, write, Literal, Page, Reason, Refusal, Revision, Session};
+use mokihazureo::{Reader, State, Unread};
 
 const A: [i32; 28] = [
     4, 5, 13, 6, 10, 15, 1, -2, 3, 4, 3, 5, 7, 10, 13, -1, -2, 3, -2, -3, 3, 4, 1, -2, -4, 2, 3, -4,
@@ -215,4 +215,41 @@ fn a_text_is_refused_and_the_output_wiped() {
         Unread::Misfit(9).to_string(),
         "refused with number 27 at byte 9"
     );
+}
+
+/// What is written, and the bytes behind it; and it is read back.
+#[test]
+fn a_block_is_written() {
+    let g: &[u8] = b"p cnf 4 3\ne 1 2 0\na 3 0\ne 4 0\n1 2 0\n-3 4 0\n3 -4 0\n";
+    // A's text without its comment, which has nine bytes.
+    for (block, text) in [(&A[..], &TEXT[9..]), (&G[..], g)] {
+        let mut output = vec![7; text.len() + 2];
+        assert_eq!(write(block, &mut output), Ok(text.len()));
+        assert_eq!(output, [text, &[7, 7][..]].concat());
+        let mut exactly = vec![7; text.len()];
+        assert_eq!(write(block, &mut exactly), Ok(text.len()));
+        assert_eq!(exactly, text);
+        let mut back = vec![9; block.len()];
+        assert_eq!(read(&exactly, &mut back), Ok(block.len()));
+        assert_eq!(back, block);
+    }
+}
+
+/// A text that doesn't fit by a byte, and a block that is refused, whatever the room.
+#[test]
+fn a_block_is_not_written() {
+    let mut universal = G;
+    universal[9] = -4;
+    for (block, room, number) in [
+        (&A[..], TEXT.len() - 10, 30),
+        (&A[..], 0, 30),
+        (&A[..27], 100, 4),
+        (&universal[..], 100, 7),
+        (&universal[..], 0, 7),
+        (&[], 0, 1),
+    ] {
+        let mut output = vec![7; room];
+        assert_eq!(write(block, &mut output), Err(Refusal(number)));
+        assert_eq!(output, vec![7; room]);
+    }
 }

@@ -27,11 +27,11 @@ abbrev pub partBytes : ℕ
 partBytes = 65536
 
 abbrev pub answerBytes : ℕ
-answerBytes = 524288
+answerBytes = 1572864
 
 -- the list of names; a number in an answer, with its sign and the space before it; as many as an answer has before a buffer's words
 abbrev pub namesBytes : ℕ
-namesBytes = 85
+namesBytes = 97
 
 abbrev pub numberBytes : ℕ
 numberBytes = 22

@@ -21,7 +21,7 @@ fn call(
     reasons: &mut [u32],
     output: &mut [u32],
     preferred: &[i32],
-    bytes: &[u8],
+    bytes: &mut [u8],
 ) -> Reply {
     match command {
         Command::Block(_) => reply::checked(session, formula::check(block)),
@@ -47,6 +47,7 @@ fn call(
             names::PIECES,
             pieces::read(line, from, bytes, block),
         ),
+        Command::Write => reply::written(session, writer::write(block, bytes)),
         _ => reply::told(command, session, counts),
     }
 }
@@ -63,7 +64,7 @@ pub(crate) fn act(
     reasons: &mut [u32],
     output: &mut [u32],
     preferred: &[i32],
-    bytes: &[u8],
+    bytes: &mut [u8],
 ) -> Reply
     requires { ⌜ Within counts (length (now block)) (length (now literals)) (length (now kinds)) (length (now reasons)) (length (now output)) (length (now preferred)) (length (now bytes)) ⌝ }
 {
@@ -85,6 +86,6 @@ pub(crate) fn act(
         &mut reasons[0..r],
         &mut output[0..o],
         &preferred[0..p],
-        &bytes[0..t],
+        &mut bytes[0..t],
     )
 }

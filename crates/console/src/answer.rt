@@ -2,7 +2,7 @@
 ghost use mathlib.Core.Path.{_≡_};
 ghost use Prim.Native.Nat.{_+_, _*_, _≤_, _<_};
 ghost use lib.ListN.{length};
-ghost use Rattle.console.specs.Room.{answerBytes, recordPlaces, outputWords, answerNumbers, numberBytes, namesBytes};
+ghost use Rattle.console.specs.Room.{answerBytes, outputWords, answerNumbers, numberBytes, namesBytes};
 use crate::desk::Counts;
 use crate::names::NOTHING;
 use crate::names::Name;
@@ -17,6 +17,7 @@ use crate::room::DIGITS;
 use crate::room::OUTPUT_WORDS;
 use crate::room::REASON_WORDS;
 use crate::room::RECORD_PLACES;
+use crate::room::TEXT_BYTES;
 use libc::STDOUT_FILENO;
 
 // Puts bytes as they are.
@@ -47,8 +48,8 @@ fn number(text: &mut [u8; ANSWER_BYTES], at: usize, negative: bool, size: u64) -
 }
 
 // A cast by a call asks for no proof that an element of an array fits.
-fn of_kind(kind: u8) -> u64 {
-    kind as u64
+fn of_byte(byte: u8) -> u64 {
+    byte as u64
 }
 
 fn of_count(count: u32) -> u64 {
@@ -74,19 +75,14 @@ fn words(text: &mut [u8; ANSWER_BYTES], from: usize, ws: &[i32], count: usize) -
     at
 }
 
-fn kinds(
-    text: &mut [u8; ANSWER_BYTES],
-    from: usize,
-    bs: &[u8; RECORD_PLACES],
-    count: usize,
-) -> usize
-    requires { ⌜ from + numberBytes * recordPlaces ≤ answerBytes ⌝ }
-    ensures { λ r. ⌜ r ≤ from + numberBytes * recordPlaces ⌝ }
+fn bytes(text: &mut [u8; ANSWER_BYTES], from: usize, bs: &[u8], count: usize) -> usize
+    requires { ⌜ from + numberBytes * length (now bs) ≤ answerBytes ⌝ }
+    ensures { λ r. ⌜ r ≤ from + numberBytes * length (now (bs .entry)) ⌝ }
 {
     let mut at = from;
     let mut i = 0;
-    while i < RECORD_PLACES && i < count {
-        at = number(text, at, false, of_kind(bs[i]));
+    while i < bs.len() && i < count {
+        at = number(text, at, false, of_byte(bs[i]));
         i += 1;
     }
     at
@@ -146,7 +142,7 @@ fn buffers(
     from: usize,
     used: Counts,
     literals: &[i32; RECORD_PLACES],
-    bytes: &[u8; RECORD_PLACES],
+    kinds: &[u8; RECORD_PLACES],
     reasons: &[u32; REASON_WORDS],
     output: &[u32; OUTPUT_WORDS],
 ) -> usize
@@ -156,7 +152,7 @@ fn buffers(
     let first = put(text, from, b" lits");
     let second = words(text, first, literals, used.literals);
     let third = put(text, second, b" kinds");
-    let fourth = kinds(text, third, bytes, used.kinds);
+    let fourth = bytes(text, third, kinds, used.kinds);
     let fifth = put(text, fourth, b" reasons");
     let sixth = counts(text, fifth, reasons, used.reasons);
     let last = put(text, sixth, b" out");
@@ -171,9 +167,10 @@ fn words_after(
     used: Counts,
     block: &[i32; BLOCK_WORDS],
     literals: &[i32; RECORD_PLACES],
-    bytes: &[u8; RECORD_PLACES],
+    kinds: &[u8; RECORD_PLACES],
     reasons: &[u32; REASON_WORDS],
     output: &[u32; OUTPUT_WORDS],
+    written: &[u8; TEXT_BYTES],
 ) -> usize
     requires { ⌜ from ≤ namesBytes + numberBytes * answerNumbers ⌝ }
     ensures { λ r. ⌜ r < answerBytes ⌝ }
@@ -181,13 +178,14 @@ fn words_after(
     match after {
         After::Nothing => from,
         After::Output(count) => counts(text, from, output, count),
-        After::Desk => buffers(text, from, used, literals, bytes, reasons, output),
+        After::Desk => buffers(text, from, used, literals, kinds, reasons, output),
         After::Block => words(text, from, block, used.block),
+        After::Text => bytes(text, from, written, used.text),
     }
 }
 
 // Writes the first bytes of the text.
-fn written(text: &[u8], size: usize) -> bool
+fn sent(text: &[u8], size: usize) -> bool
     requires { ⌜ size ≤ length (now text) ⌝ }
 {
     io::write_all(STDOUT_FILENO, &text[0..size])
@@ -200,9 +198,10 @@ pub(crate) fn write(
     used: Counts,
     block: &[i32; BLOCK_WORDS],
     literals: &[i32; RECORD_PLACES],
-    bytes: &[u8; RECORD_PLACES],
+    kinds: &[u8; RECORD_PLACES],
     reasons: &[u32; REASON_WORDS],
     output: &[u32; OUTPUT_WORDS],
+    written: &[u8; TEXT_BYTES],
 ) -> bool {
     let first = reply.name;
     if first == NOTHING {
@@ -219,10 +218,11 @@ pub(crate) fn write(
         used,
         block,
         literals,
-        bytes,
+        kinds,
         reasons,
         output,
+        written,
     );
     let size = put(text, end, b"\n");
-    written(text, size)
+    sent(text, size)
 }

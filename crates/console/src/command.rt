@@ -56,6 +56,8 @@ pub(crate) enum Command {
     // The lengths are left in the line too.
     Pieces(usize),
     Words,
+    Write,
+    Bytes,
 }
 
 // A command, if its words fit.
@@ -162,6 +164,8 @@ fn behind(name: Name, line: &[u8], from: usize) -> Command {
             Command::Pieces(from),
         ),
         names::WORDS => only(ends(line, from), Command::Words),
+        names::WRITE => only(ends(line, from), Command::Write),
+        names::BYTES => only(ends(line, from), Command::Bytes),
         _ => Command::Unknown,
     }
 }

@@ -90,6 +90,7 @@ fn serve_line(
         kinds,
         reasons,
         output,
+        text,
     );
     let session = reply.session;
     Desk {

@@ -39,14 +39,18 @@ pub(crate) const PIECES: Name = 13;
 
 pub(crate) const WORDS: Name = 14;
 
-pub(crate) const UNKNOWN: Name = 15;
+pub(crate) const WRITE: Name = 15;
+
+pub(crate) const BYTES: Name = 16;
+
+pub(crate) const UNKNOWN: Name = 17;
 
 // Behind the list: a line that gets no answer has none.
-pub(crate) const NOTHING: Name = 16;
+pub(crate) const NOTHING: Name = 18;
 
 // The names in one line, each at its place.
 pub(crate) fn list() -> [u8; NAMES_BYTES] {
-    *b"block lits kinds reasons out session open step run page show text read pieces words ?"
+    *b"block lits kinds reasons out session open step run page show text read pieces words write bytes ?"
 }
 
 // Where a name stands in the list.

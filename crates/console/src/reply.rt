@@ -12,6 +12,7 @@ use session::Ran;
 use session::Session;
 use session::Stepped;
 use text::Answer as Reading;
+use writer::Written;
 
 // The words that follow an answer's numbers.
 pub(crate) enum After {
@@ -22,6 +23,8 @@ pub(crate) enum After {
     Desk,
     // All of the block buffer.
     Block,
+    // All of the text buffer.
+    Text,
 }
 
 // The session; a name, the first few of six numbers, and the words that follow.
@@ -54,14 +57,14 @@ fn short(session: Session, name: Name, count: usize, n: u64) -> Reply {
     pair(session, name, count, n, 0)
 }
 
-// `words W..`
-fn words(session: Session) -> Reply {
+// `words W..`, `bytes B..`
+fn listed(session: Session, name: Name, after: After) -> Reply {
     Reply {
         session,
-        name: names::WORDS,
+        name,
         count: 0,
         numbers: [0, 0, 0, 0, 0, 0],
-        after: After::Block,
+        after,
     }
 }
 
@@ -171,6 +174,14 @@ pub(crate) fn read(session: Session, name: Name, answer: Reading) -> Reply {
     }
 }
 
+// `write 0 LENGTH`, or `write N`
+pub(crate) fn written(session: Session, answer: Written) -> Reply {
+    match answer {
+        Written::Text(length) => pair(session, names::WRITE, 2, 0, length as u64),
+        Written::Refused(n) => short(session, names::WRITE, 1, n as u64),
+    }
+}
+
 // The answer to a command that calls nothing.
 pub(crate) fn told(command: Command, session: Session, counts: Counts) -> Reply {
     match command {
@@ -181,7 +192,8 @@ pub(crate) fn told(command: Command, session: Session, counts: Counts) -> Reply 
         Command::Session(next) => short(next, names::SESSION, 0, 0),
         Command::Show => shown(session),
         Command::Text(_) => short(session, names::TEXT, 1, counts.text as u64),
-        Command::Words => words(session),
+        Command::Words => listed(session, names::WORDS, After::Block),
+        Command::Bytes => listed(session, names::BYTES, After::Text),
         Command::Nothing => short(session, names::NOTHING, 0, 0),
         _ => short(session, names::UNKNOWN, 0, 0),
     }

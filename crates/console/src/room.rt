@@ -25,8 +25,8 @@ pub(crate) const PIECES_MOST: usize = PREFERRED_WORDS;
 pub(crate) const PART_BYTES: usize = LINE_BYTES / 4;
 
 // No answer is cut short: a number takes at most 22 bytes, with its sign and the space before it, and no answer has more than
-// the 20,480 words of the buffers that are shown.
-pub(crate) const ANSWER_BYTES: usize = 524288;
+// the 65,536 bytes of a text.
+pub(crate) const ANSWER_BYTES: usize = 1572864;
 
 // A number of 64 bits has at most so many digits.
 pub(crate) const DIGITS: usize = 20;
@@ -35,7 +35,7 @@ pub(crate) const DIGITS: usize = 20;
 pub(crate) const ANSWER_NUMBERS: usize = 6;
 
 // The bytes of the list of names.
-pub(crate) const NAMES_BYTES: usize = 85;
+pub(crate) const NAMES_BYTES: usize = 97;
 
 // The largest number of each place: "i32 words, u8 kinds, u64 revisions and lengths, u32 budgets, starts and outputs", a text's bytes, and
 // a session's state.

@@ -2,3 +2,4 @@
 pub mod Left
 pub mod Taken
 pub mod Viable
+pub mod Written

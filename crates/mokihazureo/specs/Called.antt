@@ -22,6 +22,8 @@ use Rattle.session.specs.Outcome.{session, openOutcome, stepOutcome}
 use Rattle.session.specs.Run.{runOf}
 use Rattle.listing.specs.declared.Paged as paged
 use Rattle.listing.specs.Page.{PageMemory, pageOf}
+use Rattle.writer.specs.declared.Written as text
+use Rattle.writer.specs.Write.{writeOf}
 
 -- what is lent: the call's own memory, and the array for the answer's numbers
 pub record Lent (M : Type 0) : Type 0 where
@@ -92,3 +94,15 @@ pagedNumbers (paged.the-variants.Refused n) = []
 
 abbrev pub pageCall : Limits → List ℤ → PageMemory → ℕ → List ℤ → ℕ → List ℕ → Outcome (Lent PageMemory) ℕ
 pageCall L b m start preferred budget a = told pagedStatus pagedNumbers a (pageOf L b m start preferred budget)
+
+-- ---- [calls.write] a block written as a text: status 0 and the text's length, or the refusal's number and none
+abbrev pub wroteStatus : text.Written → ℕ
+wroteStatus (text.the-variants.Text n) = 0
+wroteStatus (text.the-variants.Refused n) = n
+
+abbrev pub wroteNumbers : text.Written → List ℕ
+wroteNumbers (text.the-variants.Text n) = n ∷ []
+wroteNumbers (text.the-variants.Refused n) = []
+
+abbrev pub writeCall : Limits → List ℤ → List ℕ → List ℕ → Outcome (Lent (List ℕ)) ℕ
+writeCall L b o a = told wroteStatus wroteNumbers a (writeOf L b o)

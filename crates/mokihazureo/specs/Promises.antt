@@ -11,7 +11,7 @@ use Rattle.memory.specs.Memory.{Memory}
 use Rattle.listing.specs.Page.{PageMemory}
 use Rattle.text.specs.Pieces.{begun}
 use Rattle.saved.specs.Numbers.{written}
-use Rattle.mokihazureo.specs.Called.{Lent, openCall, stepCall, runCall, pageCall}
+use Rattle.mokihazureo.specs.Called.{Lent, openCall, stepCall, runCall, pageCall, writeCall}
 use Rattle.mokihazureo.specs.Reading.{readCall, pieceCall, endCall}
 
 -- ---- the promises
@@ -43,6 +43,10 @@ PiecePromise s bs o left = left ≡ pieceCall s bs o
 abbrev pub EndPromise : List ℕ → List ℤ → List ℕ → ℕ → Lent (List ℤ) → Type 0
 EndPromise s o a r left = outcome r left ≡ endCall limits s o a
 
+-- [calls.write]
+abbrev pub WritePromise : List ℤ → List ℕ → List ℕ → ℕ → Lent (List ℕ) → Type 0
+WritePromise b o a r left = outcome r left ≡ writeCall limits b o a
+
 -- ---- each leaves one result
 pub only-check : (b : List ℤ) (r r′ : ℕ) → CheckPromise b r → CheckPromise b r′ → r ≡ r′
 only-check b r r′ = only-one
@@ -73,3 +77,6 @@ module _ (left left′ : Lent (List ℤ)) (o : List ℤ) where
 
   pub only-end : (r r′ : ℕ) (s a : List ℕ) → EndPromise s o a r left → EndPromise s o a r′ left′ → Same r r′ left left′
   only-end r r′ s a = same
+
+pub only-write : (r r′ : ℕ) (left left′ : Lent (List ℕ)) (b : List ℤ) (o a : List ℕ) → WritePromise b o a r left → WritePromise b o a r′ left′ → Same r r′ left left′
+only-write r r′ left left′ b o a = same

@@ -25,7 +25,9 @@ use Rattle.text.specs.declared.Answer as text
 use Rattle.grammar.specs.Reads.{Read, spelled, misfit, reads}
 use Rattle.text.specs.Tree.{zeros, textRefusal, rowOf, textOf, answered, readOf}
 use Rattle.text.specs.Meaning.{accepted-or-wiped}
-use Rattle.mokihazureo.specs.Called.{Lent, lent, told, revision, openedStatus, openedNumbers, steppedStatus, steppedNumbers, ranStatus, ranNumbers, pagedStatus, pagedNumbers, openCall, stepCall, runCall, pageCall}
+use Rattle.writer.specs.declared.Written as wrote
+use Rattle.writer.specs.Write.{writeRefusal, writeOf}
+use Rattle.mokihazureo.specs.Called.{Lent, lent, told, revision, openedStatus, openedNumbers, steppedStatus, steppedNumbers, ranStatus, ranNumbers, pagedStatus, pagedNumbers, wroteStatus, wroteNumbers, openCall, stepCall, runCall, pageCall, writeCall}
 use Rattle.mokihazureo.specs.Reading.{readStatus, readCall}
 
 -- the status is the table's number n, and unless that is 0 all is as it was
@@ -54,6 +56,11 @@ module _ (L : Limits) (s : Session) (b : List ℤ) (m : Memory) (seen : ℕ) (a 
 pub page-stated : (L : Limits) → (b : List ℤ) (m : PageMemory) (start : ℕ) (preferred : List ℤ) (budget : ℕ) (a : List ℕ) → Stated (pageRefusal L b m start) m a (pageCall L b m start preferred budget a)
 unfolding pageOf
 page-stated L b m start preferred budget a = stated pagedStatus pagedNumbers paged.the-variants.Refused (λ n. refl) (λ n. refl) (pageRefusal L b m start) m a _ refl
+
+-- [calls.write] a block that is written
+pub write-stated : (L : Limits) (b : List ℤ) (o a : List ℕ) → Stated (writeRefusal L b (length o)) o a (writeCall L b o a)
+unfolding writeOf
+write-stated L b o a = stated wroteStatus wroteNumbers wrote.the-variants.Refused (λ n. refl) (λ n. refl) (writeRefusal L b (length o)) o a _ refl
 
 -- ---- [calls.read] a text: with status 0 it is accepted, and [text.wiped] with any other all of the output is 0
 pub record ReadStated (o : List ℤ) (r : Outcome (List ℤ) text.Answer) (u : Outcome (Lent (List ℤ)) ℕ) : Type 0 where

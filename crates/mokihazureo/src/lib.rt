@@ -2,7 +2,7 @@
 ghost use Rattle.memory.specs.Memory.{memory};
 ghost use Rattle.listing.specs.Page.{pageMemory};
 ghost use Rattle.mokihazureo.specs.Called.{lent, sessionOf};
-ghost use Rattle.mokihazureo.specs.Promises.{CheckPromise, OpenPromise, StepPromise, RunPromise, PagePromise, ReadPromise, BeginPromise, PiecePromise, EndPromise};
+ghost use Rattle.mokihazureo.specs.Promises.{CheckPromise, OpenPromise, StepPromise, RunPromise, PagePromise, ReadPromise, BeginPromise, PiecePromise, EndPromise, WritePromise};
 use formula::Checked;
 use session::Revision;
 use words::Literal;
@@ -141,4 +141,13 @@ pub extern "C" fn moki_read_end(state: &[u64; 12], output: &mut [i32], answer: &
     let before = saved::reader_of(state);
     let outcome = text::end(before, output);
     reading::told(outcome, answer)
+}
+
+// A block, written as a text; the text's length is written to the answer.
+#[no_mangle]
+pub extern "C" fn moki_write(block: &[i32], output: &mut [u8], answer: &mut [u64; 1]) -> u32
+    ensures { λ r. ⌜ WritePromise (now (block .entry)) (now (output .entry)) (now (answer .entry)) r (lent (now (output .exit)) (now (answer .exit))) ⌝ }
+{
+    let outcome = writer::write(block, output);
+    numbers::wrote(outcome, answer)
 }

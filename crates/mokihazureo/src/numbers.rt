@@ -1,13 +1,14 @@
 // A session as three numbers, its record's length, its revision and its state's number; and what the calls answer.
 ghost use mathlib.Core.Path.{_≡_};
 ghost use lib.Seq.{sets};
-ghost use Rattle.mokihazureo.specs.Called.{sessionOf, openedStatus, openedNumbers, steppedStatus, steppedNumbers, ranStatus, ranNumbers, pagedStatus, pagedNumbers};
+ghost use Rattle.mokihazureo.specs.Called.{sessionOf, openedStatus, openedNumbers, steppedStatus, steppedNumbers, ranStatus, ranNumbers, pagedStatus, pagedNumbers, wroteStatus, wroteNumbers};
 use listing::Paged;
 use session::Answer;
 use session::Ran;
 use session::Revision;
 use session::Session;
 use session::Stepped;
+use writer::Written;
 
 pub(crate) fn session_of(length: usize, revision: u64, state: u32) -> Session
     ensures { λ r. ⌜ r ≡ sessionOf length revision state ⌝ }
@@ -99,5 +100,18 @@ pub(crate) fn paged(outcome: Paged, answer: &mut [u64; 3]) -> u32
             0
         }
         Paged::Refused(number) => number,
+    }
+}
+
+// What writing answers: the text's length.
+pub(crate) fn wrote(outcome: Written, answer: &mut [u64; 1]) -> u32
+    ensures { λ r. ⌜ (r ≡ wroteStatus outcome) × (now (answer .exit) ≡ sets (now (answer .entry)) 0 (wroteNumbers outcome)) ⌝ }
+{
+    match outcome {
+        Written::Text(bytes) => {
+            answer[0] = bytes as u64;
+            0
+        }
+        Written::Refused(number) => number,
     }
 }

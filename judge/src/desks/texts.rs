@@ -50,10 +50,15 @@ impl Play {
             let line = nonsense::about_texts(&mut self.dice);
             self.say(line);
         }
+        self.note_block();
+    }
+
+    /// What the block buffer holds after a reading.
+    pub(super) fn note_block(&mut self) {
         self.formula = Formula::read(&self.desk.block).ok();
     }
 
-    fn say_reading(&mut self, length: usize) {
+    pub(super) fn say_reading(&mut self, length: usize) {
         if self.dice.chance(3, 5) {
             self.say("read".to_string());
         } else {
@@ -66,7 +71,7 @@ impl Play {
     }
 
     /// A block buffer, mostly of the length that a reading asks for.
-    fn lend_block(&mut self, length: usize) {
+    pub(super) fn lend_block(&mut self, length: usize) {
         let dice = &mut self.dice;
         let fewer = dice.below(length);
         let count = match dice.weighted(&[60, 15, 15, 4]) {

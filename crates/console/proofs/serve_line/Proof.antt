@@ -5,8 +5,8 @@ use Rattle.console.proofs.serve_line.Tie as tie
 
 returns : tie.Need-returns
 returns c =
-    let acted = c .before .before .before .before .before .before .before .before .before in
-    let set = acted .before .before .before .before .before .before .before .before .before .before in
+    let acted = c .before .before .before .before .before .before .before .before .before .before in
+    let set = acted .before .before .before .before .before .before .before .before .before in
     set .buffers .ensures
 
 pub serve-line-spec : {M : Type 1} → statement M

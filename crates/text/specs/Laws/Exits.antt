@@ -41,7 +41,7 @@ laid-in-length o v bound c t =
     let p = completed v (take bound (drop 6 o)) (take t (drop (6 + v + c) o)) in
     length-sets (sets o 6 p) 0 (header v c t) ∙ length-sets o 6 p
 
-none : (m : ℕ) {row : ℕ} → row ≡ 0 → checkedOf m ≡ Fails row → ⊥
+pub none : (m : ℕ) {row : ℕ} → row ≡ 0 → checkedOf m ≡ Fails row → ⊥
 unfolding checkedOf
 none m {row} z h = let e = checked-refused m row h in let k : checkedOf 0 ≡ Fails row = rw (e ∙ z) at h in let y : _≡_ {A = ℕ} 0 1 = cc in omega arith
 

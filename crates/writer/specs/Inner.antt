@@ -1,0 +1,2 @@
+-- What the functions say to each other; a reader of the promise needs none of it.
+pub mod Writing
