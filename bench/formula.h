@@ -9,7 +9,7 @@
 
 /* The most that a block has are 6 + 1,024 + 4,096 + 8,192 words, and a record 1,024
    entries. */
-enum { PLACES = 1024, BLOCK = 6 + PLACES + 4096 + 8192 };
+enum { PLACES = 1024, CLAUSES = 4096, LITERALS = 8192, BLOCK = 6 + PLACES + CLAUSES + LITERALS };
 
 struct formula {
     char name[64];

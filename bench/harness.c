@@ -1,5 +1,6 @@
-/* Runs each formula of the standard input on the proved solver and on the
-   yardstick, with the same budget, and checks that they agree.
+/* Runs each formula of the standard input on the proved solver, by a plain run and
+   by a counted one, and on the yardstick, with the same budget. It checks that all
+   three agree, and that the counted run's numbers are those of the record it leaves.
 
    The input is as bench/formula.h says, a line of output is
    NAME STATE STEPS LENGTH, then the best time of each side in microseconds.
@@ -16,12 +17,11 @@
 #include "formula.h"
 #include "mokihazureo.h"
 
-enum { REPEATS = 5 };
+/* How often a run is timed: a short one, of a tiny formula, more often. */
+enum { REPEATS = 5, TINY = 1000, TINY_REPEATS = 200 };
 
 /* bench/door.rs: the yardstick, with the same answer. */
 uint32_t yardstick_run(uint64_t length, uint64_t revision, uint32_t state, const int32_t *block, size_t block_length, int32_t *lits, size_t lits_length, uint8_t *kinds, size_t kinds_length, uint32_t *reasons, size_t reasons_length, uint64_t seen, uint32_t budget, const int32_t *preferred, size_t preferred_length, uint64_t answer[MOKI_RUN_WORDS]);
-
-typedef uint32_t (*solver)(uint64_t, uint64_t, uint32_t, const int32_t *, size_t, int32_t *, size_t, uint8_t *, size_t, uint32_t *, size_t, uint64_t, uint32_t, const int32_t *, size_t, uint64_t *);
 
 /* A run, and all that it leaves. */
 struct outcome {
@@ -32,36 +32,49 @@ struct outcome {
     uint32_t reasons[PLACES];
 };
 
-static void run(solver solve, const struct formula *f, struct outcome *to)
+/* What a counted run is lent besides. */
+static uint32_t trues[CLAUSES], opens[CLAUSES], index_words[PLACES + LITERALS];
+
+static const int32_t none[1];
+
+enum side { PLAIN, COUNTED, YARDSTICK, SIDES };
+
+static uint32_t solve(enum side side, const struct formula *f, struct outcome *to)
 {
-    static const int32_t none[1];
+    switch (side) {
+    case PLAIN:
+        return moki_run(0, 0, MOKI_OPEN, f->block, f->length, to->lits, PLACES, to->kinds, PLACES, to->reasons, PLACES, 0, f->budget, none, 0, to->answer);
+    case COUNTED:
+        return moki_counted(0, 0, MOKI_OPEN, f->block, f->length, to->lits, PLACES, to->kinds, PLACES, to->reasons, PLACES, trues, CLAUSES, opens, CLAUSES, index_words, PLACES + LITERALS, 0, f->budget, none, 0, to->answer);
+    default:
+        return yardstick_run(0, 0, MOKI_OPEN, f->block, f->length, to->lits, PLACES, to->kinds, PLACES, to->reasons, PLACES, 0, f->budget, none, 0, to->answer);
+    }
+}
+
+static void run_marked(enum side side, const struct formula *f, struct outcome *to)
+{
     memset(to, 0, sizeof *to);
-    to->refusal = solve(0, 0, MOKI_OPEN, f->block, f->length, to->lits, PLACES, to->kinds, PLACES, to->reasons, PLACES, 0, f->budget, none, 0, to->answer);
-}
-
-static void run_counted(solver solve, const struct formula *f, struct outcome *to)
-{
     getppid();
-    run(solve, f, to);
+    to->refusal = solve(side, f, to);
     getppid();
 }
 
-static double microseconds(solver solve, const struct formula *f, struct outcome *to)
+static double microseconds(enum side side, const struct formula *f, struct outcome *to)
 {
+    memset(to, 0, sizeof *to);
     double start = now();
-    run(solve, f, to);
+    to->refusal = solve(side, f, to);
     return now() - start;
 }
 
 /* The best of some runs, the sides by turns. */
-static void measure(const struct formula *f, double best[2])
+static void measure(const struct formula *f, double best[SIDES])
 {
     static struct outcome unread;
-    const solver sides[2] = {moki_run, yardstick_run};
-    best[0] = best[1] = 0;
-    for (int repeat = 0; repeat < REPEATS; repeat++) {
-        for (int side = 0; side < 2; side++) {
-            double took = microseconds(sides[side], f, &unread);
+    int repeats = f->length < TINY ? TINY_REPEATS : REPEATS;
+    for (int repeat = 0; repeat < repeats; repeat++) {
+        for (enum side side = 0; side < SIDES; side++) {
+            double took = microseconds(side, f, &unread);
             if (repeat == 0 || took < best[side])
                 best[side] = took;
         }
@@ -77,23 +90,48 @@ static int agree(const struct outcome *a, const struct outcome *b)
         && memcmp(a->reasons, b->reasons, sizeof a->reasons) == 0;
 }
 
+/* Whether the numbers are the count of each clause under the record. */
+static int numbers_are_fresh(const struct formula *f, const struct outcome *left)
+{
+    /* By variable: its value, 0 for none, and whether it is existential. */
+    static int32_t value[PLACES + 1], existential[PLACES + 1];
+    const int32_t *prefix = f->block + 6, *ends = prefix + f->block[0], *words = ends + f->block[1];
+    memset(value, 0, sizeof value);
+    for (uint64_t place = 0; place < left->answer[0]; place++)
+        value[abs(left->lits[place])] = left->lits[place];
+    for (int32_t place = 0; place < f->block[0]; place++)
+        existential[abs(prefix[place])] = prefix[place] > 0;
+    for (int32_t clause = 0, at = 0; clause < f->block[1]; clause++) {
+        uint32_t are_true = 0, are_open = 0;
+        for (; at < ends[clause]; at++) {
+            int32_t variable = abs(words[at]);
+            are_true += value[variable] == words[at];
+            are_open += value[variable] == 0 && existential[variable];
+        }
+        if (trues[clause] != are_true || opens[clause] != are_open)
+            return 0;
+    }
+    return 1;
+}
+
 int main(int argc, char **argv)
 {
     static struct formula f;
-    static struct outcome proved, plain;
+    static struct outcome outcomes[SIDES];
     int once = argc > 1 && strcmp(argv[1], "once") == 0;
     int different = 0;
     while (read_formula(&f)) {
-        double best[2] = {0, 0};
-        run_counted(moki_run, &f, &proved);
-        run_counted(yardstick_run, &f, &plain);
-        if (proved.refusal != 0 || !agree(&proved, &plain)) {
+        const struct outcome *plain = &outcomes[PLAIN];
+        double best[SIDES] = {0, 0, 0};
+        for (enum side side = 0; side < SIDES; side++)
+            run_marked(side, &f, &outcomes[side]);
+        if (plain->refusal != 0 || !agree(plain, &outcomes[COUNTED]) || !agree(plain, &outcomes[YARDSTICK]) || !numbers_are_fresh(&f, plain)) {
             different++;
-            fprintf(stderr, "bench: the two sides differ on %s\n", f.name);
+            fprintf(stderr, "bench: the sides differ on %s\n", f.name);
         }
         if (!once)
             measure(&f, best);
-        printf("%s %" PRIu64 " %" PRIu64 " %" PRIu64 " %.0f %.0f\n", f.name, proved.answer[2], proved.answer[3], proved.answer[0], best[0], best[1]);
+        printf("%s %" PRIu64 " %" PRIu64 " %" PRIu64 " %.1f %.1f %.1f\n", f.name, plain->answer[2], plain->answer[3], plain->answer[0], best[PLAIN], best[COUNTED], best[YARDSTICK]);
     }
     return different != 0;
 }

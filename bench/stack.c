@@ -3,7 +3,7 @@
    is looked for, and counted from the frame that made the call.
 
    The input is as bench/formula.h says. On each formula a check, an opening, some
-   steps, a run and a page are made; its text is read whole, and as one piece, and
+   steps, a run, a counted run and a page are made; its text is read whole, and as one piece, and
    the block written as a text; and for each kind of call the most bytes are
    printed. The word BYTES, if given, is the size of the thread's stack, of which
    the system keeps some for itself; under it is a page that nobody may touch, so
@@ -21,15 +21,16 @@ enum { GUARD = 4096, STEPS = 40, BUDGET = 2000, ROOM = 64 };
 
 static const uint64_t pattern = 0xa5c3965a3c69f00d;
 
-enum call { CHECK, OPEN, STEP, RUN, PAGE, READ, BEGIN, PIECE, END, WRITE, CALLS };
+enum call { CHECK, OPEN, STEP, RUN, COUNTED, PAGE, READ, BEGIN, PIECE, END, WRITE, CALLS };
 
-static const char *const names[CALLS] = {"check", "open", "step", "run", "page", "read", "begin", "piece", "end", "write"};
+static const char *const names[CALLS] = {"check", "open", "step", "run", "counted", "page", "read", "begin", "piece", "end", "write"};
 
 /* What the calls are made on. */
 static struct formula formula;
 static int32_t lits[PLACES];
 static uint8_t kinds[PLACES];
 static uint32_t reasons[PLACES];
+static uint32_t trues[CLAUSES], opens[CLAUSES], index_words[PLACES + LITERALS];
 static uint32_t output[ROOM];
 static uint64_t session[MOKI_RUN_WORDS];
 
@@ -79,6 +80,8 @@ static uint32_t make(enum call call)
         return moki_step(session[0], session[1], (uint32_t)session[2], block, length, lits, PLACES, kinds, PLACES, reasons, PLACES, session[1], 0, session);
     case RUN:
         return moki_run(session[0], session[1], (uint32_t)session[2], block, length, lits, PLACES, kinds, PLACES, reasons, PLACES, session[1], BUDGET, block, 6, session);
+    case COUNTED:
+        return moki_counted(0, session[1], MOKI_OPEN, block, length, lits, PLACES, kinds, PLACES, reasons, PLACES, trues, CLAUSES, opens, CLAUSES, index_words, PLACES + LITERALS, session[1], BUDGET, block, 6, session);
     case READ:
         return moki_read(spelled, bytes, block_read, BLOCK, page);
     case BEGIN:
@@ -187,12 +190,13 @@ int main(int argc, char **argv)
         for (int step = 0; step < STEPS; step++)
             try(STEP);
         try(RUN);
+        try(COUNTED);
         try(PAGE);
         spell();
         for (enum call call = READ; call < CALLS; call++)
             try(call);
     }
     for (enum call call = 0; call < CALLS; call++)
-        printf("%-5s %6zu bytes at most, on %s; accepted %u times\n", names[call], most[call].bytes, most[call].name, most[call].accepted);
+        printf("%-7s %6zu bytes at most, on %s; accepted %u times\n", names[call], most[call].bytes, most[call].name, most[call].accepted);
     return 0;
 }

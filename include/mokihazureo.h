@@ -65,6 +65,24 @@ uint32_t moki_run(size_t length, uint64_t revision, uint32_t state,
                   const int32_t *preferred, size_t preferred_length,
                   uint64_t answer[MOKI_RUN_WORDS]);
 
+/* Refusals 1 to 15 and 23. A run with the same answer and the same record, faster on
+   long runs. It is lent numbers by clause, C places or more, and an index, V+T or
+   more; shorter ones are refused with 11. Afterwards the first C places of trues and
+   of opens hold how many literals of each clause are true, and how many are
+   existential and unassigned; their other places stay. What the first V+T places of
+   the index hold is the library's own. */
+uint32_t moki_counted(size_t length, uint64_t revision, uint32_t state,
+                      const int32_t *block, size_t block_length,
+                      int32_t *lits, size_t lits_length,
+                      uint8_t *kinds, size_t kinds_length,
+                      uint32_t *reasons, size_t reasons_length,
+                      uint32_t *trues, size_t trues_length,
+                      uint32_t *opens, size_t opens_length,
+                      uint32_t *index, size_t index_length,
+                      uint64_t seen_revision, uint32_t budget,
+                      const int32_t *preferred, size_t preferred_length,
+                      uint64_t answer[MOKI_RUN_WORDS]);
+
 /* Refusals 1 to 11, 18 to 21 and 23. The openings from start on that win, two words
    of output each: the opening, and how many ones its number has. The answer is where
    the next page begins, the count of openings written, and 1 if the page stopped

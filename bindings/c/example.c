@@ -1,5 +1,5 @@
 /* A text read whole and in pieces, and written; two administrators at one session, the reasons of
-   its steps, a listing page by page, and what happens to bad input. */
+   its steps, a counted run, a listing page by page, and what happens to bad input. */
 #include <stdio.h>
 #include <string.h>
 
@@ -183,6 +183,30 @@ static void eight_reasons(void)
     expect("case A's eight steps have their reasons", right && now[2] == MOKI_UNSAT);
 }
 
+/* Case A, five steps counted and then to the end: each clause's true literals, and its
+   existential ones that are unassigned. It has 5 clauses; 4 + 13 places of index. */
+static void counted(void)
+{
+    int32_t lits[4];
+    uint8_t kinds[4];
+    uint32_t reasons[4];
+    uint32_t trues[6] = {9, 9, 9, 9, 9, 9};
+    uint32_t opens[6] = {9, 9, 9, 9, 9, 9};
+    uint32_t index[18] = {0};
+    uint64_t now[MOKI_RUN_WORDS];
+
+    index[17] = 9;
+    expect("a session for a counted run", moki_open(block, COUNT(block), lits, 4, kinds, 4, reasons, 4, 0, now) == 0);
+    expect("with four places for five clauses it is refused with 11", moki_counted(0, 0, MOKI_OPEN, block, COUNT(block), lits, 4, kinds, 4, reasons, 4, trues, 4, opens, 6, index, 18, 0, 5, block, 0, now) == 11);
+    expect("and with an index of 16 too", moki_counted(0, 0, MOKI_OPEN, block, COUNT(block), lits, 4, kinds, 4, reasons, 4, trues, 6, opens, 6, index, 16, 0, 5, block, 0, now) == 11 && trues[0] == 9);
+    expect("five steps are counted", moki_counted(0, 0, MOKI_OPEN, block, COUNT(block), lits, 4, kinds, 4, reasons, 4, trues, 6, opens, 6, index, 18, 0, 5, block, 0, now) == 0 && now[3] == 5);
+    expect("what is true in each clause", memcmp(trues, (uint32_t[]){1, 0, 0, 0, 1, 9}, sizeof trues) == 0);
+    expect("and what is open", memcmp(opens, (uint32_t[]){1, 1, 2, 1, 2, 9}, sizeof opens) == 0);
+    expect("and so on to the end", moki_counted(now[0], now[1], (uint32_t)now[2], block, COUNT(block), lits, 4, kinds, 4, reasons, 4, trues, 6, opens, 6, index, 18, 5, 100, block, 0, now) == 0 && now[2] == MOKI_UNSAT && now[3] == 3 && now[4] == 4);
+    expect("with these numbers", memcmp(trues, (uint32_t[]){1, 1, 1, 0, 1, 9}, sizeof trues) == 0 && memcmp(opens, (uint32_t[]){0, 0, 0, 0, 0, 9}, sizeof opens) == 0);
+    expect("past the index nothing is written", index[17] == 9);
+}
+
 static void bad_input(void)
 {
     int32_t lits[4] = {7, 7, 7, 7};
@@ -211,6 +235,7 @@ int main(void)
     a_written_text();
     two_administrators();
     eight_reasons();
+    counted();
     a_listing();
     bad_input();
     return failures != 0;

@@ -1,7 +1,8 @@
 //! Formulas from fixed seeds, of several shapes, to measure runs on: twenty of
-//! 1,000 clauses, and four with every count at its limit.
+//! 1,000 clauses, four with every count at its limit, and five tiny ones.
 
 use crate::block::{lay_out, LIMITS};
+use crate::cases;
 use crate::dice::Dice;
 
 pub const CLAUSES: usize = 1000;
@@ -34,7 +35,30 @@ pub fn trials() -> Vec<Trial> {
             });
         }
     }
+    trials.extend(tiny());
     trials
+}
+
+/// Where a run is over after a few steps, and its start counts: the cases A, B and G
+/// of docs/SPEC.md, and the plans of one rack with one guest and with three.
+fn tiny() -> Vec<Trial> {
+    let rack = |guests: usize| {
+        let (prefix, clauses) = failover_of(&[guests]);
+        lay_out(&prefix, &clauses)
+    };
+    let blocks = [
+        ("tiny-a", cases::A.to_vec()),
+        ("tiny-b", cases::b()),
+        ("tiny-g", cases::G.to_vec()),
+        ("tiny-plan-1", rack(1)),
+        ("tiny-plan-3", rack(3)),
+    ];
+    let trial = |(name, block): (&str, Vec<i32>)| Trial {
+        name: name.to_string(),
+        budget: 4000,
+        block,
+    };
+    blocks.map(trial).into()
 }
 
 type Make = fn(&mut Dice) -> Parts;
@@ -89,6 +113,13 @@ fn groups(dice: &mut Dice, existential: usize) -> Parts {
 /// clauses are 20, 48 or 84 for 1, 2 or 3 guests.
 fn failover(dice: &mut Dice) -> Parts {
     let racks = racks(dice);
+    let (prefix, mut clauses) = failover_of(&racks);
+    dice.shuffle(&mut clauses);
+    (prefix, clauses)
+}
+
+/// The same of racks with that many guests, rack by rack.
+fn failover_of(racks: &[usize]) -> Parts {
     let mut next = 0;
     let mut take = |count: usize| -> Vec<i32> {
         next += count as i32;
@@ -103,7 +134,6 @@ fn failover(dice: &mut Dice) -> Parts {
     for rack in 0..racks.len() {
         plan(&placed[rack], &failed[rack], &recovered[rack], &mut clauses);
     }
-    dice.shuffle(&mut clauses);
     (prefix, clauses)
 }
 

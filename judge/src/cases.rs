@@ -275,6 +275,8 @@ impl Talk {
 pub fn talks() -> Vec<Talk> {
     vec![
         eight_steps(),
+        eight_steps_counted(),
+        numbers_of_row_11(),
         reasons_of_rows_11_and_12(),
         lowest_clauses(),
         least_word(),
@@ -311,6 +313,86 @@ fn eight_steps() -> Talk {
     talk.say("run 8 3", "run 0 3 11 0 3 1");
     talk.say("run 11 2", "run 0 2 13 0 2 0");
     talk.say("run 13 9", "run 0 4 16 2 3 4");
+    talk
+}
+
+/// A's eight steps, counted: after each the true literals of each clause, and its
+/// existential literals that are unassigned. Past the five clauses nothing is written.
+/// A step between two counted runs, and a run, change no number.
+fn eight_steps_counted() -> Talk {
+    let mut talk = Talk::at("A: counted", &A, 0);
+    talk.say("trues 9 9 9 9 9 8 7", "trues 7");
+    talk.say("opens 9 9 9 9 9 6", "opens 6");
+    talk.say(&line("index", &[5; 17]), "index 17");
+    talk.say("open 0", "open 0 0 0 0");
+    for (ask, answer, trues, opens) in [
+        ("0 0", "0 0 0 0 0", "0 0 0 0 0", "2 1 2 2 2"),
+        ("0 1", "1 1 0 1 0", "0 0 0 1 0", "1 1 2 1 2"),
+        ("1 1", "2 2 0 1 0", "0 0 0 1 1", "1 1 2 1 2"),
+        ("2 1", "3 3 0 1 1", "1 0 1 1 2", "0 0 1 1 1"),
+        ("3 1", "1 4 0 1 2", "1 0 0 0 0", "1 1 2 1 2"),
+        ("4 1", "2 5 0 1 0", "1 0 0 0 1", "1 1 2 1 2"),
+        ("5 1", "3 6 0 1 2", "1 1 0 0 1", "0 0 1 1 1"),
+        ("6 1", "4 7 0 1 3", "1 1 1 0 1", "0 0 0 0 0"),
+        ("7 1", "4 8 2 1 4", "1 1 1 0 1", "0 0 0 0 0"),
+    ] {
+        talk.say(&format!("counted {ask}"), &format!("counted 0 {answer}"));
+        let numbers = format!("numbers trues {trues} 8 7 opens {opens} 6");
+        talk.say("numbers", &numbers);
+    }
+    let ended = "show 4 8 2 lits -1 2 -3 4 kinds 0 2 0 0 reasons 0 0 2 3 out";
+    talk.say("show", ended);
+    talk.say("counted 8 1", "counted 13");
+    talk.say("open 0", "open 0 0 0 0");
+    talk.say("counted 0 1 -1", "counted 0 1 1 0 1 0");
+    let turned = "numbers trues 1 0 0 0 0 8 7 opens 1 1 2 1 2 6";
+    talk.say("numbers", turned);
+    talk.say("step 1 0", "step 0 2 2 0 0");
+    talk.say("run 2 1", "run 0 3 3 0 1 2");
+    talk.say("numbers", turned);
+    talk.say("counted 3 0", "counted 0 3 3 0 0 0");
+    talk.say("numbers", "numbers trues 1 1 0 0 1 8 7 opens 0 0 1 1 1 6");
+    // 4 is forced; the choice of -1 is turned; 2, 3, and the second clause fails.
+    talk.say("counted 3 4294967295", "counted 0 3 8 2 5 2");
+    talk.say("numbers", "numbers trues 1 0 1 1 2 8 7 opens 0 0 1 1 1 6");
+    talk
+}
+
+/// A has 5 clauses, and 4 variables and 13 literal words: numbers of 4 places and an
+/// index of 16 are too short. What is refused leaves them. A run asks for none of them.
+fn numbers_of_row_11() -> Talk {
+    let mut talk = Talk::at("A: numbers that are too short", &A, 0);
+    talk.say("open 0", "open 0 0 0 0");
+    for (trues, opens, index) in [(4, 5, 17), (5, 4, 17), (5, 5, 16), (0, 0, 0)] {
+        talk.say(&line("trues", &vec![7; trues]), &format!("trues {trues}"));
+        talk.say(&line("opens", &vec![8; opens]), &format!("opens {opens}"));
+        talk.say(&line("index", &vec![9; index]), &format!("index {index}"));
+        talk.say("counted 0 1", "counted 11");
+        // 11 comes before 14.
+        talk.say("counted 1 1", "counted 11");
+        let trues = line("numbers trues", &vec![7; trues]);
+        talk.say(
+            "numbers",
+            &format!("{trues}{}", line(" opens", &vec![8; opens])),
+        );
+    }
+    talk.say("run 0 0", "run 0 0 0 0 0 0");
+    talk.say("session 5 0 0", "session");
+    // 11 before 12, and 12 where there is room.
+    talk.say("counted 0 1", "counted 11");
+    talk.say(&line("trues", &[7; 5]), "trues 5");
+    talk.say(&line("opens", &[8; 5]), "opens 5");
+    talk.say(&line("index", &[9; 17]), "index 17");
+    talk.say("counted 0 1", "counted 12");
+    talk.say("session 0 0 0", "session");
+    talk.say("counted 1 1", "counted 14");
+    talk.say("numbers", "numbers trues 7 7 7 7 7 opens 8 8 8 8 8");
+    talk.say("counted 0 0", "counted 0 0 0 0 0 0");
+    talk.say("numbers", "numbers trues 0 0 0 0 0 opens 2 1 2 2 2");
+    // 23 before 11.
+    talk.say("trues", "trues 0");
+    talk.say(&line("block", &n()), "block 23");
+    talk.say("counted 0 1", "counted 23");
     talk
 }
 

@@ -21,7 +21,9 @@
 //!   allowed, in any number. `-0` is 0 and fits every place, the unsigned ones
 //!   too. `+5`, `-` and `5.0` are no numbers.
 //! - The state of a session is 0, 1 or 2; other numbers don't fit their place.
-//! - The room for the record is 2,048 places for each of its three buffers.
+//! - The room for the record is 2,048 places for each of its three buffers, that
+//!   for the numbers by clause 8,192 for each of the two, and that for the index
+//!   16,384.
 //!   Preferences have no room of their own; their number is bounded by the
 //!   line's length.
 //! - `block W..` replaces the block also when the check refuses it, and a
@@ -30,10 +32,13 @@
 //! - An empty buffer is shown as its name alone: `show 0 0 0 lits kinds reasons
 //!   out`.
 //! - `page` neither looks at the reasons buffer nor writes to it.
+//! - `show` shows neither the numbers by clause nor the index; `numbers` shows all
+//!   places of the numbers, and nothing shows the index.
 
 use std::fmt::Display;
 
 use crate::block;
+use crate::counted::Numbers;
 use crate::hits::Hits;
 use crate::page::{self, Ask, Work};
 use crate::reading::TEXT_ROOM;
@@ -42,6 +47,8 @@ use crate::session::{self, Lent, Session, State};
 pub const BLOCK_ROOM: usize = 16_384;
 pub const RECORD_ROOM: usize = 2_048;
 pub const OUTPUT_ROOM: usize = 8_192;
+pub const NUMBERS_ROOM: usize = 8_192;
+pub const INDEX_ROOM: usize = 16_384;
 pub const LINE_ROOM: usize = 262_144;
 
 /// "The desk holds a block, a literals buffer, a kinds buffer, a reasons buffer, an
@@ -54,9 +61,12 @@ pub struct Desk {
     pub reasons: Vec<u32>,
     pub output: Vec<u32>,
     pub text: Vec<u8>,
+    pub trues: Vec<u32>,
+    pub opens: Vec<u32>,
+    pub index: Vec<u32>,
     pub session: Session,
-    /// The rules that its steps, runs and pages have applied so far.
-    pub hits: [Hits; 3],
+    /// The rules that its steps, runs, pages and counted runs have applied so far.
+    pub hits: [Hits; 4],
 }
 
 impl Default for Desk {
@@ -68,12 +78,15 @@ impl Default for Desk {
             reasons: Vec::new(),
             output: Vec::new(),
             text: Vec::new(),
+            trues: Vec::new(),
+            opens: Vec::new(),
+            index: Vec::new(),
             session: Session {
                 length: 0,
                 revision: 0,
                 state: State::Open,
             },
-            hits: [Hits::default(); 3],
+            hits: [Hits::default(); 4],
         }
     }
 }
@@ -114,6 +127,11 @@ impl Desk {
             b"words" => self.words(words),
             b"write" => self.write(words),
             b"bytes" => self.bytes(words),
+            b"trues" => set(&mut self.trues, "trues", words, NUMBERS_ROOM),
+            b"opens" => set(&mut self.opens, "opens", words, NUMBERS_ROOM),
+            b"index" => set(&mut self.index, "index", words, INDEX_ROOM),
+            b"counted" => self.counted(words),
+            b"numbers" => self.numbers(words),
             _ => None,
         }
     }
@@ -171,6 +189,41 @@ impl Desk {
             }
             Err(number) => format!("run {number}"),
         })
+    }
+
+    fn counted(&mut self, words: &[&[u8]]) -> Option<String> {
+        let (seen, words) = words.split_first()?;
+        let (budget, words) = words.split_first()?;
+        let (seen, budget, preferred) = (number(seen)?, number(budget)?, numbers(words)?);
+        let lent = Lent {
+            literals: &mut self.literals,
+            kinds: &mut self.kinds,
+            reasons: &mut self.reasons,
+        };
+        let numbers = Numbers {
+            trues: &mut self.trues,
+            opens: &mut self.opens,
+            index: &self.index,
+        };
+        let ran = self
+            .session
+            .counted(&self.block, lent, numbers, seen, budget, &preferred);
+        Some(match ran {
+            Ok(done) => {
+                self.hits[3].add(&done.hits);
+                let session = self.taken(done.session);
+                format!("counted 0 {session} {} {}", done.count, done.reason)
+            }
+            Err(number) => format!("counted {number}"),
+        })
+    }
+
+    fn numbers(&self, words: &[&[u8]]) -> Option<String> {
+        if !words.is_empty() {
+            return None;
+        }
+        let line = joined("numbers trues".to_string(), &self.trues);
+        Some(joined(line + " opens", &self.opens))
     }
 
     fn page(&mut self, words: &[&[u8]]) -> Option<String> {

@@ -14,6 +14,7 @@ use crate::rules;
 use crate::session::State;
 use crate::shapes;
 
+mod counts;
 mod texts;
 mod writes;
 
@@ -93,6 +94,7 @@ impl Play {
         }
         self.say_block(&block);
         self.lend_buffers(self.variables());
+        self.lend_numbers();
         self.say_output();
         self.say_open();
         for _ in 0..4 + self.dice.below(24) {
@@ -196,7 +198,7 @@ impl Play {
         }
         match self
             .dice
-            .weighted(&[20, 14, 12, 6, 14, 2, 14, 6, 4, 6, 5, 3, 3, 1, 3, 6])
+            .weighted(&[20, 14, 12, 6, 12, 2, 14, 6, 4, 6, 5, 3, 3, 1, 3, 6, 12, 2])
         {
             0 => self.step_with(0),
             1 => self.step_open(),
@@ -213,7 +215,9 @@ impl Play {
             12 => self.say_open(),
             13 => self.no_answer(),
             14 => self.say_output(),
-            _ => self.walk(),
+            15 => self.walk(),
+            16 => self.counted(),
+            _ => self.counted_stale(),
         }
         if self.dice.chance(1, 5) {
             self.show();
@@ -393,11 +397,15 @@ impl Play {
         self.say(line("reasons", &reasons));
     }
 
-    /// Steps from a session of this length.
+    /// Steps, or runs counted, from a session of this length.
     fn step_at(&mut self, length: usize, state: u8) {
         let revision = self.desk.session.revision;
         self.say(format!("session {length} {revision} {state}"));
-        self.step_with(0);
+        if self.dice.chance(1, 2) {
+            self.step_with(0);
+        } else {
+            self.counted();
+        }
     }
 
     fn made_record(&mut self) {
@@ -460,6 +468,9 @@ impl Play {
         }
         if self.dice.chance(1, 8) {
             self.write_block();
+        }
+        if self.dice.chance(1, 2) {
+            self.counted();
         }
     }
 

@@ -6,6 +6,7 @@ pub mod blame;
 pub mod block;
 pub mod cases;
 pub mod console;
+pub mod counted;
 pub mod damage;
 pub mod desks;
 pub mod dice;

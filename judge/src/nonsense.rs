@@ -1,7 +1,7 @@
 //! Lines that are no command, whose numbers don't fit their place, or that ask
 //! for more room than there is; and their neighbours that just fit.
 
-use crate::console::{self, OUTPUT_ROOM, RECORD_ROOM};
+use crate::console::{self, INDEX_ROOM, NUMBERS_ROOM, OUTPUT_ROOM, RECORD_ROOM};
 use crate::dice::Dice;
 use crate::reading::TEXT_ROOM;
 
@@ -11,7 +11,7 @@ pub fn line(dice: &mut Dice, revision: u64) -> String {
         return more_than_the_room(dice);
     }
     let bad = dice.pick(&BAD_NUMBERS);
-    match dice.below(13) {
+    match dice.below(17) {
         0 => format!("open {bad}"),
         1 => format!("step {revision} {bad}"),
         2 => format!("step {bad} 0"),
@@ -24,6 +24,10 @@ pub fn line(dice: &mut Dice, revision: u64) -> String {
         9 => format!("kinds 0 {bad}"),
         10 => format!("out 1 {bad}"),
         11 => format!("reasons 1 {bad}"),
+        12 => format!("counted {revision} {}", dice.pick(&BAD_BUDGETS)),
+        13 => format!("counted {revision} 1 1 {bad} 2"),
+        14 => format!("{} 0 {bad}", dice.pick(&["trues", "opens", "index"])),
+        15 => format!("numbers {bad}"),
         _ => dice.pick(&BAD_LINES).to_string(),
     }
 }
@@ -35,6 +39,9 @@ fn more_than_the_room(dice: &mut Dice) -> String {
         ("kinds", RECORD_ROOM),
         ("reasons", RECORD_ROOM),
         ("out", OUTPUT_ROOM),
+        ("trues", NUMBERS_ROOM),
+        ("opens", NUMBERS_ROOM),
+        ("index", INDEX_ROOM),
     ];
     let (command, room) = dice.pick(&rooms);
     console::line(command, &vec![0; room + dice.below(2)])
@@ -81,7 +88,7 @@ const BAD_BUDGETS: [&str; 6] = ["-1", "4294967296", "18446744073709551615", "+1"
 /// Words that no block can hold.
 const BAD_WORDS: [&str; 6] = ["2147483648", "-2147483649", "4294967302", "+6", "6.", "--6"];
 
-const BAD_LINES: [&str; 16] = [
+const BAD_LINES: [&str; 20] = [
     "help",
     "Show",
     "show 1",
@@ -96,6 +103,10 @@ const BAD_LINES: [&str; 16] = [
     "session 0 0 3",
     "session 0 0",
     "session 1 1 1 1",
+    "counted 0",
+    "counted",
+    "number",
+    "true",
     "show\t",
     " #",
 ];

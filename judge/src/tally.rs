@@ -9,13 +9,14 @@ use crate::console::Desk;
 use crate::hits::NAMES;
 
 /// The commands whose answer begins with a number of the table.
-const CALLS: [&str; 8] = [
-    "block", "open", "step", "run", "page", "read", "pieces", "write",
+const CALLS: [&str; 9] = [
+    "block", "open", "step", "run", "page", "read", "pieces", "write", "counted",
 ];
 
-const COMMANDS: [&str; 17] = [
+const COMMANDS: [&str; 22] = [
     "block", "lits", "kinds", "reasons", "out", "session", "open", "step", "run", "page", "show",
-    "text", "read", "pieces", "words", "write", "bytes",
+    "text", "read", "pieces", "words", "write", "bytes", "trues", "opens", "index", "counted",
+    "numbers",
 ];
 
 /// The refusals of a reading, 31 with its rows.
@@ -31,8 +32,8 @@ pub struct Tally {
     answers: BTreeMap<String, u64>,
     /// Answers to calls by number, 0 being an accepted one, and command.
     numbers: BTreeMap<(String, String), u64>,
-    /// Refusals that the reasons buffer alone is to blame for, by what it was.
-    blames: [u64; 3],
+    /// Refusals that one buffer alone is to blame for, by what it was.
+    blames: [u64; 6],
 }
 
 impl Tally {
@@ -47,11 +48,12 @@ impl Tally {
 
     fn note_blame(&mut self, answer: &str) {
         let row = match answer {
-            "open 11" | "step 11" | "run 11" => 11,
-            "step 12" | "run 12" => 12,
+            "open 11" | "step 11" | "run 11" | "counted 11" => 11,
+            "step 12" | "run 12" | "counted 12" => 12,
             _ => return,
         };
-        if let Some(place) = blame::of(&self.desk, row) {
+        let is_counted = answer.starts_with("counted");
+        if let Some(place) = blame::of(&self.desk, row, is_counted) {
             self.blames[place] += 1;
         }
     }
@@ -81,8 +83,13 @@ impl Tally {
     }
 
     fn rule_row(&self, f: &mut fmt::Formatter, rule: usize) -> fmt::Result {
-        let [step, run, page] = self.desk.hits.map(|hits| hits.0[rule]);
-        let counts = [("step", step), ("run", run), ("page", page)];
+        let [step, run, page, counted] = self.desk.hits.map(|hits| hits.0[rule]);
+        let counts = [
+            ("step", step),
+            ("run", run),
+            ("page", page),
+            ("counted", counted),
+        ];
         row(f, &format!("rule {}", NAMES[rule]), &counts)
     }
 }

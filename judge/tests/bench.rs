@@ -24,7 +24,7 @@ fn steps(trial: &Trial) -> u32 {
 #[test]
 fn twenty_of_a_thousand_clauses() {
     let trials = trials();
-    assert_eq!(trials.len(), 24);
+    assert_eq!(trials.len(), 29);
     for trial in &trials[..20] {
         let formula = Formula::read(&trial.block).expect("accepted");
         assert_eq!(formula.clauses.len(), CLAUSES, "{}", trial.name);
@@ -36,9 +36,22 @@ fn twenty_of_a_thousand_clauses() {
 /// They use their whole budget.
 #[test]
 fn four_at_the_limits() {
-    for trial in &trials()[20..] {
+    for trial in &trials()[20..24] {
         let counts = [0, 1, 2].map(|place| i64::from(trial.block[place]));
         assert_eq!(counts, LIMITS, "{}", trial.name);
         assert_eq!(steps(trial), trial.budget, "{}", trial.name);
+    }
+}
+
+/// They end, A and B after their steps in docs/SPEC.md.
+#[test]
+fn five_tiny_ones() {
+    let trials = trials();
+    let tiny = &trials[24..];
+    let counts: Vec<u32> = tiny.iter().map(steps).collect();
+    assert_eq!(counts[..2], [8, 5]);
+    for (trial, count) in tiny.iter().zip(counts) {
+        assert!(trial.name.starts_with("tiny-"), "{}", trial.name);
+        assert!(count < 100, "{}: {count} steps", trial.name);
     }
 }

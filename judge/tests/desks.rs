@@ -2,6 +2,7 @@
 
 use judge::block::{breaks, LIMITS, ROWS};
 use judge::desks;
+use judge::hits::NAMES;
 use judge::tally::Tally;
 
 fn lines(seed: u64, count: usize) -> Vec<u8> {
@@ -50,18 +51,19 @@ fn every_limit_is_met_and_passed() {
     assert!(passed.iter().all(|&count| count > 1), "{passed:?}");
 }
 
-/// Refusals that the reasons buffer alone is to blame for.
+/// Refusals that one buffer alone is to blame for: the reasons, the numbers by
+/// clause, the index.
 #[test]
-fn every_damage_to_the_reasons_is_hit() {
+fn every_buffer_is_to_blame() {
     let mut tally = Tally::default();
-    for line in lines(3, 20_000).split(|&byte| byte == b'\n') {
+    for line in lines(3, 40_000).split(|&byte| byte == b'\n') {
         tally.note(line);
     }
     let told = tally.to_string();
     let blames = told.lines().filter_map(|line| line.strip_prefix("blame "));
     let count = |line: &str| line.split(' ').nth(1).unwrap().parse::<u64>().unwrap();
     let counts: Vec<u64> = blames.map(count).collect();
-    assert_eq!(counts.len(), 3);
+    assert_eq!(counts.len(), 6);
     assert!(counts.iter().all(|&count| count >= 30), "{told}");
 }
 
@@ -105,4 +107,21 @@ fn every_answer_of_a_writing_is_hit() {
     }
     let accepted = told.lines().find(|line| line.starts_with("accepted "));
     assert!(share(accepted.unwrap(), "write") >= 200, "{told}");
+}
+
+/// Counted runs are refused with every number that they can be, and apply every rule.
+#[test]
+fn every_answer_of_a_counted_run_is_hit() {
+    let mut tally = Tally::default();
+    for line in lines(6, 40_000).split(|&byte| byte == b'\n') {
+        tally.note(line);
+    }
+    let told = tally.to_string();
+    let rows = ROWS.into_iter().chain(11..=15);
+    let names = rows.map(|row| format!("refusal {row} "));
+    let rules = NAMES.map(|name| format!("rule {name} "));
+    for name in names.chain(rules).chain(["accepted ".to_string()]) {
+        let counts = told.lines().find(|line| line.starts_with(&name)).unwrap();
+        assert!(share(counts, "counted") >= 10, "{counts}");
+    }
 }

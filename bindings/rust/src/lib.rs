@@ -75,6 +75,16 @@ pub struct Ran {
     pub reason: Reason,
 }
 
+/// What a counted run is lent besides the record. Afterwards the first C places of
+/// `trues` and `opens` hold how many literals of each clause are true, and how many are
+/// existential and unassigned; their other places stay. What the first V+T places of
+/// `index` hold is the library's own.
+pub struct Numbers<'a> {
+    pub trues: &'a mut [u32],
+    pub opens: &'a mut [u32],
+    pub index: &'a mut [u32],
+}
+
 /// Where the next page begins, how many openings this one wrote, and whether it
 /// stopped because the search of the next one didn't end within the budget.
 #[derive(Clone, Copy, Debug, PartialEq, Eq)]

@@ -1,7 +1,7 @@
 //! Cases A, G and K of docs/SPEC.md, and the texts of A and G.
 
 use mokihazureo::{open, page, read, write, Literal, Page, Reason, Refusal, Revision, Session};
-use mokihazureo::{Reader, State, Unread};
+use mokihazureo::{Numbers, Reader, State, Unread};
 
 const A: [i32; 28] = [
     4, 5, 13, 6, 10, 15, 1, -2, 3, 4, 3, 5, 7, 10, 13, -1, -2, 3, -2, -3, 3, 4, 1, -2, -4, 2, 3, -4,
@@ -95,6 +95,40 @@ fn a_in_one_run() {
         let ran = ran.unwrap();
         assert_eq!((ran.steps, ran.session.state), (budget.min(8), state));
         assert_eq!(ran.reason.clause(), clause);
+    }
+}
+
+/// A's counted run of so many steps, with buffers of these lengths: its count of steps,
+/// and the numbers.
+fn counted(budget: u32, lengths: [usize; 3]) -> Result<(u32, Vec<u32>, Vec<u32>), Refusal> {
+    let Desk {
+        mut lits,
+        mut kinds,
+        mut reasons,
+        session,
+    } = Desk::opened();
+    let [mut trues, mut opens, mut index] = lengths.map(|length| vec![9; length]);
+    let numbers = Numbers {
+        trues: &mut trues,
+        opens: &mut opens,
+        index: &mut index,
+    };
+    let (lits, kinds, reasons) = (&mut lits, &mut kinds, &mut reasons);
+    let ran = session.counted(&A, lits, kinds, reasons, numbers, Revision(0), budget, &[])?;
+    Ok((ran.steps, trues, opens))
+}
+
+/// 5 clauses, and 4 + 13 places of index.
+#[test]
+fn a_counted() {
+    let fresh = (0, vec![0, 0, 0, 0, 0], vec![2, 1, 2, 2, 2]);
+    assert_eq!(counted(0, [5, 5, 17]), Ok(fresh));
+    let third = (3, vec![1, 0, 1, 1, 2, 9], vec![0, 0, 1, 1, 1, 9, 9]);
+    assert_eq!(counted(3, [6, 7, 20]), Ok(third));
+    let ended = (8, vec![1, 1, 1, 0, 1], vec![0; 5]);
+    assert_eq!(counted(100, [5, 5, 17]), Ok(ended));
+    for lengths in [[4, 5, 17], [5, 4, 17], [5, 5, 16]] {
+        assert_eq!(counted(100, lengths), Err(Refusal(11)));
     }
 }
 

@@ -1,6 +1,7 @@
 // A command, done on the desk. The library is lent the desk's buffers exactly as they are.
 ghost use lib.ListN.{length};
 ghost use Rattle.console.specs.Desk.{Within};
+ghost use Rattle.console.specs.Room.{blockWords, outputWords};
 use crate::command::Command;
 use crate::desk::Counts;
 use crate::names;
@@ -35,6 +36,7 @@ fn call(
         ),
         Command::Run { seen, budget, .. } => reply::ran(
             session,
+            names::RUN,
             session.run(block, literals, kinds, reasons, seen, budget, preferred),
         ),
         Command::Page { start, budget, .. } => reply::paged(
@@ -66,7 +68,7 @@ pub(crate) fn act(
     preferred: &[i32],
     bytes: &mut [u8],
 ) -> Reply
-    requires { ⌜ Within counts (length (now block)) (length (now literals)) (length (now kinds)) (length (now reasons)) (length (now output)) (length (now preferred)) (length (now bytes)) ⌝ }
+    requires { ⌜ Within counts (length (now block)) (length (now literals)) (length (now kinds)) (length (now reasons)) (length (now output)) (length (now preferred)) (length (now bytes)) outputWords outputWords blockWords ⌝ }
 {
     let b = counts.block;
     let l = counts.literals;

@@ -14,6 +14,7 @@ use crate::room::ANSWER_BYTES;
 use crate::room::ANSWER_NUMBERS;
 use crate::room::BLOCK_WORDS;
 use crate::room::DIGITS;
+use crate::room::NUMBER_WORDS;
 use crate::room::OUTPUT_WORDS;
 use crate::room::REASON_WORDS;
 use crate::room::RECORD_PLACES;
@@ -159,6 +160,23 @@ fn buffers(
     counts(text, last, output, used.output)
 }
 
+// Puts ` trues W.. opens W..`.
+fn both_numbers(
+    text: &mut [u8; ANSWER_BYTES],
+    from: usize,
+    used: Counts,
+    trues: &[u32; NUMBER_WORDS],
+    opens: &[u32; NUMBER_WORDS],
+) -> usize
+    requires { ⌜ from ≤ namesBytes + numberBytes * answerNumbers ⌝ }
+    ensures { λ r. ⌜ r < answerBytes ⌝ }
+{
+    let first = put(text, from, b" trues");
+    let second = counts(text, first, trues, used.trues);
+    let last = put(text, second, b" opens");
+    counts(text, last, opens, used.opens)
+}
+
 // Puts the words that follow an answer's numbers.
 fn words_after(
     text: &mut [u8; ANSWER_BYTES],
@@ -171,6 +189,8 @@ fn words_after(
     reasons: &[u32; REASON_WORDS],
     output: &[u32; OUTPUT_WORDS],
     written: &[u8; TEXT_BYTES],
+    trues: &[u32; NUMBER_WORDS],
+    opens: &[u32; NUMBER_WORDS],
 ) -> usize
     requires { ⌜ from ≤ namesBytes + numberBytes * answerNumbers ⌝ }
     ensures { λ r. ⌜ r < answerBytes ⌝ }
@@ -181,6 +201,7 @@ fn words_after(
         After::Desk => buffers(text, from, used, literals, kinds, reasons, output),
         After::Block => words(text, from, block, used.block),
         After::Text => bytes(text, from, written, used.text),
+        After::Numbers => both_numbers(text, from, used, trues, opens),
     }
 }
 
@@ -202,6 +223,8 @@ pub(crate) fn write(
     reasons: &[u32; REASON_WORDS],
     output: &[u32; OUTPUT_WORDS],
     written: &[u8; TEXT_BYTES],
+    trues: &[u32; NUMBER_WORDS],
+    opens: &[u32; NUMBER_WORDS],
 ) -> bool {
     let first = reply.name;
     if first == NOTHING {
@@ -222,6 +245,8 @@ pub(crate) fn write(
         reasons,
         output,
         written,
+        trues,
+        opens,
     );
     let size = put(text, end, b"\n");
     sent(text, size)

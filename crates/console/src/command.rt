@@ -9,8 +9,10 @@ use crate::numbers::word_of;
 use crate::room::BLOCK_WORDS;
 use crate::room::BYTE_MOST;
 use crate::room::COUNT_MOST;
+use crate::room::INDEX_WORDS;
 use crate::room::LONG_MOST;
 use crate::room::NONE_BELOW;
+use crate::room::NUMBER_WORDS;
 use crate::room::OUTPUT_WORDS;
 use crate::room::PIECES_MOST;
 use crate::room::PREFERRED_WORDS;
@@ -58,6 +60,15 @@ pub(crate) enum Command {
     Words,
     Write,
     Bytes,
+    Trues(usize),
+    Opens(usize),
+    Index(usize),
+    Counted {
+        seen: Revision,
+        budget: u32,
+        from: usize,
+    },
+    Numbers,
 }
 
 // A command, if its words fit.
@@ -95,14 +106,22 @@ fn step(line: &[u8], from: usize) -> Command {
     only(ends(line, proposal.next), command)
 }
 
-// `run SEEN BUDGET P..`
-fn run(line: &[u8], from: usize) -> Command {
+// `run SEEN BUDGET P..`, `counted SEEN BUDGET P..`
+fn run(name: Name, line: &[u8], from: usize) -> Command {
     let seen = next_number(line, from, NONE_BELOW, LONG_MOST);
     let budget = next_number(line, seen.next, NONE_BELOW, COUNT_MOST);
-    let command = Command::Run {
-        seen: Revision(seen.size),
-        budget: budget.size as u32,
-        from: budget.next,
+    let command = if name == names::RUN {
+        Command::Run {
+            seen: Revision(seen.size),
+            budget: budget.size as u32,
+            from: budget.next,
+        }
+    } else {
+        Command::Counted {
+            seen: Revision(seen.size),
+            budget: budget.size as u32,
+            from: budget.next,
+        }
     };
     only(
         all_fit(line, budget.next, WORD_BELOW, WORD_MOST, PREFERRED_WORDS),
@@ -151,7 +170,7 @@ fn behind(name: Name, line: &[u8], from: usize) -> Command {
         names::SESSION => session(line, from),
         names::OPEN => open(line, from),
         names::STEP => step(line, from),
-        names::RUN => run(line, from),
+        names::RUN => run(name, line, from),
         names::PAGE => page(line, from),
         names::SHOW => only(ends(line, from), Command::Show),
         names::TEXT => only(
@@ -166,6 +185,20 @@ fn behind(name: Name, line: &[u8], from: usize) -> Command {
         names::WORDS => only(ends(line, from), Command::Words),
         names::WRITE => only(ends(line, from), Command::Write),
         names::BYTES => only(ends(line, from), Command::Bytes),
+        names::TRUES => only(
+            all_fit(line, from, NONE_BELOW, COUNT_MOST, NUMBER_WORDS),
+            Command::Trues(from),
+        ),
+        names::OPENS => only(
+            all_fit(line, from, NONE_BELOW, COUNT_MOST, NUMBER_WORDS),
+            Command::Opens(from),
+        ),
+        names::INDEX => only(
+            all_fit(line, from, NONE_BELOW, COUNT_MOST, INDEX_WORDS),
+            Command::Index(from),
+        ),
+        names::COUNTED => run(name, line, from),
+        names::NUMBERS => only(ends(line, from), Command::Numbers),
         _ => Command::Unknown,
     }
 }

@@ -13,6 +13,9 @@ pub(crate) struct Counts {
     pub(crate) output: usize,
     pub(crate) preferred: usize,
     pub(crate) text: usize,
+    pub(crate) trues: usize,
+    pub(crate) opens: usize,
+    pub(crate) index: usize,
 }
 
 // The desk, and whether it goes on to the next line: the answer could be written, and the input has not ended.
@@ -35,6 +38,9 @@ pub(crate) fn empty() -> Desk
             output: 0,
             preferred: 0,
             text: 0,
+            trues: 0,
+            opens: 0,
+            index: 0,
         },
         session: Session {
             length: 0,

@@ -1,7 +1,6 @@
 // The numbers of a line, for a buffer. All are looked at before the first is stored, so that a line that doesn't fit changes nothing.
 ghost use Prim.Native.Nat.{_≤_};
 ghost use lib.ListN.{length};
-ghost use Rattle.console.specs.Room.{outputWords};
 use crate::numbers::NOWHERE;
 use crate::numbers::ends;
 use crate::numbers::next_number;
@@ -9,7 +8,6 @@ use crate::numbers::word_of;
 use crate::room::BYTE_MOST;
 use crate::room::COUNT_MOST;
 use crate::room::NONE_BELOW;
-use crate::room::OUTPUT_WORDS;
 use crate::room::WORD_BELOW;
 use crate::room::WORD_MOST;
 
@@ -63,12 +61,12 @@ pub(crate) fn store_bytes(line: &[u8], from: usize, buffer: &mut [u8]) -> usize
     count
 }
 
-pub(crate) fn store_counts(line: &[u8], from: usize, buffer: &mut [u32; OUTPUT_WORDS]) -> usize
-    ensures { λ r. ⌜ r ≤ outputWords ⌝ }
+pub(crate) fn store_counts(line: &[u8], from: usize, buffer: &mut [u32]) -> usize
+    ensures { λ r. ⌜ r ≤ length (now (buffer .entry)) ⌝ }
 {
     let mut at = from;
     let mut count = 0;
-    while count < OUTPUT_WORDS {
+    while count < buffer.len() {
         let number = next_number(line, at, NONE_BELOW, COUNT_MOST);
         at = number.next;
         if at == NOWHERE {

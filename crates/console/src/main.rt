@@ -10,6 +10,7 @@ mod desk; // the desk between two lines
 mod fill; // the numbers of a line, for a buffer
 mod input; // the lines of the input
 mod line; // a line's bytes and words
+mod long; // a counted run, done on the desk
 mod names; // the names that a line begins with
 mod numbers; // a word's number
 mod pieces; // a text that is read in pieces
@@ -25,7 +26,9 @@ use input::Taken;
 use input::next_line;
 use room::ANSWER_BYTES;
 use room::BLOCK_WORDS;
+use room::INDEX_WORDS;
 use room::LINE_BYTES;
+use room::NUMBER_WORDS;
 use room::OUTPUT_WORDS;
 use room::PART_BYTES;
 use room::PREFERRED_WORDS;
@@ -45,6 +48,9 @@ fn serve_line(
     output: &mut [u32; OUTPUT_WORDS],
     preferred: &mut [i32; PREFERRED_WORDS],
     text: &mut [u8; TEXT_BYTES],
+    trues: &mut [u32; NUMBER_WORDS],
+    opens: &mut [u32; NUMBER_WORDS],
+    index: &mut [u32; INDEX_WORDS],
     answer: &mut [u8; ANSWER_BYTES],
 ) -> Desk
     requires { ⌜ taken .count ≤ length (now bytes) ⌝ }
@@ -67,8 +73,11 @@ fn serve_line(
         output,
         preferred,
         text,
+        trues,
+        opens,
+        index,
     );
-    let reply = act(
+    let first = act(
         asks,
         before,
         counts,
@@ -81,6 +90,19 @@ fn serve_line(
         preferred,
         text,
     );
+    let reply = long::act(
+        asks,
+        first,
+        counts,
+        block,
+        literals,
+        kinds,
+        reasons,
+        preferred,
+        trues,
+        opens,
+        index,
+    );
     let written = answer::write(
         answer,
         reply,
@@ -91,6 +113,8 @@ fn serve_line(
         reasons,
         output,
         text,
+        trues,
+        opens,
     );
     let session = reply.session;
     Desk {
@@ -111,6 +135,9 @@ fn serve(
     output: &mut [u32; OUTPUT_WORDS],
     preferred: &mut [i32; PREFERRED_WORDS],
     text: &mut [u8; TEXT_BYTES],
+    trues: &mut [u32; NUMBER_WORDS],
+    opens: &mut [u32; NUMBER_WORDS],
+    index: &mut [u32; INDEX_WORDS],
     answer: &mut [u8; ANSWER_BYTES],
 ) {
     let mut desk = desk::empty();
@@ -130,6 +157,9 @@ fn serve(
             output,
             preferred,
             text,
+            trues,
+            opens,
+            index,
             answer,
         );
         if !desk.on {
@@ -149,6 +179,9 @@ fn main() {
     let mut output = [0; OUTPUT_WORDS];
     let mut preferred = [0; PREFERRED_WORDS];
     let mut text = [0; TEXT_BYTES];
+    let mut trues = [0; NUMBER_WORDS];
+    let mut opens = [0; NUMBER_WORDS];
+    let mut index = [0; INDEX_WORDS];
     let mut answer = [0; ANSWER_BYTES];
     serve(
         &mut part,
@@ -160,6 +193,9 @@ fn main() {
         &mut output,
         &mut preferred,
         &mut text,
+        &mut trues,
+        &mut opens,
+        &mut index,
         &mut answer,
     );
 }

@@ -43,14 +43,24 @@ pub(crate) const WRITE: Name = 15;
 
 pub(crate) const BYTES: Name = 16;
 
-pub(crate) const UNKNOWN: Name = 17;
+pub(crate) const TRUES: Name = 17;
+
+pub(crate) const OPENS: Name = 18;
+
+pub(crate) const INDEX: Name = 19;
+
+pub(crate) const COUNTED: Name = 20;
+
+pub(crate) const NUMBERS: Name = 21;
+
+pub(crate) const UNKNOWN: Name = 22;
 
 // Behind the list: a line that gets no answer has none.
-pub(crate) const NOTHING: Name = 18;
+pub(crate) const NOTHING: Name = 23;
 
 // The names in one line, each at its place.
 pub(crate) fn list() -> [u8; NAMES_BYTES] {
-    *b"block lits kinds reasons out session open step run page show text read pieces words write bytes ?"
+    *b"block lits kinds reasons out session open step run page show text read pieces words write bytes trues opens index counted numbers ?"
 }
 
 // Where a name stands in the list.

@@ -25,6 +25,8 @@ pub(crate) enum After {
     Block,
     // All of the text buffer.
     Text,
+    // All of a counted run's numbers.
+    Numbers,
 }
 
 // The session; a name, the first few of six numbers, and the words that follow.
@@ -57,7 +59,7 @@ fn short(session: Session, name: Name, count: usize, n: u64) -> Reply {
     pair(session, name, count, n, 0)
 }
 
-// `words W..`, `bytes B..`
+// `words W..`, `bytes B..`, `numbers ..`
 fn listed(session: Session, name: Name, after: After) -> Reply {
     Reply {
         session,
@@ -126,15 +128,15 @@ pub(crate) fn stepped(session: Session, answer: Stepped) -> Reply {
     }
 }
 
-// A run tells its count of steps, and the reason of the last one.
-pub(crate) fn ran(session: Session, answer: Ran) -> Reply {
+// A run, counted or not, tells its count of steps, and the reason of the last one.
+pub(crate) fn ran(session: Session, name: Name, answer: Ran) -> Reply {
     match answer {
         Ran::Until {
             session: next,
             steps,
             reason,
-        } => reached(next, names::RUN, 6, steps, reason),
-        Ran::Stopped(n) => short(session, names::RUN, 1, n as u64),
+        } => reached(next, name, 6, steps, reason),
+        Ran::Stopped(n) => short(session, name, 1, n as u64),
     }
 }
 
@@ -194,6 +196,10 @@ pub(crate) fn told(command: Command, session: Session, counts: Counts) -> Reply 
         Command::Text(_) => short(session, names::TEXT, 1, counts.text as u64),
         Command::Words => listed(session, names::WORDS, After::Block),
         Command::Bytes => listed(session, names::BYTES, After::Text),
+        Command::Trues(_) => short(session, names::TRUES, 1, counts.trues as u64),
+        Command::Opens(_) => short(session, names::OPENS, 1, counts.opens as u64),
+        Command::Index(_) => short(session, names::INDEX, 1, counts.index as u64),
+        Command::Numbers => listed(session, names::NUMBERS, After::Numbers),
         Command::Nothing => short(session, names::NOTHING, 0, 0),
         _ => short(session, names::UNKNOWN, 0, 0),
     }

@@ -10,6 +10,11 @@ pub(crate) const OUTPUT_WORDS: usize = BLOCK_WORDS / 2;
 // The buffer of reasons is an array like the output's, so that the same functions serve both; its lines have no more words than there are places.
 pub(crate) const REASON_WORDS: usize = OUTPUT_WORDS;
 
+// A counted run's numbers are arrays like the output's too; its index has as many words as a block.
+pub(crate) const NUMBER_WORDS: usize = OUTPUT_WORDS;
+
+pub(crate) const INDEX_WORDS: usize = BLOCK_WORDS;
+
 pub(crate) const LINE_BYTES: usize = 262144;
 
 // A line has at most half as many words as bytes, which is room enough for preferences.
@@ -35,7 +40,7 @@ pub(crate) const DIGITS: usize = 20;
 pub(crate) const ANSWER_NUMBERS: usize = 6;
 
 // The bytes of the list of names.
-pub(crate) const NAMES_BYTES: usize = 97;
+pub(crate) const NAMES_BYTES: usize = 131;
 
 // The largest number of each place: "i32 words, u8 kinds, u64 revisions and lengths, u32 budgets, starts and outputs", a text's bytes, and
 // a session's state.

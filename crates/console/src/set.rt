@@ -6,13 +6,15 @@ use crate::fill::store_bytes;
 use crate::fill::store_counts;
 use crate::fill::store_words;
 use crate::room::BLOCK_WORDS;
+use crate::room::INDEX_WORDS;
+use crate::room::NUMBER_WORDS;
 use crate::room::OUTPUT_WORDS;
 use crate::room::PREFERRED_WORDS;
 use crate::room::REASON_WORDS;
 use crate::room::RECORD_PLACES;
 use crate::room::TEXT_BYTES;
 
-// Preferred words are in use for the line of their run or page alone.
+// Preferred words are in use for the line of their run, counted run or page alone.
 pub(crate) fn buffers(
     command: Command,
     line: &[u8],
@@ -24,6 +26,9 @@ pub(crate) fn buffers(
     output: &mut [u32; OUTPUT_WORDS],
     preferred: &mut [i32; PREFERRED_WORDS],
     text: &mut [u8; TEXT_BYTES],
+    trues: &mut [u32; NUMBER_WORDS],
+    opens: &mut [u32; NUMBER_WORDS],
+    index: &mut [u32; INDEX_WORDS],
 ) -> Counts
     requires { ⌜ InRoom old ⌝ }
     ensures { λ r. ⌜ InRoom r ⌝ }
@@ -39,6 +44,10 @@ pub(crate) fn buffers(
         Command::Run { from, .. } => counts.preferred = store_words(line, from, preferred),
         Command::Page { from, .. } => counts.preferred = store_words(line, from, preferred),
         Command::Text(from) => counts.text = store_bytes(line, from, text),
+        Command::Trues(from) => counts.trues = store_counts(line, from, trues),
+        Command::Opens(from) => counts.opens = store_counts(line, from, opens),
+        Command::Index(from) => counts.index = store_counts(line, from, index),
+        Command::Counted { from, .. } => counts.preferred = store_words(line, from, preferred),
         _ => {}
     }
     counts

@@ -12,6 +12,8 @@ use Rattle.session.specs.declared.Ran.{Ran}
 use Rattle.memory.specs.Memory.{Memory}
 use Rattle.session.specs.Outcome.{stepOutcome}
 use Rattle.session.specs.Run.{runOf}
+use Rattle.counted.specs.Lent as counted
+use Rattle.counted.specs.Promises.{CountedPromise}
 use Rattle.text.specs.declared.Reader.{Reader}
 use Rattle.text.specs.declared.Answer as text
 use Rattle.text.specs.Pieces.{pieceOf, endOf}
@@ -31,6 +33,10 @@ module _ {s t : Session} (same : s ≡ t) (b : List ℤ) (m : Memory) (seen : �
 
   pub run-of : (budget : ℕ) (preferred : List ℤ) {o : Outcome Memory Ran} → o ≡ runOf limits s b m (revision seen) budget preferred → o ≡ runOf limits t b m (revision seen) budget preferred
   run-of budget preferred e = rw (← same) e
+
+pub counted-of : {s t : Session} → s ≡ t → (b : List ℤ) (w : counted.Lent) (seen budget : ℕ) (preferred : List ℤ) (w′ : counted.Lent) {r : Ran}
+    → CountedPromise s b w (revision seen) budget preferred r w′ → CountedPromise t b w (revision seen) budget preferred r w′
+counted-of same b w seen budget preferred w′ e = rw (← same) e
 
 -- the reader of the numbers
 module _ (s : List ℕ) {r : Reader} (same : r ≡ readerOf s) (o : List ℤ) where

@@ -20,6 +20,8 @@ use Rattle.memory.specs.Memory.{Memory}
 use Rattle.memory.specs.States.{numberOf, stateNumbered}
 use Rattle.session.specs.Outcome.{session, openOutcome, stepOutcome}
 use Rattle.session.specs.Run.{runOf}
+use Rattle.counted.specs.Lent as counted
+use Rattle.counted.specs.Counted.{countedOf}
 use Rattle.listing.specs.declared.Paged as paged
 use Rattle.listing.specs.Page.{PageMemory, pageOf}
 use Rattle.writer.specs.declared.Written as text
@@ -82,6 +84,10 @@ ranNumbers (Stopped n) = []
 
 abbrev pub runCall : Limits → Session → List ℤ → Memory → ℕ → ℕ → List ℤ → List ℕ → Outcome (Lent Memory) ℕ
 runCall L s b m seen budget preferred a = told ranStatus ranNumbers a (runOf L s b m (revision seen) budget preferred)
+
+-- ---- [calls.counted] a counted run: as a run's
+abbrev pub countedCall : Limits → Session → List ℤ → counted.Lent → ℕ → ℕ → List ℤ → List ℕ → Outcome (Lent counted.Lent) ℕ
+countedCall L s b w seen budget preferred a = told ranStatus ranNumbers a (countedOf L s b w (revision seen) budget preferred)
 
 -- ---- a page: where the next one begins, the entries written, and 1 for paused, else 0
 abbrev pub pagedStatus : paged.Paged → ℕ

@@ -8,10 +8,12 @@ use Rattle.formula.specs.Limits.{limits}
 use Rattle.formula.specs.Block.{refusal}
 use Rattle.session.specs.declared.Session.{Session}
 use Rattle.memory.specs.Memory.{Memory}
+use Rattle.counted.specs.Lent as counted
+use Rattle.counted.specs.Promises.{used}
 use Rattle.listing.specs.Page.{PageMemory}
 use Rattle.text.specs.Pieces.{begun}
 use Rattle.saved.specs.Numbers.{written}
-use Rattle.mokihazureo.specs.Called.{Lent, openCall, stepCall, runCall, pageCall, writeCall}
+use Rattle.mokihazureo.specs.Called.{Lent, lent, revision, openCall, stepCall, runCall, countedCall, pageCall, writeCall}
 use Rattle.mokihazureo.specs.Reading.{readCall, pieceCall, endCall}
 
 -- ---- the promises
@@ -26,6 +28,10 @@ StepPromise s b m seen l a r left = outcome r left ≡ stepCall limits s b m see
 
 abbrev pub RunPromise : Session → List ℤ → Memory → ℕ → ℕ → List ℤ → List ℕ → ℕ → Lent Memory → Type 0
 RunPromise s b m seen budget preferred a r left = outcome r left ≡ runCall limits s b m seen budget preferred a
+
+-- [calls.counted] [counted.index] of the index what is not the call's own
+abbrev pub CountedPromise : Session → List ℤ → counted.Lent → ℕ → ℕ → List ℤ → List ℕ → ℕ → counted.Lent → List ℕ → Type 0
+CountedPromise s b w seen budget preferred a r w′ a′ = outcome r (lent (counted.past (used s b w (revision seen) budget) w′) a′) ≡ countedCall limits s b w seen budget preferred a
 
 abbrev pub PagePromise : List ℤ → PageMemory → ℕ → List ℤ → ℕ → List ℕ → ℕ → Lent PageMemory → Type 0
 PagePromise b m start preferred budget a r left = outcome r left ≡ pageCall limits b m start preferred budget a
@@ -60,6 +66,11 @@ module _ (r r′ : ℕ) (left left′ : Lent Memory) (b : List ℤ) (m : Memory)
 
   pub only-run : (s : Session) (seen budget : ℕ) (preferred : List ℤ) → RunPromise s b m seen budget preferred a r left → RunPromise s b m seen budget preferred a r′ left′ → Same r r′ left left′
   only-run s seen budget preferred = same
+
+pub only-counted : (r r′ : ℕ) (w′ w″ : counted.Lent) (a′ a″ : List ℕ) (s : Session) (b : List ℤ) (w : counted.Lent) (seen budget : ℕ) (preferred : List ℤ) (a : List ℕ)
+    → CountedPromise s b w seen budget preferred a r w′ a′ → CountedPromise s b w seen budget preferred a r′ w″ a″
+    → let n = used s b w (revision seen) budget in Same r r′ (lent (counted.past n w′) a′) (lent (counted.past n w″) a″)
+only-counted r r′ w′ w″ a′ a″ s b w seen budget preferred a = same
 
 pub only-page : (r r′ : ℕ) (left left′ : Lent PageMemory) (b : List ℤ) (m : PageMemory) (start : ℕ) (preferred : List ℤ) (budget : ℕ) (a : List ℕ)
     → PagePromise b m start preferred budget a r left → PagePromise b m start preferred budget a r′ left′ → Same r r′ left left′

@@ -18,6 +18,10 @@ use Rattle.memory.specs.Refusals.{openRefusal}
 use Rattle.session.specs.Refusals.{stepRefusal, runRefusal}
 use Rattle.session.specs.Outcome.{openOutcome, stepOutcome}
 use Rattle.session.specs.Run.{runOf}
+use Rattle.counted.specs.Lent as counted
+use Rattle.counted.specs.Refusals.{countedRefusal}
+use Rattle.counted.specs.Counted.{countedOf}
+use Rattle.counted.specs.Laws.Guards.{passes}
 use Rattle.record.specs.Found.{literal}
 use Rattle.listing.specs.declared.Paged as paged
 use Rattle.listing.specs.Page.{PageMemory, pageRefusal, pageOf}
@@ -27,7 +31,7 @@ use Rattle.text.specs.Tree.{zeros, textRefusal, rowOf, textOf, answered, readOf
 use Rattle.text.specs.Meaning.{accepted-or-wiped}
 use Rattle.writer.specs.declared.Written as wrote
 use Rattle.writer.specs.Write.{writeRefusal, writeOf}
-use Rattle.mokihazureo.specs.Called.{Lent, lent, told, revision, openedStatus, openedNumbers, steppedStatus, steppedNumbers, ranStatus, ranNumbers, pagedStatus, pagedNumbers, wroteStatus, wroteNumbers, openCall, stepCall, runCall, pageCall, writeCall}
+use Rattle.mokihazureo.specs.Called.{Lent, lent, told, revision, openedStatus, openedNumbers, steppedStatus, steppedNumbers, ranStatus, ranNumbers, pagedStatus, pagedNumbers, wroteStatus, wroteNumbers, openCall, stepCall, runCall, countedCall, pageCall, writeCall}
 use Rattle.mokihazureo.specs.Reading.{readStatus, readCall}
 
 -- the status is the table's number n, and unless that is 0 all is as it was
@@ -36,31 +40,38 @@ pub record Stated {M : Type 0} (n : ℕ) (m : M) (a : List ℕ) (u : Outcome (Le
   pub leaves : (n ≡ 0 → ⊥) → u .memory ≡ lent m a
 
 stated : {M A : Type 0} (status : A → ℕ) (numbers : A → List ℕ) (number : ℕ → A) → ((n : ℕ) → status (number n) ≡ n) → ((n : ℕ) → numbers (number n) ≡ [])
-    → (n : ℕ) (m : M) (a : List ℕ) (o : Outcome M A) → status (o .answer) ≡ 0 → Stated n m a (told status numbers a (unless number n m o))
-stated status numbers number tells none zero m a o e = record { status = e; leaves = λ f. absurd (f refl) }
+    → (n : ℕ) (m : M) (a : List ℕ) (o : Outcome M A) → (n ≡ 0 → status (o .answer) ≡ 0) → Stated n m a (told status numbers a (unless number n m o))
+stated status numbers number tells none zero m a o e = record { status = e refl; leaves = λ f. absurd (f refl) }
 stated status numbers number tells none (suc n) m a o e = record { status = tells (suc n); leaves = λ f. rw (none (suc n)) }
 
 pub open-stated : (L : Limits) → (b : List ℤ) (m : Memory) (first : ℕ) (a : List ℕ) → Stated (openRefusal L b (places m)) m a (openCall L b m first a)
 unfolding openOutcome
-open-stated L b m first a = stated openedStatus openedNumbers Refused (λ n. refl) (λ n. refl) (openRefusal L b (places m)) m a _ refl
+open-stated L b m first a = stated openedStatus openedNumbers Refused (λ n. refl) (λ n. refl) (openRefusal L b (places m)) m a _ (λ e. refl)
 
 module _ (L : Limits) (s : Session) (b : List ℤ) (m : Memory) (seen : ℕ) (a : List ℕ) where
   pub step-stated : (l : ℤ) → Stated (stepRefusal L s b m (revision seen) (literal l)) m a (stepCall L s b m seen l a)
   unfolding stepOutcome
-  step-stated l = stated steppedStatus steppedNumbers Not (λ n. refl) (λ n. refl) (stepRefusal L s b m (revision seen) (literal l)) m a _ refl
+  step-stated l = stated steppedStatus steppedNumbers Not (λ n. refl) (λ n. refl) (stepRefusal L s b m (revision seen) (literal l)) m a _ (λ e. refl)
 
   pub run-stated : (budget : ℕ) (preferred : List ℤ) → Stated (runRefusal L s b m (revision seen) budget) m a (runCall L s b m seen budget preferred a)
   unfolding runOf
-  run-stated budget preferred = stated ranStatus ranNumbers Stopped (λ n. refl) (λ n. refl) (runRefusal L s b m (revision seen) budget) m a _ refl
+  run-stated budget preferred = stated ranStatus ranNumbers Stopped (λ n. refl) (λ n. refl) (runRefusal L s b m (revision seen) budget) m a _ (λ e. refl)
+
+-- an accepted counted run is a run that is accepted
+pub counted-stated : (L : Limits) (s : Session) (b : List ℤ) (w : counted.Lent) (seen budget : ℕ) (preferred : List ℤ) (a : List ℕ) → Stated (countedRefusal L s b w (revision seen) budget) w a (countedCall L s b w seen budget preferred a)
+unfolding countedOf runOf
+counted-stated L s b w seen budget preferred a =
+    stated ranStatus ranNumbers Stopped (λ n. refl) (λ n. refl) (countedRefusal L s b w (revision seen) budget) w a _
+    (λ e. rw (passes L s b w (revision seen) budget e .run))
 
 pub page-stated : (L : Limits) → (b : List ℤ) (m : PageMemory) (start : ℕ) (preferred : List ℤ) (budget : ℕ) (a : List ℕ) → Stated (pageRefusal L b m start) m a (pageCall L b m start preferred budget a)
 unfolding pageOf
-page-stated L b m start preferred budget a = stated pagedStatus pagedNumbers paged.the-variants.Refused (λ n. refl) (λ n. refl) (pageRefusal L b m start) m a _ refl
+page-stated L b m start preferred budget a = stated pagedStatus pagedNumbers paged.the-variants.Refused (λ n. refl) (λ n. refl) (pageRefusal L b m start) m a _ (λ e. refl)
 
 -- [calls.write] a block that is written
 pub write-stated : (L : Limits) (b : List ℤ) (o a : List ℕ) → Stated (writeRefusal L b (length o)) o a (writeCall L b o a)
 unfolding writeOf
-write-stated L b o a = stated wroteStatus wroteNumbers wrote.the-variants.Refused (λ n. refl) (λ n. refl) (writeRefusal L b (length o)) o a _ refl
+write-stated L b o a = stated wroteStatus wroteNumbers wrote.the-variants.Refused (λ n. refl) (λ n. refl) (writeRefusal L b (length o)) o a _ (λ e. refl)
 
 -- ---- [calls.read] a text: with status 0 it is accepted, and [text.wiped] with any other all of the output is 0
 pub record ReadStated (o : List ℤ) (r : Outcome (List ℤ) text.Answer) (u : Outcome (Lent (List ℤ)) ℕ) : Type 0 where

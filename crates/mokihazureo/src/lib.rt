@@ -1,8 +1,9 @@
 // The library's calls for programs in other languages: numbers and slices in; a status, and numbers in a lent array, out.
 ghost use Rattle.memory.specs.Memory.{memory};
+ghost use Rattle.counted.specs.Lent as counted;
 ghost use Rattle.listing.specs.Page.{pageMemory};
 ghost use Rattle.mokihazureo.specs.Called.{lent, sessionOf};
-ghost use Rattle.mokihazureo.specs.Promises.{CheckPromise, OpenPromise, StepPromise, RunPromise, PagePromise, ReadPromise, BeginPromise, PiecePromise, EndPromise, WritePromise};
+ghost use Rattle.mokihazureo.specs.Promises.{CheckPromise, OpenPromise, StepPromise, RunPromise, CountedPromise, PagePromise, ReadPromise, BeginPromise, PiecePromise, EndPromise, WritePromise};
 use formula::Checked;
 use session::Revision;
 use words::Literal;
@@ -85,6 +86,44 @@ pub extern "C" fn moki_run(
     let before = numbers::session_of(length, revision, state);
     let at = Revision(seen);
     let outcome = before.run(block, lits, kinds, reasons, at, budget, preferred);
+    numbers::ran(outcome, answer)
+}
+
+// The same run, counted: it is lent each clause's numbers and an index besides.
+#[no_mangle]
+pub extern "C" fn moki_counted(
+    length: usize,
+    revision: u64,
+    state: u32,
+    block: &[i32],
+    lits: &mut [i32],
+    kinds: &mut [u8],
+    reasons: &mut [u32],
+    trues: &mut [u32],
+    opens: &mut [u32],
+    index: &mut [u32],
+    seen: u64,
+    budget: u32,
+    preferred: &[i32],
+    answer: &mut [u64; 5],
+) -> u32
+    ensures { λ r. ⌜ CountedPromise (sessionOf length revision state) (now (block .entry)) (counted.lent (memory (now (lits .entry)) (now (kinds .entry)) (now (reasons .entry))) (now (trues .entry)) (now (opens .entry)) (now (index .entry))) seen budget (now (preferred .entry)) (now (answer .entry)) r (counted.lent (memory (now (lits .exit)) (now (kinds .exit)) (now (reasons .exit))) (now (trues .exit)) (now (opens .exit)) (now (index .exit))) (now (answer .exit)) ⌝ }
+{
+    let before = numbers::session_of(length, revision, state);
+    let page = Revision(seen);
+    let outcome = counted::run(
+        before,
+        block,
+        lits,
+        kinds,
+        reasons,
+        trues,
+        opens,
+        index,
+        page,
+        budget,
+        preferred,
+    );
     numbers::ran(outcome, answer)
 }
 

@@ -25,6 +25,7 @@ impl Play {
         self.read_text(&text, sheet.length());
         if self.formula.is_some() && self.dice.chance(1, 2) {
             self.lend_buffers(self.variables());
+            self.lend_numbers();
             self.say_output();
             self.say_open();
             for _ in 0..1 + self.dice.below(6) {

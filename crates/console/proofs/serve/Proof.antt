@@ -8,23 +8,23 @@ use Rattle.console.proofs.serve.Statement.{statement}
 use Rattle.console.proofs.serve.Tie as tie
 
 abbrev Inv-loop : tie.InvT-loop
-Inv-loop part₀ line₀ block₀ literals₀ kinds₀ reasons₀ output₀ preferred₀ text₀ answer₀ desk₀ left₀ turns₀ part line block literals kinds reasons output preferred text answer desk left turns =
+Inv-loop part₀ line₀ block₀ literals₀ kinds₀ reasons₀ output₀ preferred₀ text₀ trues₀ opens₀ index₀ answer₀ desk₀ left₀ turns₀ part line block literals kinds reasons output preferred text trues opens index answer desk left turns =
     InRoom (desk .counts) × (left .size ≤ partBytes)
 
 abbrev μ-loop : tie.MeasureT-loop
-μ-loop part₀ line₀ block₀ literals₀ kinds₀ reasons₀ output₀ preferred₀ text₀ answer₀ desk₀ left₀ turns₀ part line block literals kinds reasons output preferred text answer desk left turns =
+μ-loop part₀ line₀ block₀ literals₀ kinds₀ reasons₀ output₀ preferred₀ text₀ trues₀ opens₀ index₀ answer₀ desk₀ left₀ turns₀ part line block literals kinds reasons output preferred text trues opens index answer desk left turns =
     turns
 
 loop-less : tie.Need-loop-less Inv-loop μ-loop
 loop-less c =
     let served = c .before .before .before in
-    let taken = served .before .before .before .before .before .before .before .before .before .before .before in
+    let taken = served .before .before .before .before .before .before .before .before .before .before .before .before .before .before in
     omega (arith, taken .before .before .before .loop-test .taken)
 
 loop-again : tie.Need-loop-again Inv-loop μ-loop
 loop-again c =
     let served = c .before .before .before in
-    let taken = served .before .before .before .before .before .before .before .before .before .before .before in
+    let taken = served .before .before .before .before .before .before .before .before .before .before .before .before .before .before in
     (served .serve-line .ensures, taken .next-line .ensures .size)
 
 pub serve-spec : {M : Type 1} → statement M

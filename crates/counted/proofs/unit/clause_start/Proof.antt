@@ -1,0 +1,14 @@
+-- At the end of the clause before.
+use mathlib.Core.Path.{_∙_}
+use borrow.Author.Needs.{needs}
+use Rattle.counted.specs.Laws.Lowest.{start-first, start-later}
+use Rattle.counted.proofs.unit.clause_start.Statement.{statement}
+use Rattle.counted.proofs.unit.clause_start.Tie as tie
+
+returns-2 : tie.Need-returns-2
+returns-2 c = c .size-at .ensures ∙ start-later _ _ (c .before .if1 .left)
+
+pub clause-start-spec : {M : Type 1} → statement M
+clause-start-spec =
+    tie.close
+    (tie.spec (λ c. start-first _ _ (c .if1 .taken)) (λ c. search needs) (λ c κs. search needs) returns-2)

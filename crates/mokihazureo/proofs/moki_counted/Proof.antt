@@ -1,0 +1,19 @@
+-- What the counted run leaves, and its numbers; the session is that of the three numbers.
+use Rattle.mokihazureo.specs.Called.{ranStatus, ranNumbers}
+use Rattle.mokihazureo.proofs.Exits.{tells, counted-of}
+use borrow.Author.Needs.{needs}
+use Rattle.mokihazureo.proofs.moki_counted.Statement.{statement}
+use Rattle.mokihazureo.proofs.moki_counted.Tie as tie
+
+returns : tie.Need-returns
+returns c =
+    let o = c .before .before .before .before .before .before .before .before .before .before .before .before .before in
+    let s = o .before .before .before .before .before .before .before in
+    tells ranStatus ranNumbers _ (counted-of (s .session-of .ensures) _ _ _ _ _ _ (o .run .ensures)) (c .ran .ensures .0) (c .ran .ensures .1)
+
+pub moki-counted-spec : {M : Type 1} → statement M
+moki-counted-spec =
+    tie.close
+    (tie.spec
+    (λ c κs. search needs) (λ c κs. search needs) (λ c κs. search needs) (λ c. search needs) (λ c. search needs) (λ c. search needs)
+    (λ c. search needs) (λ c. search needs) (λ c. search needs) returns)
