@@ -3,7 +3,6 @@ use mathlib.Core.Path.{_≡_, _∙_, ap}
 use mathlib.Core.List.{List}
 use Prim.Native.Nat.{ℕ}
 use lib.IntN.{ℤ}
-use lib.Seq.{sets}
 use Rattle.words.specs.Outcomes.{Outcome, outcome}
 use Rattle.record.specs.Found.{literal}
 use Rattle.session.specs.declared.Session.{Session}
@@ -17,14 +16,15 @@ use Rattle.counted.specs.Promises.{CountedPromise}
 use Rattle.text.specs.declared.Reader.{Reader}
 use Rattle.text.specs.declared.Answer as text
 use Rattle.text.specs.Pieces.{pieceOf, endOf}
+use Rattle.answers.specs.Answers.{telling}
 use Rattle.mokihazureo.specs.Called.{lent, told, revision}
 use Rattle.saved.specs.Numbers.{readerOf, written}
 use Rattle.mokihazureo.specs.Reading.{pieceCall}
 use Rattle.formula.specs.Limits.{limits}
 
-pub tells : {M A : Type 0} (status : A → ℕ) (numbers : A → List ℕ) (a : List ℕ) {a′ : List ℕ} {m : M} {r : ℕ} {x : A} {o : Outcome M A} → outcome x m ≡ o → r ≡ status x → a′ ≡ sets a 0 (numbers x)
+pub tells : {M A : Type 0} (status : A → ℕ) (numbers : A → List ℕ) (a : List ℕ) {a′ : List ℕ} {m : M} {r : ℕ} {x : A} {o : Outcome M A} → outcome x m ≡ o → outcome r a′ ≡ telling status numbers a x
     → outcome r (lent m a′) ≡ told status numbers a o
-tells status numbers a e p q = rw (← e, p, q)
+tells status numbers a {m = m} e p = rw (← e) (ap (λ (u : Outcome (List ℕ) ℕ). outcome (u .answer) (lent m (u .memory))) p)
 
 -- the session of the three numbers
 module _ {s t : Session} (same : s ≡ t) (b : List ℤ) (m : Memory) (seen : ℕ) where

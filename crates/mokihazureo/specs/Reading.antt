@@ -1,30 +1,17 @@
 -- Reading a text from another language: a status, and one number in a lent array; and the reader between two pieces as an array of numbers. What is read,
 -- and what is left in the output, is what the crate `text` says; which numbers a reader is, what the crate `saved` says.
 use Prim.Native.Nat.{ℕ}
-use mathlib.Core.List.{List, [], _∷_}
+use mathlib.Core.List.{List}
 use lib.IntN.{ℤ}
 use Rattle.words.specs.Outcomes.{Outcome}
 use Rattle.formula.specs.Limits.{Limits}
-use Rattle.text.specs.declared.Answer.{Answer}
-use Rattle.text.specs.declared.Answer.the-variants.{Accepted, Misfit, Refused, Row}
 use Rattle.text.specs.Tree.{readOf}
 use Rattle.text.specs.Pieces.{pieceOf, endOf}
 use Rattle.saved.specs.Numbers.{readerOf, written}
+use Rattle.answers.specs.Answers.{readStatus, readNumbers}
 use Rattle.mokihazureo.specs.Called.{Lent, lent, told}
 
 -- ---- [calls.read] a text: status 0 and the block's length; 27 and the place; 28, 29 or 30, and 0; 31 and the row
-abbrev pub readStatus : Answer → ℕ
-readStatus (Accepted n) = 0
-readStatus (Misfit i) = 27
-readStatus (Refused n) = n
-readStatus (Row n) = 31
-
-abbrev pub readNumbers : Answer → List ℕ
-readNumbers (Accepted n) = n ∷ []
-readNumbers (Misfit i) = i ∷ []
-readNumbers (Refused n) = 0 ∷ []
-readNumbers (Row n) = n ∷ []
-
 abbrev pub readCall : Limits → List ℕ → List ℤ → List ℕ → Outcome (Lent (List ℤ)) ℕ
 readCall L bs o a = told readStatus readNumbers a (readOf L bs o)
 

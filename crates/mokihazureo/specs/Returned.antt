@@ -14,7 +14,8 @@ use Rattle.text.specs.Whole.{ended, pieces-read}
 use Rattle.saved.specs.Numbers.{readerNumbers, readerOf, written}
 use Rattle.saved.specs.Back.{comes-back, piece-within, reader-within, begun-within}
 use Rattle.mokihazureo.specs.Called.{Lent, lent, told}
-use Rattle.mokihazureo.specs.Reading.{readStatus, readNumbers, readCall, pieceCall, endCall}
+use Rattle.answers.specs.Answers.{readStatus, readNumbers}
+use Rattle.mokihazureo.specs.Reading.{readCall, pieceCall, endCall}
 
 -- ---- [calls.pieces] any number of pieces, called one after the other
 unfoldable pub piecesCalled : List (List ℕ) → List ℕ → List ℤ → Lent (List ℤ)

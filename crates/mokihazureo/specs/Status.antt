@@ -31,8 +31,9 @@ use Rattle.text.specs.Tree.{zeros, textRefusal, rowOf, textOf, answered, readOf
 use Rattle.text.specs.Meaning.{accepted-or-wiped}
 use Rattle.writer.specs.declared.Written as wrote
 use Rattle.writer.specs.Write.{writeRefusal, writeOf}
-use Rattle.mokihazureo.specs.Called.{Lent, lent, told, revision, openedStatus, openedNumbers, steppedStatus, steppedNumbers, ranStatus, ranNumbers, pagedStatus, pagedNumbers, wroteStatus, wroteNumbers, openCall, stepCall, runCall, countedCall, pageCall, writeCall}
-use Rattle.mokihazureo.specs.Reading.{readStatus, readCall}
+use Rattle.answers.specs.Answers.{openedStatus, openedNumbers, steppedStatus, steppedNumbers, ranStatus, ranNumbers, pagedStatus, pagedNumbers, readStatus, wroteStatus, wroteNumbers}
+use Rattle.mokihazureo.specs.Called.{Lent, lent, told, revision, openCall, stepCall, runCall, countedCall, pageCall, writeCall}
+use Rattle.mokihazureo.specs.Reading.{readCall}
 
 -- the status is the table's number n, and unless that is 0 all is as it was
 pub record Stated {M : Type 0} (n : ℕ) (m : M) (a : List ℕ) (u : Outcome (Lent M) ℕ) : Type 0 where

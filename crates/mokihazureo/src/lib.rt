@@ -2,14 +2,12 @@
 ghost use Rattle.memory.specs.Memory.{memory};
 ghost use Rattle.counted.specs.Lent as counted;
 ghost use Rattle.listing.specs.Page.{pageMemory};
-ghost use Rattle.mokihazureo.specs.Called.{lent, sessionOf};
+ghost use Rattle.answers.specs.Answers.{sessionOf};
+ghost use Rattle.mokihazureo.specs.Called.{lent};
 ghost use Rattle.mokihazureo.specs.Promises.{CheckPromise, OpenPromise, StepPromise, RunPromise, CountedPromise, PagePromise, ReadPromise, BeginPromise, PiecePromise, EndPromise, WritePromise};
 use formula::Checked;
 use session::Revision;
 use words::Literal;
-
-mod numbers; // sessions and answers as numbers
-mod reading; // what reading answers, as numbers
 
 // 0 for an accepted block, else the number of its refusal.
 #[no_mangle]
@@ -35,7 +33,7 @@ pub extern "C" fn moki_open(
     ensures { λ r. ⌜ OpenPromise (now (block .entry)) (memory (now (lits .entry)) (now (kinds .entry)) (now (reasons .entry))) first (now (answer .entry)) r (lent (memory (now (lits .exit)) (now (kinds .exit)) (now (reasons .exit))) (now (answer .exit))) ⌝ }
 {
     let outcome = session::open(block, lits, kinds, reasons, Revision(first));
-    numbers::opened(outcome, answer)
+    answers::opened(outcome, answer)
 }
 
 // One step of the session that the first three numbers are; its reason is the answer's fourth number.
@@ -54,7 +52,7 @@ pub extern "C" fn moki_step(
 ) -> u32
     ensures { λ r. ⌜ StepPromise (sessionOf length revision state) (now (block .entry)) (memory (now (lits .entry)) (now (kinds .entry)) (now (reasons .entry))) seen proposal (now (answer .entry)) r (lent (memory (now (lits .exit)) (now (kinds .exit)) (now (reasons .exit))) (now (answer .exit))) ⌝ }
 {
-    let before = numbers::session_of(length, revision, state);
+    let before = answers::session_of(length, revision, state);
     let outcome = before.step(
         block,
         lits,
@@ -63,7 +61,7 @@ pub extern "C" fn moki_step(
         Revision(seen),
         Literal(proposal),
     );
-    numbers::stepped(outcome, answer)
+    answers::stepped(outcome, answer)
 }
 
 // At most `budget` steps; the count of accepted steps is the answer's fourth number, and the last one's reason the fifth.
@@ -83,10 +81,10 @@ pub extern "C" fn moki_run(
 ) -> u32
     ensures { λ r. ⌜ RunPromise (sessionOf length revision state) (now (block .entry)) (memory (now (lits .entry)) (now (kinds .entry)) (now (reasons .entry))) seen budget (now (preferred .entry)) (now (answer .entry)) r (lent (memory (now (lits .exit)) (now (kinds .exit)) (now (reasons .exit))) (now (answer .exit))) ⌝ }
 {
-    let before = numbers::session_of(length, revision, state);
+    let before = answers::session_of(length, revision, state);
     let at = Revision(seen);
     let outcome = before.run(block, lits, kinds, reasons, at, budget, preferred);
-    numbers::ran(outcome, answer)
+    answers::ran(outcome, answer)
 }
 
 // The same run, counted: it is lent each clause's numbers and an index besides.
@@ -109,7 +107,7 @@ pub extern "C" fn moki_counted(
 ) -> u32
     ensures { λ r. ⌜ CountedPromise (sessionOf length revision state) (now (block .entry)) (counted.lent (memory (now (lits .entry)) (now (kinds .entry)) (now (reasons .entry))) (now (trues .entry)) (now (opens .entry)) (now (index .entry))) seen budget (now (preferred .entry)) (now (answer .entry)) r (counted.lent (memory (now (lits .exit)) (now (kinds .exit)) (now (reasons .exit))) (now (trues .exit)) (now (opens .exit)) (now (index .exit))) (now (answer .exit)) ⌝ }
 {
-    let before = numbers::session_of(length, revision, state);
+    let before = answers::session_of(length, revision, state);
     let page = Revision(seen);
     let outcome = counted::run(
         before,
@@ -124,7 +122,7 @@ pub extern "C" fn moki_counted(
         budget,
         preferred,
     );
-    numbers::ran(outcome, answer)
+    answers::ran(outcome, answer)
 }
 
 // The winning openings from `start` on; where the next page begins, the entries written, and 1 if paused are written to the answer.
@@ -142,7 +140,7 @@ pub extern "C" fn moki_page(
     ensures { λ r. ⌜ PagePromise (now (block .entry)) (pageMemory (now (lits .entry)) (now (kinds .entry)) (now (output .entry))) start (now (preferred .entry)) budget (now (answer .entry)) r (lent (pageMemory (now (lits .exit)) (now (kinds .exit)) (now (output .exit))) (now (answer .exit))) ⌝ }
 {
     let outcome = listing::page(block, lits, kinds, start, preferred, budget, output);
-    numbers::paged(outcome, answer)
+    answers::paged(outcome, answer)
 }
 
 // A whole text, read into a block; the block's length, the place or the row is written to the answer.
@@ -151,7 +149,7 @@ pub extern "C" fn moki_read(bytes: &[u8], output: &mut [i32], answer: &mut [u64;
     ensures { λ r. ⌜ ReadPromise (now (bytes .entry)) (now (output .entry)) (now (answer .entry)) r (lent (now (output .exit)) (now (answer .exit))) ⌝ }
 {
     let outcome = text::read(bytes, output);
-    reading::told(outcome, answer)
+    answers::told(outcome, answer)
 }
 
 // A text in pieces: the reader before the first byte, as numbers.
@@ -179,7 +177,7 @@ pub extern "C" fn moki_read_end(state: &[u64; 12], output: &mut [i32], answer: &
 {
     let before = saved::reader_of(state);
     let outcome = text::end(before, output);
-    reading::told(outcome, answer)
+    answers::told(outcome, answer)
 }
 
 // A block, written as a text; the text's length is written to the answer.
@@ -188,5 +186,5 @@ pub extern "C" fn moki_write(block: &[i32], output: &mut [u8], answer: &mut [u64
     ensures { λ r. ⌜ WritePromise (now (block .entry)) (now (output .entry)) (now (answer .entry)) r (lent (now (output .exit)) (now (answer .exit))) ⌝ }
 {
     let outcome = writer::write(block, output);
-    numbers::wrote(outcome, answer)
+    answers::wrote(outcome, answer)
 }

@@ -1,5 +1,5 @@
 -- What the run leaves, and its numbers; the session is that of the three numbers.
-use Rattle.mokihazureo.specs.Called.{ranStatus, ranNumbers}
+use Rattle.answers.specs.Answers.{ranStatus, ranNumbers}
 use Rattle.mokihazureo.proofs.Exits.{tells, run-of}
 use borrow.Author.Needs.{needs}
 use Rattle.mokihazureo.proofs.moki_run.Statement.{statement}
@@ -9,7 +9,7 @@ returns : tie.Need-returns
 returns c =
     let o = c .before .before .before .before .before .before .before in
     let s = o .before .before .before .before in
-    tells ranStatus ranNumbers _ (run-of (s .session-of .ensures) _ _ _ _ _ (o .run .ensures)) (c .ran .ensures .0) (c .ran .ensures .1)
+    tells ranStatus ranNumbers _ (run-of (s .session-of .ensures) _ _ _ _ _ (o .run .ensures)) (c .ran .ensures)
 
 pub moki-run-spec : {M : Type 1} → statement M
 moki-run-spec =

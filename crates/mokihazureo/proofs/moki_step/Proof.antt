@@ -1,7 +1,7 @@
 -- What the step leaves, and its numbers; the session is that of the three numbers.
 use mir.Syntax.{w32}
 use mir.ValLaws.{toZ-ofZ}
-use Rattle.mokihazureo.specs.Called.{steppedStatus, steppedNumbers}
+use Rattle.answers.specs.Answers.{steppedStatus, steppedNumbers}
 use Rattle.mokihazureo.proofs.Exits.{tells, step-of}
 use borrow.Author.Needs.{needs}
 use Rattle.mokihazureo.proofs.moki_step.Statement.{statement}
@@ -13,7 +13,7 @@ returns c =
     let s = o .before .before .before .before in
     let start = s .before .before .before in
     let kept = toZ-ofZ w32 (start .args .proposal) (start .fits .proposal) in
-    tells steppedStatus steppedNumbers _ (step-of (s .session-of .ensures) _ _ _ kept (o .step .ensures)) (c .stepped .ensures .0) (c .stepped .ensures .1)
+    tells steppedStatus steppedNumbers _ (step-of (s .session-of .ensures) _ _ _ kept (o .step .ensures)) (c .stepped .ensures)
 
 pub moki-step-spec : {M : Type 1} → statement M
 moki-step-spec =
