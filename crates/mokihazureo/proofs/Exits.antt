@@ -13,7 +13,7 @@ use Rattle.session.specs.Outcome.{stepOutcome}
 use Rattle.session.specs.Run.{runOf}
 use Rattle.counted.specs.Lent as counted
 use Rattle.counted.specs.Promises.{CountedPromise}
-use Rattle.text.specs.declared.Reader.{Reader}
+use Rattle.reader.specs.declared.Reader.{Reader}
 use Rattle.text.specs.declared.Answer as text
 use Rattle.text.specs.Pieces.{pieceOf, endOf}
 use Rattle.answers.specs.Answers.{telling}

@@ -8,7 +8,7 @@ use lib.ListN.{length}
 use lib.Seq.{length-sets}
 use Rattle.words.specs.Outcomes.{outcome}
 use Rattle.formula.specs.Limits.{limits}
-use Rattle.text.specs.declared.Reader.{Reader}
+use Rattle.reader.specs.declared.Reader.{Reader}
 use Rattle.text.specs.Pieces.{pieceOf, begun, inPieces, whole}
 use Rattle.text.specs.Whole.{ended, pieces-read}
 use Rattle.saved.specs.Numbers.{readerNumbers, readerOf, written}

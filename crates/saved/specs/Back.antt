@@ -14,10 +14,12 @@ use Rattle.grammar.specs.declared.Slot.{Slot}
 use Rattle.grammar.specs.declared.Slot.the-variants.{OfVariables, OfCount, OfGroup, OfClause}
 use Rattle.grammar.specs.declared.State.{State}
 use Rattle.grammar.specs.declared.State.the-variants.{Dead, Fresh, Before, Parted, InNumber, Remark, AfterC, AfterCn, AfterMinus}
-use Rattle.text.specs.declared.Kept.{Kept}
-use Rattle.text.specs.declared.Reader.{Reader}
+use Rattle.reader.specs.declared.Kept.{Kept}
+use Rattle.reader.specs.declared.Reader.{Reader}
 use Rattle.grammar.specs.Machine.{Event, announces, counts, opens, binds, holds, ends, move, events}
-use Rattle.text.specs.Pieces.{capped, keep, keeps, byteOf, pieceOf, begun}
+use Rattle.reader.specs.Keep.{capped, keep, keeps}
+use Rattle.reader.specs.Byte.{byteOf}
+use Rattle.text.specs.Pieces.{pieceOf, begun}
 use Rattle.saved.specs.Numbers.{bitOf, bitNumber, placeOf, placeNumber, slotOf, slotNumber, stateOf, kindNumber, heldNumber, keptOf, readerNumbers, readerOf, written}
 
 -- a truth as a byte

@@ -11,9 +11,9 @@ use Rattle.grammar.specs.declared.Slot.{Slot}
 use Rattle.grammar.specs.declared.Slot.the-variants.{OfVariables, OfCount, OfGroup, OfClause}
 use Rattle.grammar.specs.declared.State.{State}
 use Rattle.grammar.specs.declared.State.the-variants.{Dead, Fresh, Before, Parted, InNumber, Remark, AfterC, AfterCn, AfterMinus}
-use Rattle.text.specs.declared.Kept.{Kept}
-use Rattle.text.specs.declared.Reader.{Reader}
-use Rattle.text.specs.Pieces.{capped}
+use Rattle.reader.specs.declared.Kept.{Kept}
+use Rattle.reader.specs.declared.Reader.{Reader}
+use Rattle.reader.specs.Keep.{capped}
 
 -- ---- [calls.pieces] the reader's state as two numbers, a kind and what it holds. Of what it holds a number over the last one counts as the last one;
 -- a number that is no kind's counts as 0, Dead: no text goes on so

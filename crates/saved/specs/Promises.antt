@@ -4,7 +4,7 @@ use mathlib.Core.Path.{_≡_}
 use mathlib.Core.List.{List}
 use Prim.Native.Nat.{ℕ}
 use Rattle.words.specs.Outcomes.{only-one}
-use Rattle.text.specs.declared.Reader.{Reader}
+use Rattle.reader.specs.declared.Reader.{Reader}
 use Rattle.saved.specs.Numbers.{readerOf, written}
 
 abbrev pub ReaderOfPromise : List ℕ → Reader → Type 0

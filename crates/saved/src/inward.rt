@@ -1,13 +1,13 @@
 // A reader from its numbers: one over the last of a list counts as the last one, and one that is no kind's as Dead.
 ghost use mathlib.Core.Path.{_≡_};
-ghost use Rattle.text.specs.Pieces.{capped};
+ghost use Rattle.reader.specs.Keep.{capped};
 ghost use Rattle.saved.specs.Numbers.{bitOf, placeOf, slotOf, stateOf, keptOf};
 ghost use Rattle.saved.specs.Promises.{ReaderOfPromise};
 use grammar::Place;
 use grammar::Slot;
 use grammar::State;
-use text::Kept;
-use text::Reader;
+use reader::Kept;
+use reader::Reader;
 
 // 2^31 + 1: a reader's counts go up to it and no further.
 const CAP: u32 = 2147483649;

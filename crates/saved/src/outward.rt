@@ -6,8 +6,8 @@ ghost use Rattle.saved.specs.Promises.{WriteReaderPromise};
 use grammar::Place;
 use grammar::Slot;
 use grammar::State;
-use text::Kept;
-use text::Reader;
+use reader::Kept;
+use reader::Reader;
 
 fn place_number(place: Place) -> u64
     ensures { λ r. ⌜ r ≡ placeNumber place ⌝ }

@@ -15,7 +15,9 @@ use Rattle.grammar.specs.Grammar.{digit, nonzero, printable}
 use Rattle.grammar.specs.Machine.{rows, choose, blank, between, parted, past, alive, fresh, move, shift, trace}
 use Rattle.grammar.specs.Events.{hear, heard}
 use Rattle.grammar.specs.Reads.{taken, reads}
-use Rattle.text.specs.Tree.{wordsOf, numbersOf, literalsOf, endsOf, beyond, someBeyond, textRefusal, those, completed, laid, blockOf, rowOf, textOf, answered, readOf}
+use Rattle.reader.specs.Keep.{beyond}
+use Rattle.laid.specs.Block.{those, completed, laid}
+use Rattle.text.specs.Tree.{wordsOf, numbersOf, literalsOf, endsOf, someBeyond, textRefusal, blockOf, rowOf, textOf, answered, readOf}
 
 -- with room for n words
 unfoldable Gives : List ℕ → ℕ → Answer → List ℤ → Type 0

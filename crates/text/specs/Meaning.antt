@@ -23,10 +23,12 @@ use Rattle.text.specs.declared.Answer.{Answer}
 use Rattle.text.specs.declared.Answer.the-variants.{Accepted, Misfit, Refused, Row as AtRow}
 use Rattle.grammar.specs.Grammar.{Text, Spells}
 use Rattle.grammar.specs.Reads.{Read, spelled, misfit, reads}
-use Rattle.text.specs.Tree.{wordsOf, literalsOf, endsOf, those, free, idle, completed, blockOf, textRefusal, rowOf, treeRows, zeros, filled, textOf, answered, readOf, ownFormula}
+use Rattle.laid.specs.Block.{those, free, idle, completed}
+use Rattle.text.specs.Tree.{wordsOf, literalsOf, endsOf, blockOf, textRefusal, rowOf, treeRows, zeros, filled, textOf, answered, readOf, ownFormula}
 use Rattle.grammar.specs.Spelled.{reads-right}
-use Rattle.text.specs.Laws.Completed.{those-in, completed-length}
-use Rattle.text.specs.Laws.Block.{ends-length, laid-length, tree-formula, tree-rows}
+use Rattle.laid.specs.Laws.Completed.{those-in, completed-length}
+use Rattle.laid.specs.Laws.Parts.{laid-length}
+use Rattle.text.specs.Laws.Block.{ends-length, tree-formula, tree-rows}
 use Rattle.text.specs.Laws.Settled.{Fit, fit, Bound, bound}
 
 -- ---- a variable that no clause names: both of its values come to the same

@@ -1,111 +1,25 @@
--- A text in pieces: what the reader keeps, what a byte does to it and to the output, and what is answered at the end. For any state and output.
-use Prim.Native.Nat.{ℕ, suc, _+_, min}
-use mathlib.Core.Bool.{Bool, false, cond, _||_}
+-- A text in pieces: the state before the first byte, what many bytes do to it and to the output, and what is answered at the end. For any state and output.
+use Prim.Native.Nat.{ℕ, _+_, min}
+use mathlib.Core.Bool.{false, cond, _||_}
 use mathlib.Core.List.{List, [], _∷_, _++_}
 use lib.Dec.{ltb}
-use lib.IntN.{ℤ, pos}
-use lib.ListN.{length, take, drop, set}
+use lib.IntN.{ℤ}
+use lib.ListN.{length, take, drop}
 use Rattle.words.specs.Lists.{any}
 use Rattle.words.specs.Rows.{row, refusalOf}
 use Rattle.words.specs.Outcomes.{Outcome, outcome, unless}
 use Rattle.formula.specs.Limits.{Limits}
 use Rattle.formula.specs.Block.{noVariable, twice, rows}
-use Rattle.text.specs.declared.Kept.{Kept}
-use Rattle.text.specs.declared.Reader.{Reader}
+use Rattle.reader.specs.declared.Kept.{Kept}
+use Rattle.reader.specs.declared.Reader.{Reader}
 use Rattle.text.specs.declared.Answer.{Answer}
 use Rattle.text.specs.declared.Answer.the-variants.{Accepted, Misfit, Refused, Row as AtRow}
-use Rattle.grammar.specs.Machine.{Event, announces, counts, opens, binds, holds, ends, alive, fresh, move, shift, start, signed, events}
-use Rattle.text.specs.Tree.{isForall, beyond, countRows, laid, zeros, filled, lastPlace}
+use Rattle.grammar.specs.Machine.{fresh, start}
+use Rattle.reader.specs.Byte.{byteOf}
+use Rattle.laid.specs.Block.{laid}
+use Rattle.text.specs.Tree.{countRows, zeros, filled}
 
--- a number of any length in 32 bits: past 2^31 all count as one
-unfoldable pub capped : ℕ → ℕ
-capped n = min n 2147483649
-
--- the word that is stored; one that is beyond 32 signed bits is noted, and 0 stands for it
-unfoldable pub stored : Bool → ℤ → ℤ
-stored large w = cond large (pos 0) w
-
--- ---- one event
-unfoldable pub keep : Kept → List ℤ → Event → Outcome (List ℤ) Kept
-keep k o (announces n) = outcome (record {
-  variables = capped n;
-  count = k .count;
-  universal = k .universal;
-  bound = k .bound;
-  clauses = k .clauses;
-  literals = k .literals;
-  large = k .large || beyond (pos (capped n));
-  over = k .over;
-}) o
-keep k o (counts n) = outcome (record {
-  variables = k .variables;
-  count = capped n;
-  universal = k .universal;
-  bound = k .bound;
-  clauses = k .clauses;
-  literals = k .literals;
-  large = k .large || beyond (pos (capped n));
-  over = k .over;
-}) o
-keep k o (opens q) = outcome (record {
-  variables = k .variables;
-  count = k .count;
-  universal = isForall q;
-  bound = k .bound;
-  clauses = k .clauses;
-  literals = k .literals;
-  large = k .large;
-  over = k .over;
-}) o
-keep k o (binds n) = outcome (record {
-  variables = k .variables;
-  count = k .count;
-  universal = k .universal;
-  bound = capped (suc (k .bound));
-  clauses = k .clauses;
-  literals = k .literals;
-  large = k .large || beyond (pos (capped n));
-  over = k .over || noVariable (k .variables) (pos (capped n));
-}) (set o (6 + k .bound) (stored (beyond (pos (capped n))) (signed (k .universal) (capped n))))
-keep k o (holds l) = outcome (record {
-  variables = k .variables;
-  count = k .count;
-  universal = k .universal;
-  bound = k .bound;
-  clauses = k .clauses;
-  literals = capped (suc (k .literals));
-  large = k .large || beyond l;
-  over = k .over;
-}) (set o (6 + k .variables + k .count + k .literals) (stored (beyond l) l))
-keep k o ends = outcome (record {
-  variables = k .variables;
-  count = k .count;
-  universal = k .universal;
-  bound = k .bound;
-  clauses = capped (suc (k .clauses));
-  literals = k .literals;
-  large = k .large;
-  over = k .over;
-}) (set o (6 + k .variables + k .clauses) (stored (beyond (pos (k .literals))) (pos (k .literals))))
-
-unfoldable pub keeps : Kept → List ℤ → List Event → Outcome (List ℤ) Kept
-keeps k o [] = outcome k o
-keeps k o (e ∷ es) = keeps (keep k o e .answer) (keep k o e .memory) es
-
--- ---- one byte, and many
-abbrev pub counted : Bool → ℕ → ℕ
-counted taken at = cond taken (min (suc at) lastPlace) at
-
-unfoldable pub byteOf : Reader → List ℤ → ℕ → Outcome (List ℤ) Reader
-byteOf r o b =
-    let k = keeps (r .kept) o (events (move (r .state) b .says) (r .number)) in
-    outcome (record {
-      state = move (r .state) b .to;
-      number = capped (shift (r .state) b (r .number));
-      at = counted (alive (move (r .state) b .to)) (r .at);
-      kept = k .answer;
-    }) (k .memory)
-
+-- ---- many bytes
 unfoldable pub pieceOf : List ℕ → Reader → List ℤ → Outcome (List ℤ) Reader
 pieceOf [] r o = outcome r o
 pieceOf (b ∷ bs) r o = pieceOf bs (byteOf r o b .answer) (byteOf r o b .memory)

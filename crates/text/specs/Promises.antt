@@ -6,7 +6,7 @@ use Prim.Native.Nat.{ℕ}
 use lib.IntN.{ℤ}
 use Rattle.words.specs.Outcomes.{only-one, outcome, Same, same}
 use Rattle.formula.specs.Limits.{limits}
-use Rattle.text.specs.declared.Reader.{Reader}
+use Rattle.reader.specs.declared.Reader.{Reader}
 use Rattle.text.specs.declared.Answer.{Answer}
 use Rattle.text.specs.Tree.{readOf}
 use Rattle.text.specs.Pieces.{begun, pieceOf, endOf}

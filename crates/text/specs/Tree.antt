@@ -1,9 +1,9 @@
 -- What a text's tree says: its words, which rows refuse it, and the block that it gives.
-use Prim.Native.Nat.{ℕ, zero, suc, _+_, _-_, min}
-use mathlib.Core.Bool.{Bool, true, false, not, cond, _&&_, _||_}
+use Prim.Native.Nat.{ℕ, _+_, _-_, min}
+use mathlib.Core.Bool.{Bool, not, _||_}
 use mathlib.Core.List.{List, [], _∷_, _++_, map}
 use lib.Dec.{eqb, ltb}
-use lib.IntN.{ℤ, pos, negsuc}
+use lib.IntN.{ℤ, pos}
 use lib.ListN.{length, getD, replicate}
 use Rattle.words.specs.Lists.{any}
 use Rattle.words.specs.Rows.{Row, row, refusalOf}
@@ -11,19 +11,18 @@ use Rattle.words.specs.Words.{negative}
 use Rattle.words.specs.Outcomes.{Outcome, outcome, unless}
 use Rattle.formula.specs.Limits.{Limits}
 use Rattle.formula.specs.Formula.{Formula}
-use Rattle.formula.specs.Block.{names, noVariable, twice, bothSigns, repeats}
+use Rattle.formula.specs.Block.{noVariable, twice, bothSigns, repeats}
 use Rattle.text.specs.declared.Answer.{Answer}
 use Rattle.text.specs.declared.Answer.the-variants.{Accepted, Misfit, Refused, Row as AtRow}
-use Rattle.grammar.specs.Grammar.{Quantifier, forall, exists, Group, Text}
+use Rattle.grammar.specs.Grammar.{Group, Text}
 use Rattle.grammar.specs.Machine.{signed}
+use Rattle.reader.specs.Keep.{isForall, beyond}
+use Rattle.reader.specs.Byte.{lastPlace}
+use Rattle.laid.specs.Block.{those, free, completed, laid}
 use Rattle.grammar.specs.Reads.{Read, spelled, misfit, reads}
 
 -- ---- the tree's words
--- [text.prefix] a bound number as a word: below 0 for a universal one
-abbrev pub isForall : Quantifier → Bool
-isForall forall = true
-isForall exists = false
-
+-- [text.prefix] what the lines bind, in the order of the text
 unfoldable pub wordsOf : List Group → List ℤ
 wordsOf [] = []
 wordsOf (g ∷ gs) = map (signed (isForall (g .quantifier))) (g .numbers) ++ wordsOf gs
@@ -42,11 +41,6 @@ endsOf n [] = []
 endsOf n (c ∷ cs) = pos (n + length c) ∷ endsOf (n + length c) cs
 
 -- ---- rows 28 to 30
--- [row.28] below -2^31, or over 2^31 - 1
-unfoldable pub beyond : ℤ → Bool
-beyond (pos n) = ltb 2147483647 n
-beyond (negsuc n) = ltb 2147483647 n
-
 unfoldable pub someBeyond : Text → Bool
 someBeyond t =
     beyond (pos (t .variables)) || beyond (pos (t .count)) || any (λ n. beyond (pos n)) (numbersOf (t .groups)) || any beyond (literalsOf (t .clauses))
@@ -63,29 +57,6 @@ unfoldable pub textRefusal : Limits → Text → ℕ → ℕ
 textRefusal L t room = refusalOf (countRows L (someBeyond t) (t .variables) (t .count) (length (t .clauses)) (length (literalsOf (t .clauses))) room)
 
 -- ---- the block
--- those of the n numbers from v on that pass a test, ascending, as existential words
-unfoldable pub those : (ℕ → Bool) → ℕ → ℕ → List ℤ
-those f v zero = []
-those f v (suc n) = cond (f v) (pos v ∷ those f (suc v) n) (those f (suc v) n)
-
--- [text.free] a clause names the variable, and no quantifier line does. [text.idle] neither does
-abbrev pub free : List ℤ → List ℤ → ℕ → Bool
-free ws ls v = not (any (names v) ws) && any (names v) ls
-
-abbrev pub idle : List ℤ → List ℤ → ℕ → Bool
-idle ws ls v = not (any (names v) ws) && not (any (names v) ls)
-
-unfoldable pub completed : ℕ → List ℤ → List ℤ → List ℤ
-completed n ws ls = those (free ws ls) 1 n ++ ws ++ those (idle ws ls) 1 n
-
--- [block.header] [block.offsets]
-abbrev pub header : ℕ → ℕ → ℕ → List ℤ
-header v c t = pos v ∷ pos c ∷ pos t ∷ pos 6 ∷ pos (6 + v) ∷ pos (6 + v + c) ∷ []
-
--- the block of n variables, the prefix words ws, the clause ends es and the literals ls
-unfoldable pub laid : ℕ → List ℤ → List ℤ → List ℤ → List ℤ
-laid n ws es ls = header n (length es) (length ls) ++ completed n ws ls ++ es ++ ls
-
 unfoldable pub blockOf : Text → List ℤ
 blockOf t = laid (t .variables) (wordsOf (t .groups)) (endsOf 0 (t .clauses)) (literalsOf (t .clauses))
 
@@ -119,10 +90,6 @@ textOf L t o =
     unless Refused (textRefusal L t (length o)) (zeros (length o))
     (unless AtRow (rowOf t) (zeros (length o))
     (outcome (Accepted (6 + t .variables + length (t .clauses) + length (literalsOf (t .clauses)))) (filled (blockOf t) o)))
-
--- [text.count] bytes are counted up to this number, and no further
-abbrev pub lastPlace : ℕ
-lastPlace = 18446744073709551615
 
 unfoldable pub answered : Limits → Read → List ℤ → Outcome (List ℤ) Answer
 answered L (spelled t) o = textOf L t o

@@ -6,21 +6,24 @@ use mathlib.Core.List.{List, [], _∷_, _++_}
 use Prim.Native.Nat.{ℕ, _+_}
 use native.Mathlib.Omega.{arith}
 use lib.IntN.{ℤ}
-use lib.ListN.{length, length-set}
+use lib.ListN.{length}
 use Rattle.words.specs.Laws.Bools.{look}
 use Rattle.words.specs.Outcomes.{Outcome, outcome}
 use Rattle.formula.specs.Limits.{Limits, limits}
-use Rattle.text.specs.declared.Kept.{Kept}
-use Rattle.text.specs.declared.Reader.{Reader}
+use Rattle.reader.specs.declared.Kept.{Kept}
+use Rattle.reader.specs.declared.Reader.{Reader}
 use Rattle.text.specs.declared.Answer.{Answer}
-use Rattle.grammar.specs.Machine.{Event, announces, counts, opens, binds, holds, ends, fresh, start, trace}
+use Rattle.grammar.specs.Machine.{Event, fresh, start, trace}
 use Rattle.grammar.specs.Events.{heard, hear-say}
 use Rattle.grammar.specs.Reads.{taken, reads}
 use Rattle.text.specs.Tree.{textOf, answered, readOf}
-use Rattle.text.specs.Pieces.{capped, keep, keeps, byteOf, pieceOf, nothingKept, begun, settled, endOf, inPieces, whole}
+use Rattle.reader.specs.Keep.{capped, keeps}
+use Rattle.reader.specs.Byte.{byteOf}
+use Rattle.text.specs.Pieces.{pieceOf, nothingKept, begun, settled, endOf, inPieces, whole}
 use Rattle.grammar.specs.Laws.Left.{sound}
 use Rattle.grammar.specs.Laws.Viable.{fresh-state}
 use Rattle.text.specs.Laws.Followed.{Followed, followed}
+use Rattle.reader.specs.Laws.Kept.{keeps-length}
 use Rattle.text.specs.Laws.Kept.{tree-kept, treeKept, treeOutput}
 use Rattle.text.specs.Laws.Rows.{Hidden, limits-hidden}
 use Rattle.text.specs.Laws.Settled.{settled-is}
@@ -35,21 +38,6 @@ pub however-cut : (ps : List (List ℕ)) (r : Reader) (o : List ℤ) → inPiece
 unfolding inPieces whole pieceOf
 however-cut [] r o = refl
 however-cut (p ∷ ps) r o = however-cut ps (pieceOf p r o .answer) (pieceOf p r o .memory) ∙ sym (cut p (whole ps) r o)
-
--- ---- the output keeps its length
-keep-length : (k : Kept) (o : List ℤ) (e : Event) → length (keep k o e .memory) ≡ length o
-unfolding keep
-keep-length k o (announces n) = refl
-keep-length k o (counts n) = refl
-keep-length k o (opens q) = refl
-keep-length k o (binds n) = simp length-set
-keep-length k o (holds l) = simp length-set
-keep-length k o ends = simp length-set
-
-keeps-length : (k : Kept) (o : List ℤ) (es : List Event) → length (keeps k o es .memory) ≡ length o
-unfolding keeps
-keeps-length k o [] = refl
-keeps-length k o (e ∷ es) = keeps-length (keep k o e .answer) (keep k o e .memory) es ∙ keep-length k o e
 
 -- ---- a whole text
 abbrev pub ended : Limits → Outcome (List ℤ) Reader → Outcome (List ℤ) Answer

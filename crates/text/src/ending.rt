@@ -1,18 +1,17 @@
 // A text's end: the rows in their order, the block, and what is wiped.
 ghost use mathlib.Core.Path.{_≡_};
-ghost use Prim.Native.Nat.{_+_, _-_, _≤_, min};
-ghost use lib.ListN.{length, take};
-ghost use lib.Seq.{sets};
+ghost use mathlib.Core.Bool.{_||_, not};
+ghost use Prim.Native.Nat.{_≤_, min};
+ghost use lib.Dec.{eqb};
+ghost use lib.ListN.{length};
 ghost use Rattle.words.specs.Outcomes.{outcome};
 ghost use Rattle.words.specs.Rows.{refusalOf};
 ghost use Rattle.formula.specs.Limits.{limits};
-ghost use Rattle.text.specs.Tree.{countRows, header};
+ghost use Rattle.text.specs.Tree.{countRows};
 ghost use Rattle.text.specs.Pieces.{settled};
-ghost use Rattle.text.specs.Inner.Ending.{Headed, boundRows, wiped, overLimit, laidIn, judged};
-ghost use Rattle.text.specs.Inner.Marks.{Ready};
+ghost use Rattle.text.specs.Inner.Ending.{boundRows, wiped, overLimit, judged};
 use crate::Answer;
-use crate::Kept;
-use crate::numbers::either;
+use reader::Kept;
 
 // All from a place on is 0.
 pub(crate) fn wipe(output: &mut [i32], from: usize)
@@ -32,6 +31,13 @@ fn least(a: usize, b: usize) -> usize
     if a < b { a } else { b }
 }
 
+// Whether a number is beyond 32 signed bits, or there are not as many clause lines as announced.
+fn is_wrong(kept: Kept) -> bool
+    ensures { λ r. ⌜ r ≡ (kept .large || not (eqb (kept .clauses) (kept .count))) ⌝ }
+{
+    kept.large || kept.clauses != kept.count
+}
+
 // Whether a count is over its limit.
 fn over_limit(kept: Kept) -> bool
     ensures { λ r. ⌜ r ≡ overLimit limits (kept .variables) (kept .clauses) (kept .literals) ⌝ }
@@ -49,9 +55,7 @@ fn over_limit(kept: Kept) -> bool
 fn count_row(kept: Kept, room: usize) -> u32
     ensures { λ r. ⌜ r ≡ refusalOf (countRows limits (kept .large) (kept .variables) (kept .count) (kept .clauses) (kept .literals) room) ⌝ }
 {
-    let large = kept.large;
-    let other = kept.clauses != kept.count;
-    if either(large, other) {
+    if is_wrong(kept) {
         return 28;
     }
     if over_limit(kept) {
@@ -82,32 +86,6 @@ fn bound_row(kept: Kept, ws: &[i32]) -> u32
         return 6;
     }
     0
-}
-
-// The header's six words.
-fn write_header(output: &mut [i32], v: usize, c: usize, t: usize)
-    requires { ⌜ Headed (now output) v c t ⌝ }
-    ensures { λ r. ⌜ now (output .exit) ≡ sets (now (output .entry)) 0 (header v c t) ⌝ }
-{
-    let words = [
-        v as i32,
-        c as i32,
-        t as i32,
-        6,
-        (6 + v) as i32,
-        (6 + v + c) as i32,
-    ];
-    crate::prefix::copy(&words, output, 0);
-}
-
-// The block, out of the parts that stand in the output.
-fn lay(output: &mut [i32], v: usize, bound: usize, c: usize, t: usize)
-    requires { ⌜ Ready (now output) v bound (6 + v + c) t ⌝ }
-    requires { ⌜ Headed (now output) v c t ⌝ }
-    ensures { λ r. ⌜ now (output .exit) ≡ laidIn (now (output .entry)) v bound c t ⌝ }
-{
-    crate::prefix::complete(output, v, bound, 6 + v + c, t);
-    write_header(output, v, c, t);
 }
 
 // The answer of a block that stands in the output's first n words.
@@ -145,6 +123,6 @@ pub(crate) fn settle(kept: Kept, output: &mut [i32]) -> Answer
         wipe(output, 0);
         return Answer::Row(row);
     }
-    lay(output, v, bound, c, t);
+    laid::lay(output, v, bound, c, t);
     judge(output, 6 + v + c + t)
 }

@@ -2,38 +2,10 @@
 ghost use Rattle.text.specs.Promises.{ReadPromise, BeginPromise, PiecePromise, EndPromise};
 use grammar::Place;
 use grammar::State;
+use reader::Kept;
+use reader::Reader;
 
-mod numbers; // numbers of any length in 32 bits
-mod keep; // what is kept of a text
-mod bytewise; // a text byte by byte
-mod prefix; // the completed prefix
 mod ending; // the answer at a text's end
-
-// What is kept of a text so far, beside the words that stand in the output. Counts go up to 2^31 + 1 and no further.
-pub struct Kept {
-    // the announced counts
-    pub variables: u32,
-    pub count: u32,
-    // whether the group that is being read is universal
-    pub universal: bool,
-    // bound words, clause lines and literals seen
-    pub bound: u32,
-    pub clauses: u32,
-    pub literals: u32,
-    // whether some number was beyond 32 signed bits, and whether some bound number was over the announced count
-    pub large: bool,
-    pub over: bool,
-}
-
-// The reader's state between two bytes. Any words may be handed in.
-pub struct Reader {
-    pub state: State,
-    // the value of the digits so far, up to 2^31 + 1
-    pub number: u32,
-    // how many bytes were taken, up to 2^64 - 1
-    pub at: u64,
-    pub kept: Kept,
-}
 
 // What reading answers: the block's length; 27 with a byte's place; 28, 29 or 30; 31 with the row.
 pub enum Answer {
@@ -72,7 +44,7 @@ pub fn piece(reader: Reader, bytes: &[u8], output: &mut [i32]) -> Reader
     let mut at = reader;
     let mut i = 0;
     while i < bytes.len() {
-        at = bytewise::take(at, bytes[i], output);
+        at = reader::take(at, bytes[i], output);
         i += 1;
     }
     at

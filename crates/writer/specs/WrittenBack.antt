@@ -23,7 +23,8 @@ use Rattle.grammar.specs.Spelled.{reads-all, one-text}
 use Rattle.grammar.specs.Written.{written, problemLine, groupLines, clauseLines}
 use Rattle.grammar.specs.Laws.Written.{spells-written}
 use Rattle.text.specs.declared.Answer.the-variants.{Accepted as Answered}
-use Rattle.text.specs.Tree.{wordsOf, numbersOf, literalsOf, beyond, someBeyond, textRefusal, rowOf, blockOf, zeros, textOf, answered, readOf}
+use Rattle.reader.specs.Keep.{beyond}
+use Rattle.text.specs.Tree.{wordsOf, numbersOf, literalsOf, someBeyond, textRefusal, rowOf, blockOf, zeros, textOf, answered, readOf}
 use Rattle.writer.specs.Write.{groupsOf, treeOf, writtenOf}
 use Rattle.text.specs.Laws.Block.{tree-rows}
 use Rattle.writer.specs.Laws.Groups.{numbers-back, all-binding, streamed}

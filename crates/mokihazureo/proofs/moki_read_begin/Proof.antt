@@ -2,7 +2,7 @@
 use mathlib.Core.Path.{_∙_, ap}
 use borrow.Author.Needs.{needs}
 use Rattle.saved.specs.Numbers.{written}
-use Rattle.text.specs.declared.Reader.{Reader}
+use Rattle.reader.specs.declared.Reader.{Reader}
 use Rattle.mokihazureo.proofs.moki_read_begin.Statement.{statement}
 use Rattle.mokihazureo.proofs.moki_read_begin.Tie as tie
 

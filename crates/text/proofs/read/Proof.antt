@@ -4,7 +4,7 @@ use mathlib.Core.List.{List}
 use lib.IntN.{ℤ}
 use Rattle.words.specs.Outcomes.{Outcome}
 use Rattle.formula.specs.Limits.{limits}
-use Rattle.text.specs.declared.Reader.{Reader}
+use Rattle.reader.specs.declared.Reader.{Reader}
 use Rattle.text.specs.Pieces.{pieceOf, endOf}
 use Rattle.text.specs.Whole.{read-is}
 use Rattle.text.specs.Laws.Rows.{limits-hidden}

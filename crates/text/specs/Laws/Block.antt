@@ -2,13 +2,13 @@
 -- completed prefix names each variable once, and the ends are those of the clauses.
 use mathlib.Core.Path.{_≡_, refl, sym, _∙_, ap}
 use mathlib.Core.Bool.{false}
-use mathlib.Core.List.{List, [], _∷_, _++_, append-assoc}
+use mathlib.Core.List.{List, [], _∷_}
 use Prim.Native.Nat.{ℕ, suc, _+_, _-_, _≤_, _<_}
 use native.Mathlib.Decide.{decLe}
 use native.Mathlib.Omega.{arith}
 use lib.IntN.{ℤ, pos}
-use lib.ListN.{length, getD, take, drop, length-append, List·getD-eq-default}
-use lib.Seq.{take-at, drop-at, drop-drop, take-length}
+use lib.ListN.{length, getD, drop, length-append, List·getD-eq-default}
+use lib.Seq.{take-at, drop-at, drop-drop}
 use borrow.Author.Tests.{le-ltb, lt-ltb, eq-eqb}
 use Rattle.words.specs.Lists.{any}
 use Rattle.words.specs.Rows.{row, refusalOf}
@@ -19,8 +19,10 @@ use Rattle.formula.specs.Formula.{variablesOf, literalCountOf, prefixOf, clause
 use Rattle.formula.specs.Formula as block
 use Rattle.formula.specs.Block.{noVariable, twice, badCounts, badOffsets, badLength, badLast, badEnds, bothSigns, repeats, refusal}
 use Rattle.formula.specs.Laws.Layout.{prefix-last}
-use Rattle.text.specs.Tree.{literalsOf, endsOf, completed, laid, lastUniversal}
-use Rattle.text.specs.Laws.Completed.{completed-length, completed-known, completed-once}
+use Rattle.laid.specs.Block.{completed, laid}
+use Rattle.text.specs.Tree.{literalsOf, endsOf, lastUniversal}
+use Rattle.laid.specs.Laws.Parts.{laid-prefix, laid-ends, laid-literals, laid-length}
+use Rattle.laid.specs.Laws.Completed.{completed-length, completed-known, completed-once}
 
 -- ---- the clauses by their ends
 pub ends-length : (n : ℕ) (cs : List (List ℤ)) → length (endsOf n cs) ≡ length cs
@@ -42,31 +44,6 @@ ends-good [] total n h = let e : n ≡ total = omega arith in rw (eq-eqb n total
 ends-good (c ∷ cs) total n h =
     let k : n + (length c + length (literalsOf cs)) ≡ total = rw (length-append c (literalsOf cs)) at h in
     rw (le-ltb (n + length c) n (omega arith), le-ltb total (n + length c) (omega arith)) (ends-good cs total (n + length c) (omega arith))
-
--- ---- a laid block's parts
-module _ (n : ℕ) (ws es ls : List ℤ) (long : length (completed n ws ls) ≡ n) where
-  after-header : drop 6 (laid n ws es ls) ≡ completed n ws ls ++ (es ++ ls)
-  unfolding laid
-  after-header = append-assoc (completed n ws ls) es ls
-
-  after-prefix : drop (6 + n) (laid n ws es ls) ≡ es ++ ls
-  after-prefix = sym (drop-drop n 6 (laid n ws es ls)) ∙ ap (drop n) after-header ∙ drop-at (completed n ws ls) (es ++ ls) n long
-
-  pub laid-prefix : prefixOf (laid n ws es ls) ≡ completed n ws ls
-  unfolding laid
-  laid-prefix = ap (take n) after-header ∙ take-at (completed n ws ls) (es ++ ls) n long
-
-  pub laid-ends : block.endsOf (laid n ws es ls) ≡ es
-  unfolding laid
-  laid-ends = ap (take (length es)) after-prefix ∙ take-at es ls (length es) refl
-
-  pub laid-literals : block.literalsOf (laid n ws es ls) ≡ ls
-  unfolding laid
-  laid-literals = ap (take (length ls)) (sym (drop-drop (length es) (6 + n) (laid n ws es ls)) ∙ ap (drop (length es)) after-prefix ∙ drop-at es ls (length es) refl) ∙ take-length ls
-
-  pub laid-length : length (laid n ws es ls) ≡ 6 + n + length es + length ls
-  unfolding laid
-  laid-length = simp (length-append) (omega arith)
 
 -- ---- of a tree's clauses
 module _ (n : ℕ) (ws : List ℤ) (cs : List (List ℤ)) where

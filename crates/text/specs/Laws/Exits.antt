@@ -19,27 +19,22 @@ use Rattle.formula.specs.Block.{noVariable, twice, rows, refusal}
 use Rattle.formula.specs.Check.{checkedOf}
 use Rattle.formula.specs.Laws.Check.{checked-accepted, checked-refused}
 use Rattle.formula.specs.declared.Checked.the-variants.{Accepted as Passes, Refused as Fails}
-use Rattle.text.specs.declared.Kept.{Kept}
+use Rattle.reader.specs.declared.Kept.{Kept}
 use Rattle.text.specs.declared.Answer.{Answer}
 use Rattle.text.specs.declared.Answer.the-variants.{Accepted, Refused, Row as AtRow}
-use Rattle.text.specs.Tree.{countRows, completed, header, laid, zeros}
+use Rattle.laid.specs.Block.{completed, header, laid, laidIn}
+use Rattle.text.specs.Tree.{countRows, zeros}
 use Rattle.text.specs.Pieces.{keptWords, keptEnds, keptLiterals, keptBlock, keptRow, settled}
-use Rattle.text.specs.Inner.Marks.{Ready}
-use Rattle.text.specs.Inner.Ending.{wiped, boundRows, laidIn, judged}
-use Rattle.text.specs.Laws.Stores.{drop-sets}
-use Rattle.text.specs.Laws.Completed.{completed-length}
-use Rattle.text.specs.Laws.Block.{laid-length}
+use Rattle.laid.specs.Inner.Ready.{Ready}
+use Rattle.text.specs.Inner.Ending.{wiped, boundRows, judged}
+use Rattle.laid.specs.Laws.Stores.{drop-sets}
+use Rattle.laid.specs.Laws.Completed.{completed-length}
+use Rattle.laid.specs.Laws.Parts.{laid-length, laid-in-length}
 
 -- all of it wiped
 pub wiped-all : (o : List ℤ) → wiped o 0 ≡ zeros (length o)
 unfolding wiped
 wiped-all o = let e : length o - 0 ≡ length o = omega arith in rw e
-
-pub laid-in-length : (o : List ℤ) (v bound c t : ℕ) → length (laidIn o v bound c t) ≡ length o
-unfolding laidIn
-laid-in-length o v bound c t =
-    let p = completed v (take bound (drop 6 o)) (take t (drop (6 + v + c) o)) in
-    length-sets (sets o 6 p) 0 (header v c t) ∙ length-sets o 6 p
 
 pub none : (m : ℕ) {row : ℕ} → row ≡ 0 → checkedOf m ≡ Fails row → ⊥
 unfolding checkedOf

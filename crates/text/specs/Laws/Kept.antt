@@ -11,20 +11,17 @@ use Rattle.words.specs.Lists.{any}
 use Rattle.words.specs.Laws.Lists.{any-append}
 use Rattle.words.specs.Outcomes.{outcome}
 use Rattle.formula.specs.Block.{noVariable}
-use Rattle.text.specs.declared.Kept.{Kept}
+use Rattle.reader.specs.declared.Kept.{Kept}
 use Rattle.grammar.specs.Grammar.{Group, Text}
 use Rattle.grammar.specs.Machine.{Event, ends, signed}
 use Rattle.grammar.specs.Events.{sayNumbers, sayLiterals, sayGroups, sayClauses, say}
-use Rattle.text.specs.Tree.{isForall, numbersOf, literalsOf, beyond}
-use Rattle.text.specs.Pieces.{capped, stored, keep, keeps, nothingKept}
+use Rattle.reader.specs.Keep.{isForall, beyond, capped, stored, keep, keeps}
+use Rattle.reader.specs.Laws.Capped.{cap-suc}
+use Rattle.text.specs.Tree.{numbersOf, literalsOf}
+use Rattle.text.specs.Pieces.{nothingKept}
 
 abbrev pub kept : ℕ → ℕ → Bool → ℕ → ℕ → ℕ → Bool → Bool → Kept
 kept v c u b n t l w = record { variables = v; count = c; universal = u; bound = b; clauses = n; literals = t; large = l; over = w }
-
--- one more, capped
-cap-suc : (n : ℕ) → capped (suc (capped n)) ≡ capped (suc n)
-unfolding capped
-cap-suc n = omega arith
 
 -- words put one after the other, the first at the n-th place from `base` on
 unfoldable pub put : ℕ → List ℤ → ℕ → List ℤ → List ℤ

@@ -14,10 +14,11 @@ use Rattle.words.specs.Lists.{any}
 use Rattle.words.specs.Laws.Lists.{any-append}
 use Rattle.grammar.specs.Grammar.{Group}
 use Rattle.grammar.specs.Machine.{signed}
-use Rattle.text.specs.Tree.{isForall, wordsOf, numbersOf, literalsOf, endsOf, beyond}
-use Rattle.text.specs.Pieces.{capped, stored}
+use Rattle.reader.specs.Keep.{isForall, beyond, capped, stored}
+use Rattle.text.specs.Tree.{wordsOf, numbersOf, literalsOf, endsOf}
+use Rattle.reader.specs.Laws.Capped.{cap-is, cap-grows}
 use Rattle.text.specs.Laws.Kept.{put, putClauses, put-append, large, storedAs, storedIs, storedWords}
-use Rattle.text.specs.Laws.Stores.{sets-append, sets-set, drop-take, take-run}
+use Rattle.laid.specs.Laws.Stores.{sets-append, sets-set, drop-take, take-run}
 
 -- ---- what is not beyond is stored as it is
 pub cap-small : (n : ℕ) → large n ≡ false → capped n ≡ n
@@ -59,10 +60,6 @@ put-sets base o n (w ∷ ws) h =
     rw e (put-sets base (set o (base + n) w) (suc n) ws (omega arith) ∙ ap (λ (i : ℕ). sets (set o (base + n) w) i ws) f)
 
 -- the first words, however many come
-cap-grows : (n : ℕ) → capped n ≤ capped (suc n)
-unfolding capped
-cap-grows n = omega arith
-
 take-put : (m base : ℕ) (o : List ℤ) (n : ℕ) (ws : List ℤ) → m ≤ base + capped n → take m (put base o n ws) ≡ take m o
 unfolding put
 take-put m base o n [] h = refl
@@ -80,10 +77,6 @@ first-words o ws n h k r =
     let fits : 6 + length (take n ws) ≤ length o = omega arith in
     let part : take n (drop 6 (sets o 6 (take n ws))) ≡ take n ws = rw long at (take-run (take n ws) o 6 fits) in
     sym (drop-take 6 n (put 6 o 0 ws)) ∙ ap (drop 6) (cut ∙ ap (take (6 + n)) run) ∙ drop-take 6 n (sets o 6 (take n ws)) ∙ part
-
-pub cap-is : (n : ℕ) → n ≤ 2147483649 → capped n ≡ n
-unfolding capped
-cap-is n h = omega arith
 
 end-stored : (n : ℕ) → n ≤ 2147483647 → storedIs (pos (capped n)) ≡ pos n
 unfolding storedIs stored beyond

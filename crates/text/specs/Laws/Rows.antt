@@ -16,11 +16,11 @@ use Rattle.words.specs.Rows.{refusalOf}
 use Rattle.formula.specs.Limits.{Limits, limits}
 use Rattle.formula.specs.Laws.Limits.{variables-are, clauses-are, literals-are}
 use Rattle.grammar.specs.Grammar.{Text}
-use Rattle.text.specs.Tree.{numbersOf, literalsOf, beyond, someBeyond, countRows, textRefusal}
-use Rattle.text.specs.Pieces.{capped}
-use Rattle.text.specs.Laws.Followed.{beyond-cap}
+use Rattle.reader.specs.Keep.{beyond, capped}
+use Rattle.text.specs.Tree.{numbersOf, literalsOf, someBeyond, countRows, textRefusal}
+use Rattle.reader.specs.Laws.Capped.{beyond-cap, cap-is}
 use Rattle.text.specs.Laws.Kept.{large, treeKept}
-use Rattle.text.specs.Laws.Laid.{cap-is, cap-small}
+use Rattle.text.specs.Laws.Laid.{cap-small}
 
 any-same : {A : Type 0} (f g : A → Bool) → ((x : A) → f x ≡ g x) → (xs : List A) → any f xs ≡ any g xs
 unfolding any

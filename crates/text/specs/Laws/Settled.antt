@@ -3,7 +3,7 @@ use mathlib.Core.Path.{_≡_, refl, sym, _∙_, ap}
 use mathlib.Core.Logic.{_⊎_, inl, inr}
 use mathlib.Core.Bool.{Bool, true, false, _||_}
 use mathlib.Core.List.{List, [], _∷_, map}
-use Prim.Native.Nat.{ℕ, zero, suc, _+_, _-_, _≤_, _<_, min}
+use Prim.Native.Nat.{ℕ, zero, suc, _+_, _≤_, _<_, min}
 use native.Mathlib.Decide.{decLe}
 use native.Mathlib.Omega.{arith}
 use lib.Dec.{ltb}
@@ -26,11 +26,13 @@ use Rattle.formula.specs.Block.{names, noVariable, twice, refusal}
 use Rattle.text.specs.declared.Answer.the-variants.{Refused, Row as AtRow}
 use Rattle.grammar.specs.Grammar.{Group, Text}
 use Rattle.grammar.specs.Machine.{signed}
-use Rattle.text.specs.Tree.{isForall, wordsOf, numbersOf, literalsOf, endsOf, someBeyond, countRows, textRefusal, blockOf, treeRows, rowOf, zeros, textOf}
-use Rattle.text.specs.Pieces.{capped, keptWords, keptEnds, keptLiterals, keptBlock, keptRow, settled}
-use Rattle.text.specs.Laws.Stores.{drop-take, take-run, drop-run}
+use Rattle.reader.specs.Keep.{isForall, capped}
+use Rattle.text.specs.Tree.{wordsOf, numbersOf, literalsOf, endsOf, someBeyond, countRows, textRefusal, blockOf, treeRows, rowOf, zeros, textOf}
+use Rattle.text.specs.Pieces.{keptWords, keptEnds, keptLiterals, keptBlock, keptRow, settled}
+use Rattle.laid.specs.Laws.Stores.{drop-take, take-run, drop-run}
 use Rattle.text.specs.Laws.Kept.{large, strange, put, length-put, putClauses, treeKept, treeOutput}
-use Rattle.text.specs.Laws.Laid.{cap-is, cap-small, words-stored, first-words, clauses-put}
+use Rattle.reader.specs.Laws.Capped.{cap-is}
+use Rattle.text.specs.Laws.Laid.{cap-small, words-stored, first-words, clauses-put}
 use Rattle.text.specs.Laws.Block.{ends-length, tree-rows}
 use Rattle.text.specs.Laws.Rows.{Hidden, Small, small, counts-same}
 

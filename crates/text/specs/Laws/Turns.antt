@@ -6,8 +6,9 @@ use lib.IntN.{ℤ}
 use lib.ListN.{length, drop, getD}
 use Rattle.words.specs.Laws.Lists.{next, ended}
 use Rattle.words.specs.Outcomes.{Outcome, outcome}
-use Rattle.text.specs.declared.Reader.{Reader}
-use Rattle.text.specs.Pieces.{byteOf, pieceOf}
+use Rattle.reader.specs.declared.Reader.{Reader}
+use Rattle.reader.specs.Byte.{byteOf}
+use Rattle.text.specs.Pieces.{pieceOf}
 
 module _ (bs : List ℕ) (i : ℕ) (r : Reader) (o : List ℤ) where
   pub piece-turn : {r′ : Reader} {o′ : List ℤ} → i < length bs → outcome r′ o′ ≡ byteOf r o (getD bs i 0) → pieceOf (drop (i + 1) bs) r′ o′ ≡ pieceOf (drop i bs) r o

@@ -21,7 +21,8 @@ use Rattle.formula.specs.Laws.Accepted.{Accepted, prefix-length, literals-lengt
 use Rattle.formula.specs.Laws.Clauses.{clauses-length}
 use Rattle.formula.specs.Laws.Permuted.{all-bound}
 use Rattle.grammar.specs.Grammar.{Text}
-use Rattle.text.specs.Tree.{wordsOf, literalsOf, endsOf, those, free, idle, completed, header, laid, blockOf}
+use Rattle.laid.specs.Block.{those, free, idle, completed, header, laid}
+use Rattle.text.specs.Tree.{wordsOf, literalsOf, endsOf, blockOf}
 use Rattle.writer.specs.Write.{treeOf}
 use Rattle.writer.specs.Laws.Groups.{words-back}
 

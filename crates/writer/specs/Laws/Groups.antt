@@ -11,7 +11,8 @@ use Rattle.grammar.specs.Grammar.{Group, feed, space, '0'}
 use Rattle.grammar.specs.Machine.{signed}
 use Rattle.grammar.specs.Written.{numeral, line, letter, groupLines}
 use Rattle.grammar.specs.Laws.Written.{Binding, binding, AllBinding, no-binding, more-binding}
-use Rattle.text.specs.Tree.{isForall, wordsOf, numbersOf}
+use Rattle.reader.specs.Keep.{isForall}
+use Rattle.text.specs.Tree.{wordsOf, numbersOf}
 use Rattle.writer.specs.Write.{quantifierOf, lastOfGroup, intoGroup, groupsOf}
 use Rattle.writer.specs.Inner.Writing.{groupWord, groupWords}
 

@@ -17,7 +17,7 @@ use Rattle.grammar.specs.Written.{numeral, literal, line, problemLine, clauseLi
 use Rattle.grammar.specs.Laws.Written.{numeral-one, numeral-more, numeral-longer}
 use Rattle.writer.specs.Write.{lastOfGroup}
 use Rattle.writer.specs.Inner.Writing.{wrote, Near, spaced, signOf, lineEnd, groupWord, groupWords}
-use Rattle.text.specs.Laws.Stores.{sets-append}
+use Rattle.laid.specs.Laws.Stores.{sets-append}
 
 -- ---- one run, and then another
 module _ {r : ℕ} {o′ : List ℕ} (o : List ℕ) (at : ℕ) (xs ys : List ℕ) (e : outcome r o′ ≡ wrote o at xs) where

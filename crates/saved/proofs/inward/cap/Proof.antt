@@ -1,6 +1,6 @@
 -- The lesser of the two, by the test.
 use borrow.Author.Needs.{needs}
-use Rattle.text.specs.Pieces.{capped}
+use Rattle.reader.specs.Keep.{capped}
 use Rattle.saved.proofs.inward.cap.Statement.{statement}
 use Rattle.saved.proofs.inward.cap.Tie as tie
 

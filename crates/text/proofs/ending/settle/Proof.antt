@@ -9,9 +9,11 @@ use Rattle.words.specs.Rows.{refusalOf}
 use Rattle.formula.specs.Limits.{limits}
 use Rattle.formula.specs.Laws.Limits.{variables-are, clauses-are, literals-are}
 use Rattle.text.specs.Pieces.{keptWords}
-use Rattle.text.specs.Inner.Marks.{Ready}
-use Rattle.text.specs.Inner.Ending.{boundRows, laidIn, judged}
-use Rattle.text.specs.Laws.Exits.{countRow, counted, count-exit, word-exit, ready, laid-in-length, last-exit}
+use Rattle.laid.specs.Inner.Ready.{Ready}
+use Rattle.laid.specs.Block.{laidIn}
+use Rattle.text.specs.Inner.Ending.{boundRows, judged}
+use Rattle.laid.specs.Laws.Parts.{laid-in-length}
+use Rattle.text.specs.Laws.Exits.{countRow, counted, count-exit, word-exit, ready, last-exit}
 use denote.Ref.{now}
 use borrow.Author.Needs.{needs}
 use Rattle.text.proofs.ending.settle.Statement.{statement}

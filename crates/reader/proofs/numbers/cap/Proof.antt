@@ -1,0 +1,16 @@
+-- The lesser of the two, by the test.
+use borrow.Author.Needs.{needs}
+use Rattle.reader.specs.Keep.{capped}
+use Rattle.reader.proofs.numbers.cap.Statement.{statement}
+use Rattle.reader.proofs.numbers.cap.Tie as tie
+
+returns : tie.Need-returns
+unfolding capped
+returns c = search needs
+
+returns-2 : tie.Need-returns-2
+unfolding capped
+returns-2 c = search needs
+
+pub cap-spec : {M : Type 1} → statement M
+cap-spec = tie.close (tie.spec (λ c. search needs) (λ c. search needs) returns returns-2)
