@@ -18,8 +18,9 @@ use Rattle.record.specs.declared.rule.State.the-variants.{Open}
 use Rattle.record.specs.declared.rule.Rule.{Rule}
 use Rattle.record.specs.declared.rule.Rule.the-variants.{BacktrackExists, Fail, Unit, Monotone, Decide, BacktrackForall, Succeed}
 use Rattle.record.specs.Found.{literal, last}
-use Rattle.rules.specs.Due.{due, lowest, candidate, lowestUnit, firstOf, firstMonotone, firstUnassigned}
-use Rattle.rules.specs.Preferred.{firstOpen}
+use Rattle.choice.specs.First.{firstOf, firstUnassigned}
+use Rattle.rules.specs.Due.{due, lowest, candidate, lowestUnit, firstMonotone}
+use Rattle.choice.specs.Preferred.{firstOpen}
 use Rattle.record.specs.Trail.{recordOf, wiped, entries}
 use Rattle.record.specs.Apply.{apply}
 use Rattle.record.specs.Check.{badEntries, badRecord}

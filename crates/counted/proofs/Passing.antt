@@ -15,7 +15,7 @@ use Rattle.words.specs.Laws.Lists.{next, ended}
 use Rattle.record.specs.Found.{literal}
 use Rattle.rules.specs.Inner.Clauses.{levelBy}
 use Rattle.record.specs.Inner.Tables.{places}
-use Rattle.rules.specs.declared.found.Picked.the-variants.{Is, NoLiteral}
+use Rattle.choice.specs.declared.found.Picked.the-variants.{Is, NoLiteral}
 use Rattle.counted.specs.Inner.Unit.{above, lastOpen, unitBy}
 
 -- the literal at `place` is the last open one so far, or the place is the clause's end

@@ -8,15 +8,15 @@ ghost use Rattle.theory.specs.Record.{among};
 ghost use Rattle.record.specs.Trail.{trail};
 ghost use Rattle.record.specs.Search as rules;
 ghost use Rattle.record.specs.Apply.{apply};
-ghost use Rattle.rules.specs.Preferred.{proposalOf};
+ghost use Rattle.choice.specs.Preferred.{proposalOf};
 ghost use Rattle.record.specs.declared.rule.State.the-variants.{Open};
 ghost use Rattle.counted.specs.Inner.Decided.{openAt, preferredAt, firstIn, Enacting};
+use choice::Picked;
 use formula::LITERAL_PLACES;
 use formula::MIDDLE;
 use record::PLACES;
 use record::Reached;
 use record::Rule;
-use rules::Picked;
 use words::Literal;
 
 // Whether a variable is one of n, unassigned, and of no higher level than the lowest.

@@ -6,14 +6,14 @@ ghost use lib.Dec.{leb};
 ghost use lib.IntN.{pos};
 ghost use lib.ListN.{length, getD};
 ghost use Rattle.counted.specs.Inner.Free.{Livable, takenAt, Walkable, Decidable, decideFrom, freeRule};
-ghost use Rattle.rules.specs.declared.found.Picked.the-variants.{NoLiteral};
+ghost use Rattle.choice.specs.declared.found.Picked.the-variants.{NoLiteral};
 use crate::entry::part;
 use crate::live::is_live;
+use choice::Picked;
 use formula::LITERAL_PLACES;
 use formula::MIDDLE;
 use record::Found;
 use record::Rule;
-use rules::Picked;
 
 // The first unassigned prefix word, when the one at i is seen too.
 fn earlier(first: usize, i: usize, status: u8) -> usize

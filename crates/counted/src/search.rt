@@ -220,11 +220,11 @@ pub(crate) fn search(
     let prefix = formula::prefix(block);
     let ends = formula::ends(block);
     let literals = formula::literals(block);
-    let levels = rules::levels(block);
+    let levels = tables::levels(block);
     let quantifiers = record::values_of(prefix, prefix.len());
     let values = record::values_of(lits, count);
     let mut statuses = [0u8; LITERAL_PLACES];
-    rules::fill(prefix, &values, &mut statuses);
+    tables::fill(prefix, &values, &mut statuses);
     let stops = enter_clauses(ends, literals, index);
     fill_numbers(ends, literals, &statuses, trues, opens);
     go_on(

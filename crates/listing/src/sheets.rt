@@ -47,7 +47,7 @@ pub(crate) fn fill(
     requires { ⌜ OnPage (now block) (pageMemory (now lits) (now kinds) (now output)) k start ⌝ }
     ensures { λ r. ⌜ wipedOutcome (formulaOf (now (block .entry))) r (pageMemory (now (lits .exit)) (now (kinds .exit)) (now (output .exit))) ≡ paged (formulaOf (now (block .entry))) (pageMemory (now (lits .entry)) (now (kinds .entry)) (now (output .entry)) .work) (sheetOf (formulaOf (now (block .entry))) (pageMemory (now (lits .entry)) (now (kinds .entry)) (now (output .entry))) start (now (preferred .entry)) budget) ⌝ }
 {
-    let levels = rules::levels(block);
+    let levels = tables::levels(block);
     let mut statuses = [0u8; LITERAL_PLACES];
     let mut reasons = [0u32; MAX_VARIABLES];
     let total = openings::count(k);

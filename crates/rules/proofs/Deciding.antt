@@ -11,7 +11,8 @@ use lib.IntN.{ℤ}
 use borrow.Author.Tests.{ne-eqb}
 use Rattle.words.specs.Lists.{any}
 use Rattle.record.specs.Found.{onFound, literal}
-use Rattle.rules.specs.Due.{onPicked, lowest}
+use Rattle.choice.specs.First.{onPicked}
+use Rattle.rules.specs.Due.{lowest}
 use Rattle.record.specs.Inner.Tables.{places}
 use Rattle.rules.specs.Inner.Clauses.{byStatus, keepsBy, conflictBy, Sight, conflict, unit, neither, unitLiteral, staysUnit, unitIf, sightFrom, lowestUnitBy, decidingBy, decidedBy}
 use Rattle.rules.specs.declared.found.Deciding.{Deciding}

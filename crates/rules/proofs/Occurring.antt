@@ -18,7 +18,7 @@ use Rattle.formula.specs.Inner.Places.{literalPlaces, placeOf, wordAt}
 use Rattle.formula.specs.Laws.Places.{place-word, word-place, place-within}
 use Rattle.theory.specs.Record.{Assignment}
 use Rattle.theory.specs.Tests.{occurs, untrueOf}
-use Rattle.rules.specs.Inner.ByLiteral.{Occurring, Marked, Counted, markedBy}
+use Rattle.rules.specs.Inner.Occurrences.{Occurring, Marked, Counted, markedBy}
 use Rattle.rules.specs.Inner.Clauses.{Placed, Clauses}
 use Rattle.record.specs.Laws.Filled.{Filled, turn, end}
 use Rattle.rules.proofs.Walk.{Turn}

@@ -2,19 +2,20 @@
 use Prim.Native.Nat.{ℕ, suc}
 use mathlib.Core.Bool.{Bool, cond}
 use mathlib.Core.List.{List, [], _∷_}
-use lib.IntN.{ℤ, pos, negℤ, natAbs}
+use lib.IntN.{ℤ, pos, negℤ}
 use lib.ListN.{getD}
 use Rattle.words.specs.declared.Literal.{Literal}
 use Rattle.formula.specs.Formula.{Formula}
-use Rattle.theory.specs.Record.{Record, Assignment, trueIn, assigned}
+use Rattle.theory.specs.Record.{Record, Assignment, trueIn}
 use Rattle.theory.specs.Tests.{unassignedE, inConflict, unitOn, monotone, untrueOf}
 use Rattle.record.specs.Found.{literal, onFound, last}
 use Rattle.record.specs.declared.rule.Rule.{Rule}
 use Rattle.record.specs.declared.rule.Rule.the-variants.{BacktrackExists, Fail, Unit, Monotone, Decide, BacktrackForall, Succeed}
 use Rattle.record.specs.declared.found.Found.{Found}
 use Rattle.record.specs.declared.found.Found.the-variants.{At, Nothing}
-use Rattle.rules.specs.declared.found.Picked.{Picked}
-use Rattle.rules.specs.declared.found.Picked.the-variants.{Is, NoLiteral}
+use Rattle.choice.specs.First.{onPicked, firstOf, firstUnassigned}
+use Rattle.choice.specs.declared.found.Picked.{Picked}
+use Rattle.choice.specs.declared.found.Picked.the-variants.{Is, NoLiteral}
 use Rattle.rules.specs.declared.found.UnitFound.{UnitFound}
 use Rattle.rules.specs.declared.found.UnitFound.the-variants.{On, NoUnit}
 
@@ -24,12 +25,7 @@ module _ {A : Type 0} where
   onUnit (On l c) f b = f l c
   onUnit NoUnit f b = b
 
-  abbrev pub onPicked : Picked → (Literal → A) → A → A
-  onPicked (Is l) f b = f l
-  onPicked NoLiteral f b = b
-
--- the lowest clause that passes, the first of them being number n
-module _ {A : Type 0} where
+  -- the lowest clause that passes, the first of them being number n
   unfoldable pub lowest : (A → Bool) → ℕ → List A → Found
   lowest f n [] = Nothing
   lowest f n (x ∷ xs) = cond (f x) (At n) (lowest f (suc n) xs)
@@ -47,18 +43,9 @@ isUnit p ρ C = unitOn p ρ C (candidate p ρ C)
 unfoldable pub lowestUnit : List ℤ → Assignment → List (List ℤ) → UnitFound
 lowestUnit p ρ m = onFound (lowest (isUnit p ρ) 0 m) (λ c. On (literal (candidate p ρ (getD m c []))) c) NoUnit
 
--- the first of a list that a test picks
-unfoldable pub firstOf : (ℤ → Picked) → List ℤ → Picked
-firstOf f [] = NoLiteral
-firstOf f (x ∷ xs) = onPicked (f x) Is (firstOf f xs)
-
 -- the first variable in prefix order that is monotone in the clauses m: the literal that it takes [monotone]
 unfoldable pub firstMonotone : List ℤ → List (List ℤ) → Assignment → Picked
 firstMonotone p m ρ = firstOf (λ q. cond (monotone p m ρ q) (Is (literal q)) (cond (monotone p m ρ (negℤ q)) (Is (literal (negℤ q))) NoLiteral)) p
-
--- the first unassigned variable in prefix order, as true [decide.zero]
-unfoldable pub firstUnassigned : Assignment → List ℤ → Picked
-firstUnassigned ρ p = firstOf (λ q. cond (assigned ρ q) NoLiteral (Is (literal (pos (natAbs q))))) p
 
 -- 5: with no unassigned variable, by the last entry of kind 2 [backtrack-forall] [succeed]
 abbrev pub dueAssigned : Record → Rule

@@ -5,7 +5,6 @@ pub mod Searches
 pub mod WhyDue
 pub mod Steps
 -- the searches and the tests of a clause over the tables
-pub mod Blanks
 pub mod VariablesMean
 pub mod ClausesMean
 pub mod ClausesReady

@@ -1,8 +1,7 @@
 -- The due rule. To be read in this order.
 
--- the due rule; what a run proposes
+-- the due rule
 pub mod Due
-pub mod Preferred
 -- what each function promises, and that it leaves one result
 pub mod Promises
 -- what functions say to each other

@@ -1,12 +1,12 @@
 // The clauses in conflict, and the unit clauses. Clause c has the literal words from the end before it to its own.
 use crate::found::Deciding;
 use crate::found::UnitFound;
-use crate::tables::NO_LEVEL;
 use formula::LITERAL_PLACES;
 use formula::place_at;
 use record::Found;
 use record::PLACES;
 use record::literal_at;
+use tables::NO_LEVEL;
 ghost use mathlib.Core.Path.{_≡_};
 ghost use Prim.Native.Nat.{_+_, _≤_, _<_};
 ghost use lib.IntN.{pos, natAbs};
@@ -14,7 +14,7 @@ ghost use lib.ListN.{length, getD, drop};
 ghost use Rattle.formula.specs.Limits.{limits};
 ghost use Rattle.formula.specs.Formula.{clausesFrom};
 ghost use Rattle.rules.specs.Due.{lowest};
-ghost use Rattle.rules.specs.Inner.ByLiteral.{statusIn};
+ghost use Rattle.tables.specs.Inner.ByLiteral.{statusIn};
 ghost use Rattle.rules.specs.Inner.Clauses.{Placed, Clauses, levelBy, conflictBy, Shown, decidesBy, sightOf, decidedBy, decidingBy};
 
 // What the literal at an index is to its clause: 0 false, 1 true, 2 unassigned existential, 3 unassigned universal.

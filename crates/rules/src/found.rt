@@ -1,12 +1,6 @@
 // What a search finds.
 use words::Literal;
 
-// A literal.
-pub enum Picked {
-    Is(Literal),
-    NoLiteral,
-}
-
 // A unit clause, and its literal.
 pub enum UnitFound {
     On { literal: Literal, clause: usize },

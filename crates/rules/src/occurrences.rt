@@ -8,7 +8,8 @@ ghost use Rattle.words.specs.Lists.{any};
 ghost use Rattle.formula.specs.Inner.Places.{literalPlaces};
 ghost use Rattle.formula.specs.Formula.{clausesFrom};
 ghost use Rattle.theory.specs.Tests.{untrueOf};
-ghost use Rattle.rules.specs.Inner.ByLiteral.{statusIn, trueBy, Occurring, Marked, Counted};
+ghost use Rattle.tables.specs.Inner.ByLiteral.{statusIn};
+ghost use Rattle.rules.specs.Inner.Occurrences.{trueBy, Occurring, Marked, Counted};
 ghost use Rattle.rules.specs.Inner.Clauses.{Placed, Clauses};
 
 // Whether a clause has a true literal.

@@ -3,10 +3,10 @@ use crate::by_literal;
 use crate::by_literal::LITERAL_PLACES;
 use crate::clauses;
 use crate::found::Deciding;
-use crate::found::Picked;
 use crate::found::UnitFound;
 use crate::occurrences;
 use crate::variables;
+use choice::Picked;
 use record::Found;
 use record::PLACES;
 use record::Rule;
@@ -19,12 +19,13 @@ ghost use Rattle.formula.specs.Formula.{prefixOf, clausesFrom, formulaOf};
 ghost use Rattle.formula.specs.Block.{refusal};
 ghost use Rattle.theory.specs.Record.{Record, Assignment, trueIn};
 ghost use Rattle.theory.specs.Tests.{untrueOf};
-ghost use Rattle.rules.specs.Due.{onPicked, firstMonotone, dueMonotone, due};
+ghost use Rattle.choice.specs.First.{onPicked};
+ghost use Rattle.rules.specs.Due.{firstMonotone, dueMonotone, due};
 ghost use Rattle.record.specs.declared.rule.Rule.the-variants.{Monotone, Decide};
 ghost use Rattle.record.specs.Trail.{trail};
 ghost use Rattle.rules.specs.Promises.{DuePromise, DueConflictPromise};
 ghost use Rattle.record.specs.Inner.Tables.{Values};
-ghost use Rattle.rules.specs.Inner.Levels.{Levels};
+ghost use Rattle.tables.specs.Inner.Levels.{Levels};
 ghost use Rattle.record.specs.Inner.Ready.{formula, Ready, OnBlock};
 ghost use Rattle.rules.specs.Inner.Lent.{LentTables};
 ghost use Rattle.rules.specs.Inner.Tabled.{Sorts, Tabled};
@@ -45,7 +46,7 @@ pub fn due(
 {
     let prefix = formula::prefix(block);
     let values = record::values_of(lits, count);
-    by_literal::fill(prefix, &values, statuses);
+    tables::fill(prefix, &values, statuses);
     let rule = due_by(block, kinds, count, &values, statuses, levels);
     by_literal::wipe(prefix.len(), statuses);
     rule
@@ -108,7 +109,7 @@ fn due_free(
     requires { ⌜ count ≤ length (now kinds) ⌝ }
     ensures { λ r. ⌜ ((R : Record) → Tabled R (now (values .entry)) (now (kinds .entry)) count → Sorts (now (prefix .entry)) (trueIn R) (now (statuses .entry)) → r ≡ dueMonotone (formula (now (prefix .entry)) (now (ends .entry)) (now (literals .entry))) R) ⌝ }
 {
-    match variables::first_unassigned(prefix, values) {
+    match choice::first_unassigned(prefix, values) {
         Picked::Is(first) => due_chosen(prefix, ends, literals, values, statuses, first),
         Picked::NoLiteral => match record::last_kind(kinds, count, 2) {
             Found::At(at) => Rule::BacktrackForall { at: at },

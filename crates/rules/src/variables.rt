@@ -1,31 +1,14 @@
-// The first unassigned and the first monotone variable.
+// The first monotone variable.
 use crate::by_literal::LITERAL_PLACES;
 use crate::by_literal::signs_at;
-use crate::found::Picked;
+use choice::Picked;
 use record::PLACES;
 use record::literal_at;
 use record::opposite_at;
-use record::true_at;
 ghost use mathlib.Core.Path.{_≡_};
-ghost use Rattle.rules.specs.Due.{firstOf};
 ghost use Rattle.record.specs.Inner.Ready.{Bound};
-ghost use Rattle.rules.specs.Inner.Variables.{unassignedIn, monotoneIn};
-
-// The first unassigned variable in prefix order, true.
-pub(crate) fn first_unassigned(prefix: &[i32], values: &[u8; PLACES]) -> Picked
-    requires { ⌜ Bound (now prefix) ⌝ }
-    ensures { λ r. ⌜ r ≡ firstOf (unassignedIn (now (values .entry))) (now (prefix .entry)) ⌝ }
-{
-    let mut i = 0;
-    while i < prefix.len() {
-        let v = words::size_at(prefix, i);
-        if values[v] == 0 {
-            return Picked::Is(true_at(prefix, i));
-        }
-        i += 1;
-    }
-    Picked::NoLiteral
-}
+ghost use Rattle.choice.specs.First.{firstOf};
+ghost use Rattle.rules.specs.Inner.Variables.{monotoneIn};
 
 // The first unassigned variable that occurs with one sign only: the literal that it takes. An existential one takes that sign, a universal
 // one the opposite: with positive occurrences only that is the prefix's own word, with negative ones only its opposite.

@@ -15,7 +15,7 @@ use Rattle.theory.specs.Record.{Assignment}
 use Rattle.theory.specs.Tests.{isOpen}
 use Rattle.record.specs.declared.rule.Rule.{Rule}
 use Rattle.record.specs.Check.{badRecord}
-use Rattle.rules.specs.Preferred.{decides}
+use Rattle.choice.specs.Preferred.{decides}
 use Rattle.record.specs.Inner.Ready.{OnBuffers}
 use Rattle.record.specs.Laws.Records.{good}
 use Rattle.record.specs.Laws.Accepted.{prefix-length}

@@ -15,7 +15,7 @@ use Rattle.record.specs.declared.rule.State.the-variants.{Open, Valid, Unsat}
 use Rattle.record.specs.declared.rule.Rule.{Rule}
 use Rattle.record.specs.Trail.{recordOf}
 use Rattle.rules.specs.Due.{due}
-use Rattle.rules.specs.Preferred.{decides}
+use Rattle.choice.specs.Preferred.{decides}
 use Rattle.session.specs.declared.Revision.{Revision}
 use Rattle.session.specs.declared.Session.{Session}
 use Rattle.memory.specs.Memory.{Memory, places}

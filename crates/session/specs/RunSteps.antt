@@ -18,7 +18,7 @@ use Rattle.record.specs.Found.{literal}
 use Rattle.rules.specs.Due.{due}
 use Rattle.record.specs.Search.{Search, recordIn}
 use Rattle.record.specs.Inner.Ready.{KeptIn}
-use Rattle.rules.specs.Preferred.{proposalOf}
+use Rattle.choice.specs.Preferred.{proposalOf}
 use Rattle.session.specs.declared.Revision.{Revision}
 use Rattle.session.specs.declared.Session.{Session}
 use Rattle.session.specs.declared.Ran.{Ran}

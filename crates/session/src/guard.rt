@@ -4,9 +4,9 @@ ghost use lib.ListN.{take};
 ghost use Rattle.formula.specs.Formula.{prefixOf};
 ghost use Rattle.theory.specs.Record.{among};
 ghost use Rattle.memory.specs.Memory.{memory};
-ghost use Rattle.rules.specs.Preferred.{decides};
+ghost use Rattle.choice.specs.Preferred.{decides};
 ghost use Rattle.record.specs.Inner.Ready.{HeldOn};
-ghost use Rattle.rules.specs.Inner.Levels.{Levels};
+ghost use Rattle.tables.specs.Inner.Levels.{Levels};
 ghost use Rattle.session.specs.Promises.{IsOverPromise, SessionRefusalPromise};
 ghost use Rattle.session.specs.Inner.Guards.{proposalRefusal};
 use crate::Revision;
@@ -97,7 +97,7 @@ pub(crate) fn proposal_refusal(
     if !is_decide(rule) {
         return 16;
     }
-    if !rules::is_open(block, lits, count, proposal, levels) {
+    if !choice::is_open(block, lits, count, proposal, levels) {
         return 17;
     }
     0

@@ -98,7 +98,7 @@ impl Session {
             return Stepped::Not(15);
         }
         let count = self.length;
-        let levels = rules::levels(block);
+        let levels = tables::levels(block);
         let mut statuses = [0u8; LITERAL_PLACES];
         let rule = rules::due(block, lits, kinds, count, &levels, &mut statuses);
         let improper = guard::proposal_refusal(block, lits, count, rule, proposal, &levels);
@@ -136,7 +136,7 @@ impl Session {
             return Ran::Stopped(15);
         }
         let count = self.length;
-        let levels = rules::levels(block);
+        let levels = tables::levels(block);
         let mut statuses = [0u8; LITERAL_PLACES];
         let found = search(
             block,

@@ -7,9 +7,9 @@ ghost use Rattle.record.specs.Found.{literal};
 ghost use Rattle.rules.specs.Due.{due};
 ghost use Rattle.record.specs.Trail.{trail, recordOf};
 ghost use Rattle.record.specs.Search as spec;
-ghost use Rattle.rules.specs.Preferred.{proposalOf};
+ghost use Rattle.choice.specs.Preferred.{proposalOf};
 ghost use Rattle.words.specs.Outcomes.{outcome};
-ghost use Rattle.rules.specs.Inner.Levels.{Levels};
+ghost use Rattle.tables.specs.Inner.Levels.{Levels};
 ghost use Rattle.record.specs.Inner.Ready.{HeldOn};
 ghost use Rattle.rules.specs.Inner.Lent.{LentTables};
 ghost use Rattle.record.specs.declared.rule.State.the-variants.{Open};
@@ -53,7 +53,7 @@ fn proposal(
     ensures { λ r. ⌜ r ≡ literal (proposalOf (prefixOf (now (block .entry))) (among (take count (now (lits .entry)))) (now (preferred .entry)) rule) ⌝ }
 {
     if guard::is_decide(rule) {
-        rules::first_open(block, lits, count, preferred, levels)
+        choice::first_open(block, lits, count, preferred, levels)
     } else {
         Literal(0)
     }

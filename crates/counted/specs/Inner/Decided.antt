@@ -11,17 +11,18 @@ use Rattle.formula.specs.Limits.{limits}
 use Rattle.formula.specs.Formula.{prefixOf, formulaOf}
 use Rattle.theory.specs.Record.{among}
 use Rattle.record.specs.Found.{literal}
-use Rattle.rules.specs.Due.{onPicked, firstOf, due}
-use Rattle.rules.specs.Preferred.{decides}
+use Rattle.choice.specs.First.{onPicked, firstOf}
+use Rattle.rules.specs.Due.{due}
+use Rattle.choice.specs.Preferred.{decides}
 use Rattle.record.specs.Trail.{Trail, recordOf}
 use Rattle.record.specs.Inner.Ready.{OnBlock}
-use Rattle.rules.specs.Inner.Levels.{Levels}
+use Rattle.tables.specs.Inner.Levels.{Levels}
 use Rattle.record.specs.Inner.Tables.{Quantifiers}
 use Rattle.rules.specs.Inner.Tabled.{Sorts}
 use Rattle.record.specs.declared.rule.Rule.{Rule}
 use Rattle.record.specs.declared.rule.Rule.the-variants.{BacktrackExists, Fail, Unit, Monotone, Decide, BacktrackForall, Succeed}
-use Rattle.rules.specs.declared.found.Picked.{Picked}
-use Rattle.rules.specs.declared.found.Picked.the-variants.{Is, NoLiteral}
+use Rattle.choice.specs.declared.found.Picked.{Picked}
+use Rattle.choice.specs.declared.found.Picked.the-variants.{Is, NoLiteral}
 use Rattle.counted.specs.Inner.Free.{freeAt}
 
 module _ (n : ℕ) (statuses levels : List ℕ) (lowest : ℕ) where

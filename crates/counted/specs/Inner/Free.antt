@@ -8,12 +8,12 @@ use lib.ListN.{length, getD}
 use Rattle.words.specs.Lists.{In}
 use Rattle.formula.specs.Limits.{limits, maxVariables}
 use Rattle.record.specs.Found.{literal, onFound}
-use Rattle.rules.specs.Due.{onPicked, firstOf}
+use Rattle.choice.specs.First.{onPicked, firstOf}
 use Rattle.record.specs.Inner.Buffers.{lastKind}
 use Rattle.record.specs.declared.rule.Rule.{Rule}
 use Rattle.record.specs.declared.rule.Rule.the-variants.{Monotone, Decide, BacktrackForall, Succeed}
-use Rattle.rules.specs.declared.found.Picked.{Picked}
-use Rattle.rules.specs.declared.found.Picked.the-variants.{Is, NoLiteral}
+use Rattle.choice.specs.declared.found.Picked.{Picked}
+use Rattle.choice.specs.declared.found.Picked.the-variants.{Is, NoLiteral}
 use Rattle.counted.specs.Inner.Index.{partAt, Parts}
 use Rattle.counted.specs.Inner.Live.{someZero, Within}
 

@@ -9,7 +9,7 @@ use Rattle.formula.specs.Formula.{clauseCountOf, prefixOf, endsOf, literalsOf, 
 use Rattle.theory.specs.Record.{among}
 use Rattle.record.specs.Trail.{Trail, trail, recordOf}
 use Rattle.record.specs.Inner.Ready.{OnBlock}
-use Rattle.rules.specs.Inner.Levels.{Levels}
+use Rattle.tables.specs.Inner.Levels.{Levels}
 use Rattle.record.specs.Inner.Tables.{Quantifiers}
 use Rattle.record.specs.declared.rule.Rule.{Rule}
 use Rattle.record.specs.declared.rule.Rule.the-variants.{BacktrackExists, Fail, Unit, Monotone, Decide, BacktrackForall, Succeed}

@@ -11,12 +11,12 @@ use Rattle.words.specs.Lists.{In}
 use Rattle.formula.specs.Formula.{clausesFrom}
 use Rattle.theory.specs.Record.{Assignment}
 use Rattle.record.specs.Found.{literal}
-use Rattle.rules.specs.Inner.ByLiteral.{statusIn}
+use Rattle.tables.specs.Inner.ByLiteral.{statusIn}
 use Rattle.rules.specs.Inner.Clauses.{levelBy, Clauses}
 use Rattle.record.specs.Inner.Tables.{places}
 use Rattle.rules.specs.Laws.ClausesMean.{AllMeant}
-use Rattle.rules.specs.declared.found.Picked.{Picked}
-use Rattle.rules.specs.declared.found.Picked.the-variants.{Is, NoLiteral}
+use Rattle.choice.specs.declared.found.Picked.{Picked}
+use Rattle.choice.specs.declared.found.Picked.the-variants.{Is, NoLiteral}
 use Rattle.counted.specs.Inner.State.{AllOnce, Counted}
 use Rattle.counted.specs.declared.walk.Bounds.{Bounds}
 

@@ -22,25 +22,26 @@ use Rattle.theory.specs.Record.{Record, Assignment, among, trueIn}
 use Rattle.theory.specs.Tests.{isOpen, inConflict}
 use Rattle.theory.specs.Laws.Tested.{open-e}
 use Rattle.record.specs.Found.{literal, onFound, last}
-use Rattle.rules.specs.Due.{onUnit, onPicked, lowest, firstOf, lowestUnit, firstMonotone, firstUnassigned, dueAssigned, dueDecide, dueMonotone, dueUnit, dueConflict, due}
+use Rattle.choice.specs.First.{onPicked, firstOf, firstUnassigned}
+use Rattle.rules.specs.Due.{onUnit, lowest, lowestUnit, firstMonotone, dueAssigned, dueDecide, dueMonotone, dueUnit, dueConflict, due}
 use Rattle.record.specs.Trail.{Trail, recordOf}
 use Rattle.record.specs.Search.{Search}
 use Rattle.record.specs.Apply.{append, kindOf, chosen, apply}
-use Rattle.rules.specs.Preferred.{decides, firstOpen, proposalOf}
+use Rattle.choice.specs.Preferred.{decides, firstOpen, proposalOf}
 use Rattle.record.specs.Inner.Ready.{Bound}
 use Rattle.record.specs.Inner.Tables.{Values}
 use Rattle.rules.specs.Inner.Tabled.{Sorts}
-use Rattle.rules.specs.Inner.Variables.{lowestIn, openIn, preferredIn}
+use Rattle.choice.specs.Inner.Variables.{lowestIn, openIn, preferredIn}
 use Rattle.record.specs.Laws.Accepted.{accepted-bound, kept-true, kept-written, prefix-few}
-use Rattle.rules.specs.Laws.Searches.{first-same, first-found, first-open}
-use Rattle.rules.specs.Laws.VariablesMean.{free-in, unassigned-means, lowest-means, preferred-means}
+use Rattle.choice.specs.Laws.Searches.{first-same, first-found, first-open}
+use Rattle.choice.specs.Laws.VariablesMean.{free-in, unassigned-means, lowest-means, preferred-means}
 use Rattle.rules.specs.Laws.WhyDue.{Reason, backtrack-exists, fail, unit, monotone, decide, backtrack-forall, succeed, reason}
 use Rattle.record.specs.declared.rule.Rule.{Rule}
 use Rattle.record.specs.declared.rule.Rule.the-variants.{BacktrackExists, Fail, Unit, Monotone, Decide, BacktrackForall, Succeed}
 use Rattle.record.specs.declared.found.Found.{Found}
 use Rattle.record.specs.declared.found.Found.the-variants.{At, Nothing}
-use Rattle.rules.specs.declared.found.Picked.{Picked}
-use Rattle.rules.specs.declared.found.Picked.the-variants.{Is, NoLiteral}
+use Rattle.choice.specs.declared.found.Picked.{Picked}
+use Rattle.choice.specs.declared.found.Picked.the-variants.{Is, NoLiteral}
 use Rattle.rules.specs.declared.found.UnitFound.{UnitFound}
 use Rattle.rules.specs.declared.found.UnitFound.the-variants.{On, NoUnit}
 use Rattle.session.specs.Laws.Accepted.{fitting}

@@ -23,14 +23,14 @@ use Rattle.theory.specs.Tests.{inConflict}
 use Rattle.record.specs.Found.{literal, onFound}
 use Rattle.rules.specs.Due.{lowest, candidate, isUnit, lowestUnit, dueMonotone, dueConflict, due}
 use Rattle.record.specs.Trail.{trail, recordOf}
-use Rattle.rules.specs.Inner.ByLiteral.{statusIn}
+use Rattle.tables.specs.Inner.ByLiteral.{statusIn}
 use Rattle.rules.specs.Inner.Clauses.{levelBy}
 use Rattle.record.specs.Inner.Ready.{Bound}
 use Rattle.rules.specs.Inner.Tabled.{Tabled}
 use Rattle.record.specs.Laws.Accepted.{kept-true, kept-written, prefix-few, accepted-bound}
 use Rattle.rules.specs.Laws.ClausesReady.{kept-tabled}
 use Rattle.rules.specs.Laws.ClausesMean.{Meant}
-use Rattle.rules.specs.Laws.VariablesMean.{level-at}
+use Rattle.tables.specs.Laws.Levels.{level-at}
 use Rattle.record.specs.declared.rule.Rule.{Rule}
 use Rattle.record.specs.declared.rule.Rule.the-variants.{Unit}
 use Rattle.record.specs.declared.found.Found.{Found}

@@ -21,7 +21,7 @@ use Rattle.formula.specs.Laws.Permuted.{quantifier}
 use Rattle.formula.specs.Laws.Prefix.{stands, fresh-at}
 use Rattle.theory.specs.Record.{among, assigned}
 use Rattle.theory.specs.Laws.Assignment.{put, assigned-among}
-use Rattle.rules.specs.Inner.ByLiteral.{statusIn}
+use Rattle.tables.specs.Inner.ByLiteral.{statusIn}
 use Rattle.counted.specs.Fresh.{bit}
 use Rattle.counted.specs.Inner.Entry.{Setting, Taking, Unsetting}
 use Rattle.counted.specs.Inner.Index.{Index, listed, partAt}

@@ -28,20 +28,21 @@ use Rattle.theory.specs.Record.{Assignment, among, assigned}
 use Rattle.theory.specs.Laws.Assignment.{assigned-var}
 use Rattle.theory.specs.Tests.{unassignedE, unassignedU, occurs, oneSign, monotone, untrueOf}
 use Rattle.record.specs.Found.{literal}
-use Rattle.rules.specs.Due.{onPicked, firstOf, firstMonotone, firstUnassigned, dueMonotone}
+use Rattle.choice.specs.First.{onPicked, firstOf, firstUnassigned}
+use Rattle.rules.specs.Due.{firstMonotone, dueMonotone}
 use Rattle.record.specs.Trail.{trail, recordOf}
-use Rattle.rules.specs.Inner.ByLiteral.{statusIn}
+use Rattle.tables.specs.Inner.ByLiteral.{statusIn}
 use Rattle.record.specs.Inner.Ready.{Bound, OnBlock}
 use Rattle.rules.specs.Inner.Tabled.{Sorted, as-false, as-true, as-existential, as-universal, Sorts}
 use Rattle.record.specs.Laws.Accepted.{accepted-bound, kept-true}
 use Rattle.record.specs.Laws.Last.{last-kind}
 use Rattle.record.specs.Laws.Records.{kept-room}
-use Rattle.rules.specs.Laws.Searches.{first-same}
+use Rattle.choice.specs.Laws.Searches.{first-same}
 use Rattle.rules.specs.Laws.VariablesMean.{monotone-own, monotone-opposite}
 use Rattle.record.specs.declared.rule.Rule.{Rule}
 use Rattle.record.specs.declared.rule.Rule.the-variants.{Monotone, Decide}
-use Rattle.rules.specs.declared.found.Picked.{Picked}
-use Rattle.rules.specs.declared.found.Picked.the-variants.{Is, NoLiteral}
+use Rattle.choice.specs.declared.found.Picked.{Picked}
+use Rattle.choice.specs.declared.found.Picked.the-variants.{Is, NoLiteral}
 use Rattle.counted.specs.Inner.Index.{Index, partAt, listed}
 use Rattle.counted.specs.Inner.Live.{someZero, Within}
 use Rattle.counted.specs.Inner.Standing.{clausesOf, SetOn}

@@ -12,10 +12,10 @@ use Rattle.formula.specs.Block.{refusal}
 use Rattle.formula.specs.Laws.Clauses.{clauses-in}
 use Rattle.formula.specs.Laws.Named.{in-named, known-up}
 use Rattle.theory.specs.Record.{among}
-use Rattle.rules.specs.Inner.ByLiteral.{statusIn, Statuses}
+use Rattle.tables.specs.Inner.ByLiteral.{statusIn, Statuses}
 use Rattle.record.specs.Inner.Ready.{Bound}
 use Rattle.record.specs.Inner.Tables.{Values, Quantifiers, Written}
-use Rattle.rules.specs.Inner.Levels.{Levels}
+use Rattle.tables.specs.Inner.Levels.{Levels}
 use Rattle.record.specs.Laws.Accepted.{accepted-bound, held-on}
 use Rattle.rules.specs.Laws.ClausesReady.{sorts, once-consistent}
 use Rattle.memory.specs.Memory.{Memory}

@@ -22,7 +22,7 @@ use Rattle.formula.specs.Laws.Prefix.{existential-neg, universal-neg}
 use Rattle.theory.specs.Record.{Assignment, assigned}
 use Rattle.theory.specs.Tests.{unassignedE, unassignedU}
 use Rattle.theory.specs.Laws.Assignment.{assigned-neg, put-new, put, assigned-own}
-use Rattle.rules.specs.Inner.ByLiteral.{statusIn}
+use Rattle.tables.specs.Inner.ByLiteral.{statusIn}
 use Rattle.rules.specs.Inner.Tabled.{Sorted, as-false, Sorts, as-true, as-existential, as-universal}
 use Rattle.counted.specs.Laws.Held.{place-same}
 use Rattle.counted.specs.Laws.Keys.{false-own, other-open, other-openU, true-other}

@@ -17,7 +17,7 @@ use Rattle.record.specs.Trail.{recordOf, noEntry}
 use Rattle.record.specs.Search.{Search, recordIn}
 use Rattle.rules.specs.Due.{due}
 use Rattle.record.specs.Apply.{append, flip, apply}
-use Rattle.rules.specs.Preferred.{proposalOf}
+use Rattle.choice.specs.Preferred.{proposalOf}
 use Rattle.record.specs.Inner.Ready.{KeptIn, Fitting}
 use Rattle.record.specs.Laws.Records.{kept-room, kept-more, record-get, record-put, record-cut}
 use Rattle.rules.specs.Laws.Steps.{due-fits}

@@ -14,7 +14,7 @@ use Rattle.words.specs.Laws.Bools.{look}
 use Rattle.formula.specs.Formula.{Formula}
 use Rattle.theory.specs.Record.{trueIn, Entry}
 use Rattle.rules.specs.Due.{due}
-use Rattle.rules.specs.Preferred.{proposalOf}
+use Rattle.choice.specs.Preferred.{proposalOf}
 use Rattle.record.specs.Search.{Search, recordIn}
 use Rattle.record.specs.Trail.{wiped, Trail, wipedTrail}
 use Rattle.record.specs.Inner.Ready.{Binds, KeptIn, Room}

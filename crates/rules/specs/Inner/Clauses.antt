@@ -10,13 +10,14 @@ use Rattle.words.specs.Lists.{any}
 use Rattle.formula.specs.Limits.{limits}
 use Rattle.formula.specs.Block.{badEnds}
 use Rattle.record.specs.Found.{onFound, literal}
-use Rattle.rules.specs.Due.{onPicked, lowest}
+use Rattle.choice.specs.First.{onPicked}
+use Rattle.rules.specs.Due.{lowest}
 use Rattle.record.specs.Inner.Tables.{places}
 use Rattle.rules.specs.declared.clauses.Look.{Look}
 use Rattle.rules.specs.declared.found.Deciding.{Deciding}
 use Rattle.rules.specs.declared.found.Deciding.the-variants.{Conflict, Quiet}
-use Rattle.rules.specs.declared.found.Picked.{Picked}
-use Rattle.rules.specs.declared.found.Picked.the-variants.{Is, NoLiteral}
+use Rattle.choice.specs.declared.found.Picked.{Picked}
+use Rattle.choice.specs.declared.found.Picked.the-variants.{Is, NoLiteral}
 use Rattle.rules.specs.declared.found.UnitFound.{UnitFound}
 use Rattle.rules.specs.declared.found.UnitFound.the-variants.{On, NoUnit}
 

@@ -10,7 +10,7 @@ use Rattle.theory.specs.Record.{Record, Assignment, trueIn}
 use Rattle.theory.specs.Tests.{unassignedE, unassignedU}
 use Rattle.record.specs.Found.{last}
 use Rattle.record.specs.Inner.Tables.{Values}
-use Rattle.rules.specs.Inner.ByLiteral.{statusIn}
+use Rattle.tables.specs.Inner.ByLiteral.{statusIn}
 use Rattle.record.specs.Inner.Buffers.{lastKind}
 
 -- no variable is both true and false

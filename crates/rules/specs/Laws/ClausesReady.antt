@@ -18,7 +18,7 @@ use Rattle.formula.specs.Formula.{clausesFrom, existential, universal, level}
 use Rattle.formula.specs.Block.{twice}
 use Rattle.theory.specs.Tests.{untrueOf, unassignedE, unassignedU, inConflict}
 use Rattle.record.specs.Inner.Tables.{signOf, valueIn, Values}
-use Rattle.rules.specs.Inner.Levels.{Levels}
+use Rattle.tables.specs.Inner.Levels.{Levels}
 use Rattle.record.specs.Trail.{Trail, recordOf}
 use Rattle.record.specs.Inner.Ready.{Ready, Bound, Kept}
 use Rattle.record.specs.Laws.Records.{kept-good, kept-room}
@@ -36,9 +36,10 @@ use Rattle.theory.specs.Record.{Assignment, among, assigned, literals}
 use Rattle.record.specs.Found.{onFound}
 use Rattle.rules.specs.Due.{lowest, lowestUnit}
 use Rattle.rules.specs.Inner.Clauses.{Placed, Clauses, levelBy, conflictBy, onDeciding, lowestUnitBy, decidingBy}
-use Rattle.rules.specs.Inner.ByLiteral.{statusBy, statusIn, trueBy, Statuses}
+use Rattle.tables.specs.Inner.ByLiteral.{statusBy, statusIn, Statuses}
+use Rattle.rules.specs.Inner.Occurrences.{trueBy}
 use Rattle.rules.specs.Inner.Tabled.{Consistent, Tabled, Sorted, as-false, as-true, as-existential, as-universal, Sorts}
-use Rattle.rules.specs.Laws.VariablesMean.{level-at}
+use Rattle.tables.specs.Laws.Levels.{level-at}
 use Rattle.rules.specs.Laws.ClausesMean.{Meant, untrue-means, lowest-conflict-means, lowest-unit-means}
 use Rattle.rules.specs.declared.found.Deciding.{Deciding}
 use Rattle.rules.specs.declared.found.Deciding.the-variants.{Conflict, Quiet}

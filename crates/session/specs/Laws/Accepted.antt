@@ -21,7 +21,7 @@ use Rattle.theory.specs.Tests.{isOpen}
 use Rattle.record.specs.declared.rule.State.{State}
 use Rattle.record.specs.declared.rule.State.the-variants.{Open, Valid, Unsat}
 use Rattle.rules.specs.Due.{due}
-use Rattle.rules.specs.Preferred.{decides}
+use Rattle.choice.specs.Preferred.{decides}
 use Rattle.record.specs.Trail.{Trail, recordOf}
 use Rattle.record.specs.Search.{search, recordIn}
 use Rattle.record.specs.Check.{badRecord}

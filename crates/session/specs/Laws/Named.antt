@@ -20,13 +20,14 @@ use Rattle.record.specs.declared.rule.Rule.{Rule}
 use Rattle.record.specs.declared.rule.Rule.the-variants.{BacktrackExists, Fail, Unit, Monotone, Decide, BacktrackForall, Succeed}
 use Rattle.record.specs.declared.found.Found.{Found}
 use Rattle.record.specs.declared.found.Found.the-variants.{At, Nothing}
-use Rattle.rules.specs.declared.found.Picked.{Picked}
-use Rattle.rules.specs.declared.found.Picked.the-variants.{Is, NoLiteral}
+use Rattle.choice.specs.declared.found.Picked.{Picked}
+use Rattle.choice.specs.declared.found.Picked.the-variants.{Is, NoLiteral}
 use Rattle.rules.specs.declared.found.UnitFound.{UnitFound}
 use Rattle.rules.specs.declared.found.UnitFound.the-variants.{On, NoUnit}
 use Rattle.record.specs.Trail.{recordOf}
 use Rattle.record.specs.Found.{literal, onFound, last}
-use Rattle.rules.specs.Due.{onUnit, onPicked, lowest, candidate, isUnit, lowestUnit, firstMonotone, firstUnassigned, dueAssigned, dueDecide, dueMonotone, dueUnit, dueConflict, due}
+use Rattle.choice.specs.First.{onPicked, firstUnassigned}
+use Rattle.rules.specs.Due.{onUnit, lowest, candidate, isUnit, lowestUnit, firstMonotone, dueAssigned, dueDecide, dueMonotone, dueUnit, dueConflict, due}
 use Rattle.record.specs.Inner.Ready.{Fitting}
 use Rattle.record.specs.Laws.Accepted.{prefix-length}
 use Rattle.rules.specs.Laws.Searches.{lowest-at}

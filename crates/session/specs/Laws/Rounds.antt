@@ -22,7 +22,7 @@ use Rattle.record.specs.Trail.{Trail, recordOf}
 use Rattle.record.specs.Search.{Search, search, reached}
 use Rattle.record.specs.Found.{literal}
 use Rattle.rules.specs.Due.{due}
-use Rattle.rules.specs.Preferred.{proposalOf}
+use Rattle.choice.specs.Preferred.{proposalOf}
 use Rattle.record.specs.Apply.{apply}
 use Rattle.record.specs.Inner.Ready.{OnBlock}
 use Rattle.record.specs.Laws.Untouched.{apply-lengths}

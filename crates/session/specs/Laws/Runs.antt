@@ -15,10 +15,10 @@ use Rattle.record.specs.declared.rule.State.{State}
 use Rattle.record.specs.declared.rule.State.the-variants.{Open, Valid, Unsat}
 use Rattle.record.specs.declared.rule.Rule.{Rule}
 use Rattle.rules.specs.Due.{due}
-use Rattle.rules.specs.Preferred.{firstOpen, decides, proposalOf}
+use Rattle.choice.specs.Preferred.{firstOpen, decides, proposalOf}
 use Rattle.record.specs.Search.{Search, recordIn, standing, standingOf}
 use Rattle.record.specs.Inner.Ready.{KeptIn, Permitted}
-use Rattle.rules.specs.Laws.Searches.{first-open}
+use Rattle.choice.specs.Laws.Searches.{first-open}
 use Rattle.rules.specs.Laws.Steps.{due-step, due-keeps}
 use Rattle.session.specs.Refusals.{over}
 use Rattle.memory.specs.Reasons.{Why, why, told}

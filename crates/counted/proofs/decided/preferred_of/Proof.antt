@@ -4,7 +4,7 @@ use Prim.Native.Nat.{_-_, _≤_}
 use native.Mathlib.Omega.{arith}
 use lib.ListN.{length, drop}
 use borrow.Author.Needs.{needs}
-use Rattle.rules.specs.Due.{firstOf}
+use Rattle.choice.specs.First.{firstOf}
 use Rattle.counted.specs.Inner.Decided.{pickedAt}
 use Rattle.counted.specs.Laws.Decided.{preferred-here, preferred-past, preferred-end}
 use Rattle.counted.proofs.decided.preferred_of.Statement.{statement}

@@ -6,7 +6,7 @@ use lib.IntN.{pos}
 use lib.ListN.{length, getD}
 use borrow.Author.Needs.{needs}
 use Rattle.formula.specs.Laws.Limits.{literals-are}
-use Rattle.rules.specs.Inner.ByLiteral.{statusIn}
+use Rattle.tables.specs.Inner.ByLiteral.{statusIn}
 use Rattle.counted.proofs.Counting.{placed}
 use Rattle.counted.proofs.Tallied.{Tallied, opens-small, tally-begin, tally-end, tally-turn, trues-small}
 use Rattle.counted.proofs.numbers.count_clause.Statement.{statement}

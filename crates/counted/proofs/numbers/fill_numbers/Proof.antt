@@ -3,7 +3,7 @@ use Prim.Native.Nat.{_-_, _≤_}
 use native.Mathlib.Omega.{arith}
 use lib.ListN.{length}
 use borrow.Author.Needs.{needs}
-use Rattle.rules.specs.Inner.ByLiteral.{statusIn}
+use Rattle.tables.specs.Inner.ByLiteral.{statusIn}
 use Rattle.rules.specs.Laws.ClausesReady.{placed-part}
 use Rattle.counted.proofs.Filling.{Filling, clause-ends, clause-starts, fill-begin, fill-end, fill-turn, short-part}
 use Rattle.counted.proofs.numbers.fill_numbers.Statement.{statement}

@@ -1,7 +1,7 @@
 -- The tables are filled from the block and the record; from there on the search goes.
 use borrow.Author.Needs.{needs}
 use Rattle.record.specs.Laws.Accepted.{held-on}
-use Rattle.rules.specs.Laws.Blanks.{new-blank}
+use Rattle.tables.specs.Laws.Blanks.{new-blank}
 use Rattle.counted.specs.Laws.Start.{prefix-bound, prefix-written, clauses-few, index-long, numbers-lent, begins, ends-so, index-so}
 use Rattle.counted.proofs.search.search.Statement.{statement}
 use Rattle.counted.proofs.search.search.Tie as tie

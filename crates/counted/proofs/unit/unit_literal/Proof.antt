@@ -5,9 +5,9 @@ use native.Mathlib.Omega.{arith}
 use lib.ListN.{length, getD}
 use borrow.Author.Needs.{needs}
 use Rattle.formula.specs.Laws.Limits.{variables-are}
-use Rattle.rules.specs.Inner.ByLiteral.{statusIn}
+use Rattle.tables.specs.Inner.ByLiteral.{statusIn}
 use Rattle.rules.specs.Inner.Clauses.{levelBy}
-use Rattle.rules.specs.declared.found.Picked.the-variants.{Is}
+use Rattle.choice.specs.declared.found.Picked.the-variants.{Is}
 use Rattle.counted.proofs.Counting.{placed}
 use Rattle.counted.proofs.Passing.{Looked, look-begin, look-turn, unit-hit, unit-miss}
 use Rattle.counted.proofs.unit.unit_literal.Statement.{statement}

@@ -8,7 +8,7 @@ use borrow.Author.Needs.{needs}
 use Rattle.words.specs.Outcomes.{same-answer, same-memory}
 use Rattle.record.specs.Trail.{trail}
 use Rattle.rules.specs.Inner.Lent.{LentTables}
-use Rattle.rules.specs.Laws.Blanks.{new-blank}
+use Rattle.tables.specs.Laws.Blanks.{new-blank}
 use Rattle.listing.specs.Page.{pageMemory}
 use Rattle.listing.proofs.Pages.{Round, narrow, begins, still-on, full, pauses, wins, loses, stops}
 use Rattle.listing.proofs.sheets.fill.Statement.{statement}

@@ -2,7 +2,7 @@
 use Prim.Native.Nat.{_+_, _-_}
 use native.Mathlib.Omega.{arith}
 use Rattle.formula.specs.Laws.Limits.{variables-are}
-use Rattle.rules.proofs.Sorted.{Wiping, wiping-begin, wiping-turn, wiping-end}
+use Rattle.rules.proofs.Wiping.{Wiping, wiping-begin, wiping-turn, wiping-end}
 use Rattle.rules.proofs.by_literal.wipe.Statement.{statement}
 use Rattle.rules.proofs.by_literal.wipe.Tie as tie
 

@@ -7,7 +7,7 @@ use native.Mathlib.Omega.{arith}
 use lib.ListN.{length, take, drop}
 use borrow.Author.Needs.{needs}
 use Rattle.formula.specs.Formula.{clausesFrom}
-use Rattle.rules.specs.Inner.ByLiteral.{statusIn}
+use Rattle.tables.specs.Inner.ByLiteral.{statusIn}
 use Rattle.rules.specs.Inner.Clauses.{Placed, levelBy, sightFrom, sightWith, decidingBy}
 use Rattle.rules.specs.declared.found.Deciding.the-variants.{Quiet}
 use Rattle.rules.specs.declared.found.UnitFound.the-variants.{NoUnit}

@@ -4,7 +4,7 @@ use mathlib.Core.Path.{_≡_, refl, sym, _∙_, ap}
 use native.Mathlib.Omega.{arith}
 use lib.ListN.{length, drop}
 use borrow.Author.Needs.{needs}
-use Rattle.rules.specs.Inner.ByLiteral.{statusIn}
+use Rattle.tables.specs.Inner.ByLiteral.{statusIn}
 use Rattle.rules.specs.Inner.Clauses.{keepsBy, conflictBy}
 use Rattle.words.specs.Lists.{any}
 use Rattle.words.specs.Laws.Lists.{any-found, any-past, any-ended}

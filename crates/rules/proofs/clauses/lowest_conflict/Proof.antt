@@ -6,7 +6,7 @@ use lib.ListN.{length, drop}
 use borrow.Author.Needs.{needs}
 use Rattle.formula.specs.Formula.{clausesFrom}
 use Rattle.rules.specs.Due.{lowest}
-use Rattle.rules.specs.Inner.ByLiteral.{statusIn}
+use Rattle.tables.specs.Inner.ByLiteral.{statusIn}
 use Rattle.rules.specs.Inner.Clauses.{conflictBy}
 use Rattle.rules.specs.Laws.ClausesReady.{placed-part}
 use Rattle.rules.proofs.Walk.{Turn, turn, Walk, walk-on, walk-stop, walk-end, lowest-hit, lowest-miss, lowest-none}

@@ -1,7 +1,8 @@
 -- A clause with a true literal is passed over, any other is marked.
 use mathlib.Core.Path.{sym, _∙_}
 use borrow.Author.Needs.{needs}
-use Rattle.rules.specs.Inner.ByLiteral.{statusIn, trueBy}
+use Rattle.tables.specs.Inner.ByLiteral.{statusIn}
+use Rattle.rules.specs.Inner.Occurrences.{trueBy}
 use Rattle.rules.proofs.Occurring.{counts, passes}
 use Rattle.rules.proofs.occurrences.count.Statement.{statement}
 use Rattle.rules.proofs.occurrences.count.Tie as tie

@@ -8,7 +8,8 @@ use borrow.Author.Needs.{needs}
 use borrow.Author.Tests.{eq-eqb, ne-eqb}
 use Rattle.words.specs.Lists.{any}
 use Rattle.words.specs.Laws.Lists.{any-found, any-past, any-ended}
-use Rattle.rules.specs.Inner.ByLiteral.{statusIn, trueBy}
+use Rattle.tables.specs.Inner.ByLiteral.{statusIn}
+use Rattle.rules.specs.Inner.Occurrences.{trueBy}
 use Rattle.rules.proofs.occurrences.has_true.Statement.{statement}
 use Rattle.rules.proofs.occurrences.has_true.Tie as tie
 

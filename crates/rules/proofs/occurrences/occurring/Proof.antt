@@ -3,7 +3,8 @@ use Prim.Native.Nat.{_-_}
 use native.Mathlib.Omega.{arith}
 use lib.ListN.{length}
 use borrow.Author.Needs.{needs}
-use Rattle.rules.specs.Inner.ByLiteral.{statusIn, trueBy}
+use Rattle.tables.specs.Inner.ByLiteral.{statusIn}
+use Rattle.rules.specs.Inner.Occurrences.{trueBy}
 use Rattle.rules.specs.Laws.ClausesReady.{placed-part}
 use Rattle.rules.proofs.Walk.{Turn, turn}
 use Rattle.rules.proofs.Occurring.{Counting, count-begin, count-next, count-end}

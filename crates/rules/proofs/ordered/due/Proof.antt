@@ -7,7 +7,7 @@ use Rattle.record.specs.Trail.{trail, recordOf}
 use Rattle.record.specs.Inner.Ready.{Bound}
 use Rattle.rules.specs.Inner.Tabled.{Tabled}
 use Rattle.record.specs.Laws.Records.{kept-room}
-use Rattle.rules.specs.Laws.Blanks.{same-blank}
+use Rattle.tables.specs.Laws.Blanks.{same-blank}
 use Rattle.rules.specs.Laws.ClausesReady.{sorts}
 use Rattle.record.specs.Laws.Accepted.{held-on, accepted-bound}
 use Rattle.rules.specs.Laws.ClausesReady.{kept-tabled}

@@ -5,9 +5,9 @@ use Rattle.formula.specs.Formula.{Formula, formulaOf, prefixOf}
 use Rattle.theory.specs.Record.{Record, trueIn}
 use Rattle.rules.specs.Due.{onUnit, dueConflict, dueMonotone, due}
 use Rattle.rules.specs.Inner.Clauses.{levelBy, onDeciding, decidingBy}
-use Rattle.rules.specs.Inner.ByLiteral.{statusIn}
+use Rattle.tables.specs.Inner.ByLiteral.{statusIn}
 use Rattle.record.specs.Inner.Ready.{formula, Ready}
-use Rattle.rules.specs.Inner.Levels.{Levels}
+use Rattle.tables.specs.Inner.Levels.{Levels}
 use Rattle.rules.specs.Inner.Tabled.{Sorts}
 use Rattle.rules.specs.Laws.ClausesReady.{ready-clauses, deciding-ready}
 use Rattle.record.specs.Laws.Accepted.{accepted-ready, formula-is}

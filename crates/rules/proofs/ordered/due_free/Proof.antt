@@ -2,10 +2,10 @@
 use mathlib.Core.Path.{_≡_, sym, _∙_}
 use borrow.Author.Needs.{needs}
 use Rattle.theory.specs.Record.{Record, trueIn}
-use Rattle.rules.specs.Due.{firstUnassigned}
+use Rattle.choice.specs.First.{firstUnassigned}
 use Rattle.record.specs.Inner.Tables.{Values}
 use Rattle.rules.specs.Laws.Searches.{monotone-unassigned}
-use Rattle.rules.specs.Laws.VariablesMean.{unassigned-means}
+use Rattle.choice.specs.Laws.VariablesMean.{unassigned-means}
 use Rattle.rules.proofs.ordered.due_free.Statement.{statement}
 use Rattle.rules.proofs.ordered.due_free.Tie as tie
 

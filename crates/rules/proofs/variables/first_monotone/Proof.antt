@@ -8,9 +8,10 @@ use borrow.Author.Needs.{needs}
 use native.Mathlib.Omega.{arith}
 use Rattle.formula.specs.Limits.{limits}
 use Rattle.rules.specs.Inner.Variables.{monotoneIn}
-use Rattle.rules.specs.declared.found.Picked.the-variants.{Is}
+use Rattle.choice.specs.declared.found.Picked.the-variants.{Is}
 use Rattle.record.specs.Laws.Filled.{placed, bound-named, word-small}
-use Rattle.rules.proofs.First.{Left, left-begin, left-end, left-here, left-past, monotone-set, monotone-plus, monotone-minus, monotone-mixed}
+use Rattle.choice.specs.Laws.Left.{Left, left-begin, left-end, left-here, left-past}
+use Rattle.rules.proofs.Monotone.{monotone-set, monotone-plus, monotone-minus, monotone-mixed}
 use Rattle.rules.proofs.variables.first_monotone.Statement.{statement}
 use Rattle.rules.proofs.variables.first_monotone.Tie as tie
 

@@ -2,7 +2,7 @@
 use native.Mathlib.Omega.{arith}
 use borrow.Author.Needs.{needs}
 use Rattle.words.specs.Outcomes.{same-answer}
-use Rattle.rules.specs.Laws.Blanks.{new-blank}
+use Rattle.tables.specs.Laws.Blanks.{new-blank}
 use Rattle.session.specs.Laws.Rounds.{run-stops, run-over, run-moves, steps-within}
 use Rattle.session.proofs.Exits.{on-memory}
 use Rattle.session.proofs.Session.run.Statement.{statement}

@@ -5,7 +5,7 @@ use mathlib.Core.Path.{sym, _∙_}
 use Rattle.formula.specs.Limits.{limits}
 use Rattle.words.specs.Outcomes.{same-answer}
 use Rattle.record.specs.Laws.Accepted.{held-on}
-use Rattle.rules.specs.Laws.Blanks.{new-blank}
+use Rattle.tables.specs.Laws.Blanks.{new-blank}
 use Rattle.session.specs.Laws.Accepted.{fitting, guarded}
 use Rattle.session.specs.Laws.Named.{tellable}
 use Rattle.session.proofs.Exits.{on-memory, step-stops, step-last, step-improper, step-moves}

@@ -6,7 +6,7 @@ use lib.IntN.{pos}
 use lib.ListN.{getD}
 use borrow.Author.Needs.{needs}
 use Rattle.formula.specs.Laws.Limits.{variables-are}
-use Rattle.rules.specs.Inner.ByLiteral.{statusIn}
+use Rattle.tables.specs.Inner.ByLiteral.{statusIn}
 use Rattle.rules.specs.Inner.Clauses.{levelBy, Shown}
 use Rattle.rules.proofs.Looks.{with-false, with-true, with-first, with-second, with-universal}
 use Rattle.rules.proofs.clauses.Look.with.Statement.{statement}

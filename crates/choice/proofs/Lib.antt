@@ -1,0 +1,4 @@
+-- Laws for the proofs of the functions.
+
+-- a loop that looks for the first
+pub mod First

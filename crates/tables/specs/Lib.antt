@@ -1,0 +1,8 @@
+-- The tables that a search is lent. To be read in this order.
+
+-- what each function promises, and that it leaves one result
+pub mod Promises
+-- what functions say to each other
+pub mod Inner
+-- what is proved about the definitions, for use in proofs
+pub mod Laws
