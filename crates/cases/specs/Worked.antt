@@ -22,7 +22,7 @@ use Rattle.choice.specs.First.{firstOf, firstUnassigned}
 use Rattle.rules.specs.Due.{due, lowest, candidate, lowestUnit, firstMonotone}
 use Rattle.choice.specs.Preferred.{firstOpen}
 use Rattle.record.specs.Trail.{recordOf, wiped, entries}
-use Rattle.record.specs.Apply.{apply}
+use Rattle.applied.specs.Apply.{apply}
 use Rattle.record.specs.Check.{badEntries, badRecord}
 use Rattle.session.specs.declared.Session.{Session}
 use Rattle.session.specs.declared.Answer.{Answer}

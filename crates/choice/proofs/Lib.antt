@@ -1,4 +1,4 @@
 -- Laws for the proofs of the functions.
 
--- a loop that looks for the first
+-- the tests of a word, for the loops that look for the first
 pub mod First

@@ -7,7 +7,7 @@ ghost use Rattle.formula.specs.Formula.{prefixOf};
 ghost use Rattle.theory.specs.Record.{among};
 ghost use Rattle.record.specs.Trail.{trail};
 ghost use Rattle.record.specs.Search as rules;
-ghost use Rattle.record.specs.Apply.{apply};
+ghost use Rattle.applied.specs.Apply.{apply};
 ghost use Rattle.choice.specs.Preferred.{proposalOf};
 ghost use Rattle.record.specs.declared.rule.State.the-variants.{Open};
 ghost use Rattle.counted.specs.Inner.Decided.{openAt, preferredAt, firstIn, Enacting};
@@ -104,8 +104,8 @@ pub(crate) fn enact(
             let lowest = levels[words::size(first.0)];
             let literal = preferred_of(preferred, first, n, statuses, levels, lowest);
             let kind = quantifiers[words::size(literal.0)];
-            record::append(lits, kinds, count, kind, literal)
+            applied::append(lits, kinds, count, kind, literal)
         }
-        Picked::NoLiteral => record::apply(block, lits, kinds, count, rule, Literal(0)),
+        Picked::NoLiteral => applied::apply(block, lits, kinds, count, rule, Literal(0)),
     }
 }

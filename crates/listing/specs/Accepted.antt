@@ -16,7 +16,7 @@ use Rattle.record.specs.declared.rule.State.the-variants.{Open}
 use Rattle.record.specs.Trail.{wipedTrail}
 use Rattle.record.specs.Inner.Ready.{Binds}
 use Rattle.record.specs.Laws.Accepted.{prefix-length, accepted-proper}
-use Rattle.record.specs.Laws.Untouched.{wiped-blank}
+use Rattle.record.specs.Laws.Wiped.{wiped-blank}
 use Rattle.listing.specs.declared.Paged.the-variants.{Page}
 use Rattle.listing.specs.Opening.{openings, openingEnd}
 use Rattle.listing.specs.Page.{Sheet, sheet, pageOf, sheetOf, PageMemory}

@@ -5,8 +5,6 @@ pub mod Wiped
 pub mod Records
 pub mod Last
 pub mod Good
--- which places a rule writes
-pub mod Untouched
 -- tables by variable
 pub mod Filled
 -- checked input

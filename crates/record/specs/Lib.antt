@@ -1,10 +1,9 @@
--- The record in its lent buffers, and what one rule does to them. To be read in this order.
+-- The record in its lent buffers. To be read in this order.
 
--- the record and the search; what a search finds; one rule applied; row 12
+-- the record and the search; what a search finds; row 12
 pub mod Trail
 pub mod Search
 pub mod Found
-pub mod Apply
 pub mod Check
 -- what each function promises, and that it leaves one result
 pub mod Promises

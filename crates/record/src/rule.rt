@@ -20,13 +20,6 @@ pub enum Rule {
     Succeed,
 }
 
-// What a rule does to the record: one entry more, a cut at a place with the opposite put there, or nothing and the search's end.
-pub enum Move {
-    Append { kind: u8, literal: Literal },
-    Flip { at: usize },
-    End(State),
-}
-
 // Where a rule leaves a search: the record's length, and the state.
 pub struct Reached {
     pub count: usize,

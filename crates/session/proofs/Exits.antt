@@ -18,7 +18,7 @@ use Rattle.record.specs.declared.rule.Rule.{Rule}
 use Rattle.rules.specs.Due.{due}
 use Rattle.record.specs.Search.{search, reached}
 use Rattle.record.specs.Trail.{recordOf, Trail, wiped, wipedTrail}
-use Rattle.record.specs.Apply.{apply}
+use Rattle.applied.specs.Apply.{apply}
 use Rattle.record.specs.Laws.Accepted.{kept-true}
 use Rattle.session.specs.declared.Revision.{Revision}
 use Rattle.session.specs.declared.Session.{Session}

@@ -16,7 +16,7 @@ use Rattle.memory.specs.Memory.{Memory, places}
 use Rattle.memory.specs.Refusals.{openRefusal}
 use Rattle.session.specs.Refused.{unless-to}
 use Rattle.session.specs.Outcome.{session, openOutcome}
-use Rattle.record.specs.Laws.Untouched.{wiped-blank, wiped-other}
+use Rattle.record.specs.Laws.Wiped.{wiped-blank, wiped-other}
 use Rattle.record.specs.Trail.{entryAt, noEntry}
 
 pub record Fresh (b : List ℤ) (rev : Revision) (s : Session) (m m′ : Memory) : Type 0 where

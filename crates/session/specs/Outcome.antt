@@ -11,7 +11,7 @@ use Rattle.record.specs.declared.rule.State.the-variants.{Open}
 use Rattle.rules.specs.Due.{due}
 use Rattle.record.specs.Trail.{wiped, wipedTrail}
 use Rattle.record.specs.Search.{Search, search, recordIn}
-use Rattle.record.specs.Apply.{apply}
+use Rattle.applied.specs.Apply.{apply}
 use Rattle.session.specs.declared.Revision.{Revision}
 use Rattle.session.specs.declared.Session.{Session}
 use Rattle.session.specs.declared.Answer.{Answer}

@@ -14,9 +14,9 @@ use Rattle.record.specs.declared.rule.Rule.{Rule}
 use Rattle.rules.specs.Due.{due}
 use Rattle.record.specs.Search.{Search, standingOf}
 use Rattle.record.specs.Trail.{recordOf, entryAt, noEntry}
-use Rattle.record.specs.Apply.{apply}
+use Rattle.applied.specs.Apply.{apply}
 use Rattle.record.specs.Inner.Ready.{KeptIn}
-use Rattle.record.specs.Laws.Untouched.{apply-lengths, Elsewhere, apply-untouched, apply-zeros, apply-ended}
+use Rattle.applied.specs.Laws.Untouched.{apply-lengths, Elsewhere, apply-untouched, apply-zeros, apply-ended}
 use Rattle.rules.specs.Laws.Steps.{due-step, due-keeps}
 use Rattle.session.specs.declared.Revision.{Revision}
 use Rattle.session.specs.declared.Session.{Session}

@@ -106,7 +106,7 @@ impl Session {
             return Stepped::Not(improper);
         }
         let reason = memory::tell(reasons, rule, count);
-        let reached = record::apply(block, lits, kinds, count, rule, proposal);
+        let reached = applied::apply(block, lits, kinds, count, rule, proposal);
         Stepped::Next {
             session: moved(reached, revision + 1),
             reason: reason,

@@ -77,7 +77,7 @@ fn advance(
     let rule = rules::due(block, lits, kinds, count, levels, statuses);
     let literal = proposal(block, lits, count, rule, preferred, levels);
     let reason = memory::tell(reasons, rule, count);
-    let reached = record::apply(block, lits, kinds, count, rule, literal);
+    let reached = applied::apply(block, lits, kinds, count, rule, literal);
     Advanced {
         reached: reached,
         reason: reason,

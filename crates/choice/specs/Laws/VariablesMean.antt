@@ -1,6 +1,6 @@
 -- What the searches by the tables mean: a variable is unassigned exactly if its place holds 0, and the lowest level of an unassigned variable is that
 -- of the first.
-use Prim.Native.Nat.{ℕ, suc, _-_}
+use Prim.Native.Nat.{ℕ, suc}
 use mathlib.Core.Path.{_≡_, refl, sym, _∙_, ap, subst}
 use mathlib.Core.Logic.{_⊎_, inl, inr}
 use mathlib.Core.Bool.{Bool, true, false, cond, not, _&&_, _||_, or-comm}

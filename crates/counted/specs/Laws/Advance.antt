@@ -14,9 +14,10 @@ use Rattle.theory.specs.Record.{among}
 use Rattle.rules.specs.Due.{due}
 use Rattle.record.specs.Trail.{trail, recordOf, wiped}
 use Rattle.record.specs.Search.{Search, search, reached}
-use Rattle.record.specs.Apply.{apply}
+use Rattle.applied.specs.Apply.{apply}
 use Rattle.choice.specs.Preferred.{decides, proposalOf}
-use Rattle.record.specs.Inner.Ready.{Fitting, Kept, KeptIn}
+use Rattle.record.specs.Inner.Ready.{Kept, KeptIn}
+use Rattle.applied.specs.Inner.Fits.{Fitting}
 use Rattle.record.specs.Laws.Accepted.{accepted-bound, kept-written, prefix-few}
 use Rattle.record.specs.Laws.Records.{kept-room, kept-named}
 use Rattle.record.specs.Laws.Wiped.{wiped-before}

@@ -26,7 +26,7 @@ use Rattle.choice.specs.First.{onPicked, firstOf, firstUnassigned}
 use Rattle.rules.specs.Due.{onUnit, lowest, lowestUnit, firstMonotone, dueAssigned, dueDecide, dueMonotone, dueUnit, dueConflict, due}
 use Rattle.record.specs.Trail.{Trail, recordOf}
 use Rattle.record.specs.Search.{Search}
-use Rattle.record.specs.Apply.{append, kindOf, chosen, apply}
+use Rattle.applied.specs.Apply.{append, kindOf, chosen, apply}
 use Rattle.choice.specs.Preferred.{decides, firstOpen, proposalOf}
 use Rattle.record.specs.Inner.Ready.{Bound}
 use Rattle.record.specs.Inner.Tables.{Values}

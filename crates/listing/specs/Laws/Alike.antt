@@ -16,9 +16,10 @@ use Rattle.record.specs.declared.rule.Rule.the-variants.{BacktrackExists, Fail,
 use Rattle.record.specs.Trail.{recordOf, noEntry}
 use Rattle.record.specs.Search.{Search, recordIn}
 use Rattle.rules.specs.Due.{due}
-use Rattle.record.specs.Apply.{append, flip, apply}
+use Rattle.applied.specs.Apply.{append, flip, apply}
 use Rattle.choice.specs.Preferred.{proposalOf}
-use Rattle.record.specs.Inner.Ready.{KeptIn, Fitting}
+use Rattle.record.specs.Inner.Ready.{KeptIn}
+use Rattle.applied.specs.Inner.Fits.{Fitting}
 use Rattle.record.specs.Laws.Records.{kept-room, kept-more, record-get, record-put, record-cut}
 use Rattle.rules.specs.Laws.Steps.{due-fits}
 use Rattle.session.specs.Run.{Trip, trip, whileOpen, advance, runFrom}

@@ -21,7 +21,8 @@ use Rattle.record.specs.Inner.Ready.{Binds, KeptIn, Room}
 use Rattle.words.specs.Laws.Stores.{sets-outside}
 use Rattle.record.specs.Laws.Wiped.{wiped-length, wiped-inside, wiped-outside}
 use Rattle.record.specs.Laws.Records.{kept-good}
-use Rattle.record.specs.Laws.Untouched.{apply-lengths, wiped-other, apply-untouched}
+use Rattle.record.specs.Laws.Wiped.{wiped-other}
+use Rattle.applied.specs.Laws.Untouched.{apply-lengths, apply-untouched}
 use Rattle.session.specs.Run.{advance, runFrom}
 use Rattle.session.specs.Refusals.{over}
 use Rattle.session.specs.Laws.Accepted.{over-open}

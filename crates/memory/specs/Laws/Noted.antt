@@ -10,9 +10,9 @@ use lib.Seq.{getD-set-other}
 use Rattle.record.specs.declared.rule.Rule.{Rule}
 use Rattle.record.specs.declared.rule.Rule.the-variants.{BacktrackExists, Fail, Unit, Monotone, Decide, BacktrackForall, Succeed}
 use Rattle.record.specs.Search.{Search}
-use Rattle.record.specs.Apply.{apply}
+use Rattle.applied.specs.Apply.{apply}
 use Rattle.record.specs.Laws.Wiped.{wiped-length, wiped-inside, wiped-outside}
-use Rattle.record.specs.Laws.Untouched.{Elsewhere}
+use Rattle.applied.specs.Laws.Untouched.{Elsewhere}
 use Rattle.memory.specs.Reasons.{noted}
 
 pub noted-length : (rule : Rule) (n : ℕ) (ws : List ℕ) → length (noted rule n ws) ≡ length ws

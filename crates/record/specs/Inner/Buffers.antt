@@ -1,10 +1,10 @@
 -- What the functions over the two buffers say to each other.
-use Prim.Native.Nat.{ℕ, zero, suc, _≤_, _<_}
+use Prim.Native.Nat.{ℕ, zero, suc}
 use mathlib.Core.Path.{_≡_}
 use mathlib.Core.Bool.{Bool, false, cond, not, _&&_, _||_}
 use mathlib.Core.List.{List}
 use lib.Dec.{eqb, ltb}
-use lib.IntN.{ℤ, pos, natAbs}
+use lib.IntN.{ℤ}
 use lib.ListN.{length, getD, take}
 use Rattle.words.specs.Lists.{any}
 use Rattle.formula.specs.Block.{noVariable}
@@ -12,12 +12,6 @@ use Rattle.record.specs.Trail.{Trail}
 use Rattle.record.specs.Inner.Ready.{Bound, Room}
 use Rattle.record.specs.declared.found.Found.{Found}
 use Rattle.record.specs.declared.found.Found.the-variants.{At, Nothing}
-
--- a record of n entries can be cut at i: the place is in it, and its literal has an opposite
-pub record Cuttable (i n : ℕ) (t : Trail) : Type 0 where
-  pub inside : i < n
-  pub room : Room n t
-  pub small : natAbs (getD (t .lits) i (pos 0)) ≤ 2147483647
 
 -- buffers whose kinds can be looked at: the record's words name variables of the prefix
 pub record KindsLent (p : List ℤ) (t : Trail) (n : ℕ) : Type 0 where

@@ -1,11 +1,11 @@
 -- Checked input: what the guard of a call has shown when a rule is looked for. The parts of an accepted block (which passes its rows), and a record
 -- that passes rows 11 and 12.
-use Prim.Native.Nat.{ℕ, _≤_, _<_}
+use Prim.Native.Nat.{ℕ, _≤_}
 use mathlib.Core.Path.{_≡_}
 use mathlib.Core.Logic.{_⊎_}
 use mathlib.Core.Bool.{true, false}
 use mathlib.Core.List.{List}
-use lib.IntN.{ℤ, pos, natAbs}
+use lib.IntN.{ℤ, natAbs}
 use lib.ListN.{length}
 use Rattle.words.specs.Lists.{any}
 use Rattle.formula.specs.Limits.{Limits, limits}
@@ -15,12 +15,8 @@ use Rattle.theory.specs.Record.{Assignment}
 use Rattle.theory.specs.Tests.{isOpen}
 use Rattle.record.specs.Trail.{Trail}
 use Rattle.record.specs.Search.{Search}
-use Rattle.record.specs.Apply.{moveOf}
 use Rattle.record.specs.Check.{badRecord}
 use Rattle.record.specs.Inner.Tables.{Written}
-use Rattle.record.specs.declared.rule.Rule.{Rule}
-use Rattle.record.specs.declared.rule.Move.{Move}
-use Rattle.record.specs.declared.rule.Move.the-variants.{Append, Flip, End}
 
 -- ---- the block's parts
 -- the formula of a prefix, clause ends and literal words
@@ -69,16 +65,6 @@ pub record OnBlock (L : Limits) (b : List ℤ) (t : Trail) (n : ℕ) : Type 0 wh
 pub record HeldOn (b ls : List ℤ) (n : ℕ) : Type 0 where
   pub block : refusal limits b ≡ 0
   pub written : Written ls n
-
--- a move has a place to write to: a cut is inside the record, and an entry more is inside the buffers
-abbrev pub MoveFits : List ℤ → ℕ → Move → Type 0
-MoveFits p n (Append k x) = n < length p
-MoveFits p n (Flip i) = i < n
-MoveFits p n (End t) = n ≤ n
-
--- and so a rule, whatever the proposal
-abbrev pub Fitting : List ℤ → ℕ → Rule → Type 0
-Fitting p n rule = MoveFits p n (moveOf p rule (pos 0))
 
 -- a proposal that Decide may take: 0, or an open literal
 abbrev pub Permitted : List ℤ → Assignment → ℤ → Type 0

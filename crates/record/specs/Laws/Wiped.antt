@@ -6,9 +6,10 @@ use mathlib.Core.List.{List}
 use native.Mathlib.Decide.{decLe}
 use native.Mathlib.Numerals.{add-one}
 use native.Mathlib.Omega.{arith}
+use lib.IntN.{pos}
 use lib.ListN.{length, getD, take, set, replicate, length-replicate}
 use lib.Seq.{length-sets}
-use Rattle.record.specs.Trail.{wiped}
+use Rattle.record.specs.Trail.{Trail, noEntry, entryAt, wiped, wipedTrail}
 use Rattle.words.specs.Laws.Stores.{take-sets, sets-out, sets-outside, sets-inside}
 
 module _ {A : Type 0} (z : A) (l : List A) (from to : ℕ) where
@@ -44,3 +45,10 @@ module _ {A : Type 0} (z : A) (l : List A) (from to : ℕ) where
   pub wiped-past : length l ≤ from → wiped z l from to ≡ l
   unfolding wiped
   wiped-past h = sets-out (replicate (to - from) z) l from h
+
+-- ---- one place of a trail
+pub wiped-other : (t : Trail) (from to j : ℕ) → (j < from) ⊎ (to ≤ j) → entryAt (wipedTrail t from to) j ≡ entryAt t j
+wiped-other t from to j h = rw (wiped-outside (pos 0) (t .lits) from to j (pos 0) h, wiped-outside 0 (t .kinds) from to j 0 h)
+
+pub wiped-blank : (t : Trail) (from to j : ℕ) → from ≤ j → j < to → entryAt (wipedTrail t from to) j ≡ noEntry
+wiped-blank t from to j h k = rw (wiped-inside (pos 0) (t .lits) from to j h k, wiped-inside 0 (t .kinds) from to j h k)

@@ -3,7 +3,7 @@
 use mathlib.Core.Path.{_≡_, _∙_, ap, refl}
 use mathlib.Core.Bool.{false, Bool, true, cond, not, and-false}
 use mathlib.Core.List.{List}
-use Prim.Native.Nat.{ℕ, _+_, _-_, _≤_, zero, suc, _<_, zero-le}
+use Prim.Native.Nat.{ℕ, _+_, _≤_, zero, suc, _<_, zero-le}
 use native.Mathlib.Omega.{arith}
 use lib.Dec.{eqb, ltb}
 use lib.IntN.{ℤ, natAbs, pos, negsuc, negℤ}

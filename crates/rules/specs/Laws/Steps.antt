@@ -24,16 +24,17 @@ use Rattle.record.specs.Trail.{put, recordOf}
 use Rattle.record.specs.Search.{Search, recordIn, standingOf}
 use Rattle.record.specs.Found.{literal}
 use Rattle.rules.specs.Due.{due}
-use Rattle.record.specs.Apply.{flip, kindOf, chosen, moveOf, moved, apply}
-use Rattle.record.specs.Inner.Ready.{KeptIn, MoveFits, Fitting, Permitted}
+use Rattle.applied.specs.Apply.{flip, kindOf, chosen, moveOf, moved, apply}
+use Rattle.record.specs.Inner.Ready.{KeptIn, Permitted}
+use Rattle.applied.specs.Inner.Fits.{MoveFits, Fitting}
 use Rattle.record.specs.Laws.Wiped.{wiped-length}
 use Rattle.record.specs.Laws.Records.{kept-good, kept-room, kept-more, record-length, record-get, record-at, record-put, record-cut}
 use Rattle.record.specs.Laws.Last.{Last, last-none, last-at}
 use Rattle.record.specs.Laws.Good.{passed-good, good-kept}
 use Rattle.rules.specs.Laws.WhyDue.{Reason, backtrack-exists, fail, unit, monotone, decide, backtrack-forall, succeed, reason}
 use Rattle.record.specs.declared.rule.Rule.{Rule}
-use Rattle.record.specs.declared.rule.Move.{Move}
-use Rattle.record.specs.declared.rule.Move.the-variants.{Append, Flip}
+use Rattle.applied.specs.declared.moves.Move.{Move}
+use Rattle.applied.specs.declared.moves.Move.the-variants.{Append, Flip}
 
 -- ---- Decide takes an open literal, with the kind of its quantifier
 chosen-open : (p : List ℤ) (ρ : Assignment) (l x : ℤ) → Permitted p ρ l → isOpen p ρ x ≡ true → isOpen p ρ (chosen l x) ≡ true

@@ -25,7 +25,8 @@ use Rattle.choice.specs.Preferred.{decides}
 use Rattle.record.specs.Trail.{Trail, recordOf}
 use Rattle.record.specs.Search.{search, recordIn}
 use Rattle.record.specs.Check.{badRecord}
-use Rattle.record.specs.Inner.Ready.{OnBlock, Fitting, Permitted}
+use Rattle.record.specs.Inner.Ready.{OnBlock, Permitted}
+use Rattle.applied.specs.Inner.Fits.{Fitting}
 use Rattle.record.specs.Laws.Accepted.{prefix-length, on-block}
 use Rattle.rules.specs.Laws.Steps.{due-fits}
 use Rattle.memory.specs.Laws.Opened.{opened, open-passes, buffers-room, reasons-room, room-buffers}

@@ -15,11 +15,12 @@ use Rattle.record.specs.declared.rule.Rule.{Rule}
 use Rattle.record.specs.declared.rule.Rule.the-variants.{BacktrackExists, Fail, Unit, Monotone, Decide, BacktrackForall, Succeed}
 use Rattle.record.specs.Trail.{Trail, recordOf, entryAt}
 use Rattle.record.specs.Search.{Search, recordIn}
-use Rattle.record.specs.Apply.{apply}
-use Rattle.record.specs.Inner.Ready.{Room, KeptIn, Fitting}
+use Rattle.applied.specs.Apply.{apply}
+use Rattle.record.specs.Inner.Ready.{Room, KeptIn}
+use Rattle.applied.specs.Inner.Fits.{Fitting}
 use Rattle.record.specs.Laws.Wiped.{wiped-inside}
 use Rattle.record.specs.Laws.Records.{kept-room, kept-more, room-less, record-more}
-use Rattle.record.specs.Laws.Untouched.{apply-untouched, apply-lengths}
+use Rattle.applied.specs.Laws.Untouched.{apply-untouched, apply-lengths}
 use Rattle.memory.specs.Reasons.{noted}
 use Rattle.memory.specs.Laws.Noted.{noted-untouched}
 

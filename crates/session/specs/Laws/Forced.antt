@@ -23,7 +23,7 @@ use Rattle.theory.specs.Laws.Tested.{unassignedE-i, unassignedU-i, UnitAt, unit
 use Rattle.record.specs.declared.rule.Rule.the-variants.{Unit}
 use Rattle.record.specs.Search.{Search, recordIn}
 use Rattle.rules.specs.Due.{due}
-use Rattle.record.specs.Apply.{apply}
+use Rattle.applied.specs.Apply.{apply}
 use Rattle.record.specs.Inner.Ready.{OnBlock}
 use Rattle.record.specs.Laws.Accepted.{prefix-length, accepted-binds}
 use Rattle.memory.specs.Reasons.{noted}

@@ -28,7 +28,7 @@ use Rattle.record.specs.Trail.{recordOf}
 use Rattle.record.specs.Found.{literal, onFound, last}
 use Rattle.choice.specs.First.{onPicked, firstUnassigned}
 use Rattle.rules.specs.Due.{onUnit, lowest, candidate, isUnit, lowestUnit, firstMonotone, dueAssigned, dueDecide, dueMonotone, dueUnit, dueConflict, due}
-use Rattle.record.specs.Inner.Ready.{Fitting}
+use Rattle.applied.specs.Inner.Fits.{Fitting}
 use Rattle.record.specs.Laws.Accepted.{prefix-length}
 use Rattle.rules.specs.Laws.Searches.{lowest-at}
 use Rattle.memory.specs.Memory.{Memory}

@@ -23,9 +23,9 @@ use Rattle.record.specs.Search.{Search, search, reached}
 use Rattle.record.specs.Found.{literal}
 use Rattle.rules.specs.Due.{due}
 use Rattle.choice.specs.Preferred.{proposalOf}
-use Rattle.record.specs.Apply.{apply}
+use Rattle.applied.specs.Apply.{apply}
 use Rattle.record.specs.Inner.Ready.{OnBlock}
-use Rattle.record.specs.Laws.Untouched.{apply-lengths}
+use Rattle.applied.specs.Laws.Untouched.{apply-lengths}
 use Rattle.record.specs.Laws.Accepted.{kept-true}
 use Rattle.session.specs.declared.Revision.{Revision}
 use Rattle.session.specs.declared.Session.{Session}

@@ -15,7 +15,7 @@ use Rattle.theory.specs.Record.{Entry, Record}
 use Rattle.record.specs.declared.rule.Rule.the-variants.{Unit}
 use Rattle.record.specs.Search.{Search, recordIn}
 use Rattle.rules.specs.Due.{due}
-use Rattle.record.specs.Apply.{apply}
+use Rattle.applied.specs.Apply.{apply}
 use Rattle.record.specs.Inner.Ready.{OnBlock}
 use Rattle.record.specs.Laws.Accepted.{prefix-length}
 use Rattle.memory.specs.Memory.{memoryOf}

@@ -1,7 +1,7 @@
 -- Each arm makes the move that `moveOf` says of its constructor.
 use borrow.Author.Needs.{needs}
-use Rattle.record.proofs.applied.move_of.Statement.{statement}
-use Rattle.record.proofs.applied.move_of.Tie as tie
+use Rattle.applied.proofs.applied.move_of.Statement.{statement}
+use Rattle.applied.proofs.applied.move_of.Tie as tie
 
 returns : tie.Need-returns
 returns c = rw (c .before .rule .given .1)

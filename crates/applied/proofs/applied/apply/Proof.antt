@@ -2,12 +2,12 @@
 use mathlib.Core.Path.{_≡_, sym, _∙_}
 use borrow.Author.Needs.{needs}
 use Rattle.formula.specs.Formula.{prefixOf}
 use Rattle.record.specs.Laws.Accepted.{prefix-few, accepted-bound}
-use Rattle.record.specs.Apply.{moveOf, apply}
+use Rattle.applied.specs.Apply.{moveOf, apply}
 use Rattle.record.specs.Laws.Records.{kept-more}
-use Rattle.record.proofs.Places.{cuttable, fitting}
-use Rattle.record.proofs.applied.apply.Statement.{statement}
-use Rattle.record.proofs.applied.apply.Tie as tie
+use Rattle.applied.proofs.Applying.{cuttable, fitting}
+use Rattle.applied.proofs.applied.apply.Statement.{statement}
+use Rattle.applied.proofs.applied.apply.Tie as tie
 
 -- the move is that of the block's prefix
 module _ (c : tie.After-move-of) where

@@ -7,9 +7,9 @@ use mir.Syntax.{w32}
 use mir.ValLaws.{toZ-ofZ}
 use borrow.Author.Needs.{needs, sfits-of}
 use Rattle.words.specs.Words.{opposite}
-use Rattle.record.proofs.Places.{flipped}
-use Rattle.record.proofs.buffers.flip.Statement.{statement}
-use Rattle.record.proofs.buffers.flip.Tie as tie
+use Rattle.applied.proofs.Applying.{flipped}
+use Rattle.applied.proofs.buffers.flip.Statement.{statement}
+use Rattle.applied.proofs.buffers.flip.Tie as tie
 
 returns : tie.Need-returns
 returns c =

@@ -4,9 +4,9 @@ use lib.IntN.{natAbs}
 use mir.Syntax.{w32}
 use mir.ValLaws.{toZ-ofZ}
 use borrow.Author.Needs.{needs, sfits-of}
-use Rattle.record.proofs.Places.{first-chosen, proposal-chosen}
-use Rattle.record.proofs.applied.chosen.Statement.{statement}
-use Rattle.record.proofs.applied.chosen.Tie as tie
+use Rattle.applied.proofs.Applying.{first-chosen, proposal-chosen}
+use Rattle.applied.proofs.applied.chosen.Statement.{statement}
+use Rattle.applied.proofs.applied.chosen.Tie as tie
 
 sized : (c : tie.After-size) → c .size .result ≡ natAbs (c .before .before .args .proposal .0)
 sized c =

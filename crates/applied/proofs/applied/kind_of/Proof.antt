@@ -5,16 +5,16 @@ use lib.Dec.{eqb}
 use lib.IntN.{natAbs}
 use lib.ListN.{getD}
 use borrow.Author.Tests.{eq-eqb, ne-eqb}
-use Rattle.record.specs.Apply.{kindOf}
+use Rattle.applied.specs.Apply.{kindOf}
 use mir.Syntax.{w32}
 use mir.ValLaws.{toZ-ofZ}
 use native.Mathlib.Omega.{arith}
 use borrow.Author.Needs.{needs}
 use Rattle.formula.specs.Laws.Limits.{variables-are}
-use Rattle.record.proofs.Places.{kind-by, kind-over}
+use Rattle.applied.proofs.Applying.{kind-by, kind-over}
 use Rattle.record.specs.Laws.Filled.{bound-written, quantifiers-of}
-use Rattle.record.proofs.applied.kind_of.Statement.{statement}
-use Rattle.record.proofs.applied.kind_of.Tie as tie
+use Rattle.applied.proofs.applied.kind_of.Statement.{statement}
+use Rattle.applied.proofs.applied.kind_of.Tie as tie
 
 -- the variable is the literal's
 variable : (c : tie.After-size) → c .size .result ≡ natAbs (c .before .before .before .args .literal .0)

@@ -9,24 +9,18 @@ use lib.IntN.{ℤ, pos}
 use lib.ListN.{length, length-set}
 use lib.Seq.{getD-set-other}
 use Rattle.theory.specs.Record.{Entry, entry}
 use Rattle.record.specs.Trail.{Trail, noEntry, entryAt, put, wipedTrail}
 use Rattle.record.specs.Search.{Search}
-use Rattle.record.specs.Apply.{moveOf, moved, apply}
-use Rattle.record.specs.Laws.Wiped.{wiped-length, wiped-inside, wiped-outside}
+use Rattle.applied.specs.Apply.{moveOf, moved, apply}
+use Rattle.record.specs.Laws.Wiped.{wiped-length, wiped-other, wiped-blank}
 use Rattle.record.specs.declared.rule.State.the-variants.{Open}
 use Rattle.record.specs.declared.rule.Rule.{Rule}
-use Rattle.record.specs.declared.rule.Move.{Move}
-use Rattle.record.specs.declared.rule.Move.the-variants.{Append, Flip, End}
+use Rattle.applied.specs.declared.moves.Move.{Move}
+use Rattle.applied.specs.declared.moves.Move.the-variants.{Append, Flip, End}
 
 -- ---- one place of a trail
 put-other : (t : Trail) (i j : ℕ) (e : Entry) → (j ≡ i → ⊥) → entryAt (put t i e) j ≡ entryAt t j
 put-other t i j e h = rw (getD-set-other (t .lits) i j (e .literal) (pos 0) h, getD-set-other (t .kinds) i j (e .kind) 0 h)
-
-pub wiped-other : (t : Trail) (from to j : ℕ) → (j < from) ⊎ (to ≤ j) → entryAt (wipedTrail t from to) j ≡ entryAt t j
-wiped-other t from to j h = rw (wiped-outside (pos 0) (t .lits) from to j (pos 0) h, wiped-outside 0 (t .kinds) from to j 0 h)
-
-pub wiped-blank : (t : Trail) (from to j : ℕ) → from ≤ j → j < to → entryAt (wipedTrail t from to) j ≡ noEntry
-wiped-blank t from to j h k = rw (wiped-inside (pos 0) (t .lits) from to j h k, wiped-inside 0 (t .kinds) from to j h k)
 
 -- place j is neither the last entry of a record of m entries nor, where there were n, one of those cut off
 abbrev pub Elsewhere : ℕ → ℕ → ℕ → Type 0

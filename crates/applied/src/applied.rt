@@ -2,19 +2,19 @@
 ghost use mathlib.Core.Path.{_≡_};
 ghost use Rattle.formula.specs.Limits.{limits};
 ghost use Rattle.formula.specs.Formula.{prefixOf};
 ghost use Rattle.record.specs.Trail.{trail};
 ghost use Rattle.record.specs.Found.{literal};
-ghost use Rattle.record.specs.Apply.{kindOf, moveOf};
-ghost use Rattle.record.specs.Promises.{ApplyPromise};
-ghost use Rattle.record.specs.Inner.Ready.{Bound, OnBlock, Fitting};
-ghost use Rattle.record.specs.Apply as spec;
+ghost use Rattle.applied.specs.Apply.{kindOf, moveOf};
+ghost use Rattle.applied.specs.Promises.{ApplyPromise};
+ghost use Rattle.record.specs.Inner.Ready.{Bound, OnBlock};
+ghost use Rattle.applied.specs.Inner.Fits.{Fitting};
+ghost use Rattle.applied.specs.Apply as spec;
 use crate::buffers::append;
 use crate::buffers::flip;
-use crate::rule::Move;
-use crate::rule::Reached;
-use crate::rule::Rule;
-use crate::rule::State;
-use crate::tables;
+use crate::moves::Move;
+use record::Reached;
+use record::Rule;
+use record::State;
 use words::Literal;
 
 // The proposed literal, or for proposal 0 the first unassigned variable, true.
@@ -33,7 +33,7 @@ fn kind_of(prefix: &[i32], literal: Literal) -> u8
     requires { ⌜ Bound (now prefix) ⌝ }
     ensures { λ r. ⌜ r ≡ kindOf (now (prefix .entry)) (literal .0) ⌝ }
 {
-    let quantifiers = tables::values_of(prefix, prefix.len());
+    let quantifiers = record::values_of(prefix, prefix.len());
     let v = words::size(literal.0);
     if formula::MAX_VARIABLES < v {
         return 1;

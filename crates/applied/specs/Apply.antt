@@ -7,15 +7,15 @@ use lib.IntN.{ℤ, pos, negℤ, natAbs}
 use lib.ListN.{getD}
 use Rattle.formula.specs.Formula.{universal}
 use Rattle.theory.specs.Record.{entry}
 use Rattle.record.specs.Trail.{put, wipedTrail}
 use Rattle.record.specs.Search.{Search, search}
 use Rattle.record.specs.declared.rule.State.{State}
 use Rattle.record.specs.declared.rule.State.the-variants.{Open, Valid, Unsat}
 use Rattle.record.specs.Found.{literal}
-use Rattle.record.specs.declared.rule.Move.{Move}
-use Rattle.record.specs.declared.rule.Move.the-variants.{Append, Flip, End}
+use Rattle.applied.specs.declared.moves.Move.{Move}
+use Rattle.applied.specs.declared.moves.Move.the-variants.{Append, Flip, End}
 use Rattle.record.specs.declared.rule.Rule.{Rule}
 use Rattle.record.specs.declared.rule.Rule.the-variants.{BacktrackExists, Fail, Unit, Monotone, Decide, BacktrackForall, Succeed}
 
 -- an entry more, with a kind
 abbrev pub append : ℕ → ℤ → Search → Search

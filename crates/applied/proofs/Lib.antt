@@ -1,0 +1,4 @@
+-- Laws for the proofs of the functions.
+
+-- one rule applied
+pub mod Applying
