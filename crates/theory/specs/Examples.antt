@@ -7,10 +7,11 @@ use Prim.Native.Nat.{ℕ, suc}
 use lib.IntN.{ℤ, pos, negℤ}
 use Rattle.words.specs.Lists.{In, here, there, all, any}
 use Rattle.words.specs.Words.{eqZ, mem}
-use Rattle.formula.specs.Formula.{Formula, existential, universal, change, levelOf, level}
+use Rattle.formula.specs.Formula.{Formula, existential, universal, change, levelOf, level, run, firstGroup}
 use Rattle.formula.specs.Truth.{asked, truth, true?}
 use Rattle.theory.specs.Record.{entry, Record, literals, Assignment, trueIn, assigned, without}
 use Rattle.theory.specs.Tests.{unassignedE, unassignedU, inConflict, conflict, unitOn, isOpen, allAssigned}
+use Rattle.theory.specs.Witness.{conflicting, shownTrue, signed, witnessOf}
 use Rattle.theory.specs.Rules.{State, going, valid, unsat, Step, fail, unit, decide-exists, decide-forall, backtrack-forall, succeed, Path, stop, take}
 
 -- the rules and one more: a literal that the test U finds in a clause may be appended, kind 0
@@ -65,6 +66,11 @@ caseJ-false = refl
 caseJ-path : Path caseJ 1 (going []) unsat
 unfolding conflict inConflict unassignedE existential assigned literals without all any mem eqZ
 caseJ-path = take (fail refl refl) stop
+
+-- [witness.values] the empty record shows the universal variable as false, against the clause in conflict: as true it would show nothing
+caseJ-shown : witnessOf caseJ [] ≡ n 1 ∷ []
+unfolding witnessOf conflicting shownTrue signed firstGroup run inConflict unassignedE existential assigned literals any mem eqZ
+caseJ-shown = refl
 
 -- Unit on a literal of either quantifier, tried before the look for a conflict
 unitEither : List ℤ → Assignment → List ℤ → ℤ → Bool

@@ -17,3 +17,7 @@ pub mod Moves
 pub mod Work
 -- never stuck: the last decision, the first unassigned variable
 pub mod First
+-- what an ended record shows: its entries at outer levels, the values of the first group
+pub mod Below
+pub mod Group
+pub mod Completed

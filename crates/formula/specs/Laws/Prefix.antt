@@ -210,7 +210,7 @@ module _ (p : List ℤ) (once : twice p ≡ false) where
 -- ---- a proper formula's prefix
 module _ {F : Formula} (ok : Proper F) where
   -- none of its words is 0
-  word-named : (q : ℤ) → In q (F .prefix) → 0 < natAbs q
+  pub word-named : (q : ℤ) → In q (F .prefix) → 0 < natAbs q
   word-named (pos zero) i = clash (mem-i i) (ok .named)
   word-named (pos (suc n)) i = omega arith
   word-named (negsuc n) i = omega arith

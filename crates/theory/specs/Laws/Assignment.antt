@@ -11,7 +11,7 @@ use Rattle.words.specs.Words.{eqZ, mem}
 use Rattle.words.specs.Laws.Words.{eqZ-refl, eqZ-eq, mem-append, negneg, natAbs-neg, var-cases, same-variable}
 use Rattle.formula.specs.Laws.Prefix.{stands, stands-mem}
 use Rattle.formula.specs.Truth.{asked}
-use Rattle.theory.specs.Record.{Entry, Record, literals, Assignment, among, trueIn, assigned}
+use Rattle.theory.specs.Record.{Entry, entry, Record, literals, Assignment, among, trueIn, assigned}
 use Rattle.theory.specs.Laws.Asked.{asked-exchange}
 
 -- l becomes true
@@ -84,6 +84,16 @@ pub literals-append : (a b : Record) → literals (a ++ b) ≡ literals a ++ lit
 unfolding literals
 literals-append [] b = refl
 literals-append (e ∷ a) b = ap (λ (xs : List ℤ). e .literal ∷ xs) (literals-append a b)
+
+-- a record of forced literals
+unfoldable pub given : List ℤ → Record
+given [] = []
+given (l ∷ ls) = entry 0 l ∷ given ls
+
+pub given-literals : (vs : List ℤ) → literals (given vs) ≡ vs
+unfolding given literals
+given-literals [] = refl
+given-literals (v ∷ vs) = ap (λ (ws : List ℤ). v ∷ ws) (given-literals vs)
 
 -- a record that grows by an entry
 pub true-snoc : (r : Record) (e : Entry) → trueIn (r ++ e ∷ []) ≡ put (e .literal) (trueIn r)

@@ -15,14 +15,14 @@ use Rattle.words.specs.Laws.Words.{own-opposite}
 use Rattle.formula.specs.Formula.{Formula, existential, universal}
 use Rattle.formula.specs.Block.{bothSigns}
 use Rattle.formula.specs.Proper.{Proper}
-use Rattle.formula.specs.Laws.Prefix.{stands, stands-bound, existential-var, existential-stands, existential-universal, existential-named, universal-var, universal-stands, level-var, both-signs, Ordered, ordered}
+use Rattle.formula.specs.Laws.Prefix.{stands-bound, existential-var, existential-stands, existential-universal, existential-named, universal-var, level-var, both-signs, Ordered, ordered}
 use Rattle.formula.specs.Truth.{asked}
 use Rattle.theory.specs.Record.{Assignment, assigned}
-use Rattle.theory.specs.Tests.{unassignedE, unitOn, absent, monotoneWide}
+use Rattle.theory.specs.Tests.{unassignedE}
 use Rattle.theory.specs.Laws.Assignment.{put, put-new, put-old, put-e, assigned-var, assigned-own, assigned-put, assigned-other, assigned-sign}
 use Rattle.theory.specs.Laws.Asked.{asked-first, asked-more}
 use Rattle.theory.specs.Laws.Value.{value, valueOf, value-set, value-ask}
-use Rattle.theory.specs.Laws.Tested.{unassignedE-e, unassignedU-e, unassignedE-i, unassignedU-i, unassignedE-put, unassignedU-put, untrue-put, true-put, Dead, UnitAt, unit-e, Absent, absent-e, absent-put, wide-e}
+use Rattle.theory.specs.Laws.Tested.{unassignedE-e, unassignedE-i, unassignedU-i, unassignedE-put, unassignedU-put, untrue-put, true-put, Dead, UnitAt, Absent, absent-put, MonotoneAt, monotone-stands}
 use Rattle.theory.specs.Laws.Decide.{Above, descend}
 use Rattle.theory.specs.Laws.Conflict.{dead-false}
 
@@ -33,7 +33,7 @@ OneSided P m l p ρ = asked (universal P l) (value p m (put l ρ)) (value p m (p
 -- ---- unit
 module _ (P : List ℤ) (C : List ℤ) (l : ℤ) where
   -- a literal above l leaves the clause a unit: it is not in the clause
-  unit-put : (ρ : Assignment) (q y : ℤ) → Above P l ρ q y → UnitAt P C l ρ → UnitAt P C l (put y ρ)
+  pub unit-put : (ρ : Assignment) (q y : ℤ) → Above P l ρ q y → UnitAt P C l ρ → UnitAt P C l (put y ρ)
   unit-put ρ q y v r = record {
     untrue = untrue-put C y ρ (out (stands-bound P q (v .bound))) (r .untrue);
     inside = r .inside;
@@ -65,6 +65,13 @@ module _ (P : List ℤ) (C : List ℤ) (l : ℤ) where
       set x e = rw e (assigned-sign l ρ l ∙ assigned-own l ρ)
 
 -- ---- monotone
+-- a literal above l leaves it monotone: more clauses have a true literal
+pub monotone-put : (P : List ℤ) (m : List (List ℤ)) (l : ℤ) (ρ : Assignment) (q y : ℤ) → Above P l ρ q y → MonotoneAt P m l ρ → MonotoneAt P m l (put y ρ)
+monotone-put P m l ρ q y v r = record {
+  unset = assigned-other y ρ l (rw (v .own) (v .apart)) ∙ r .unset;
+  spare = elim (r .spare) [ inl k ↦ inl (k .0, absent-put m (negℤ l) y ρ (k .1)) | inr k ↦ inr (k .0, absent-put m l y ρ (k .1)) ];
+}
+
 -- τ makes true each clause that ρ makes true
 abbrev Serves : List (List ℤ) → Assignment → Assignment → Type 0
 Serves m ρ τ = (C : List ℤ) → In C m → (any τ C ≡ true) ⊎ ((x : ℤ) → In x C → ρ x ≡ true → τ x ≡ true)
@@ -103,9 +110,8 @@ give-way m p ρ a b ha h = serves-value m p (put a ρ) (put b ρ) ha serves
 
 module _ (F : Formula) (ok : Proper F) (ρ : Assignment) where
   -- unit
-  pub unit-law : (C : List ℤ) → In C (F .clauses) → (l : ℤ) → unitOn (F .prefix) ρ C l ≡ true → valueOf F ρ ≡ valueOf F (put l ρ)
-  unit-law C i l h =
-      let r = unit-e (F .prefix) ρ C l h in
+  pub unit-law : (C : List ℤ) → In C (F .clauses) → (l : ℤ) → UnitAt (F .prefix) C l ρ → valueOf F ρ ≡ valueOf F (put l ρ)
+  unit-law C i l r =
       descend (F .prefix) (F .clauses) l (λ x y. x) (UnitAt (F .prefix) C l) (unit-put (F .prefix) C l) (λ τ q v t x y z w. refl) met
       (F .prefix) (ordered ok) (existential-stands (F .prefix) l (r .exists)) ρ (r .unset) r
     where
@@ -119,23 +125,18 @@ module _ (F : Formula) (ok : Proper F) (ρ : Assignment) where
           (λ b e. clash e (dead-false (F .prefix) (F .clauses) C i plain p o (put (negℤ l) τ) d))
           (λ b. clash b (existential-universal ok l (t .exists)))
 
-  -- monotone: a is the literal that no clause needs
-  spare : (l a : ℤ) → stands (F .prefix) l ≡ true → assigned ρ l ≡ false → absent (F .clauses) ρ a ≡ true
-      → ((τ : Assignment) (p : List ℤ) → Absent (F .clauses) a τ → OneSided (F .prefix) (F .clauses) l p τ) → valueOf F ρ ≡ valueOf F (put l ρ)
-  spare l a i u h met =
-      descend (F .prefix) (F .clauses) l (λ x y. x) (Absent (F .clauses) a) (λ τ q y v t. absent-put (F .clauses) a y τ t) (λ τ q v t x y z w. refl) (λ τ p o t. met τ p t)
-      (F .prefix) (ordered ok) i ρ u (absent-e (F .clauses) ρ a h)
-
-  pub monotone-law : (l : ℤ) → monotoneWide (F .prefix) (F .clauses) ρ l ≡ true → valueOf F ρ ≡ valueOf F (put l ρ)
-  monotone-law l h = elim (wide-e (F .prefix) (F .clauses) ρ l h) [
-    | inl k ↦
-        let (e, u) = unassignedE-e (F .prefix) ρ l (k .0) in
-        spare l (negℤ l) (existential-stands (F .prefix) l e) u (k .1) (λ τ p t. asked-first (universal (F .prefix) l) _ _
-        (λ b. give-way (F .clauses) p τ (negℤ l) l (assigned-sign l τ) t)
-        (λ b. clash b (existential-universal ok l e)))
-    | inr k ↦
-        let (e, u) = unassignedU-e (F .prefix) ρ l (k .0) in
-        spare l l (universal-stands (F .prefix) l e) u (k .1) (λ τ p t. asked-first (universal (F .prefix) l) _ _
-        (λ b. clash e b)
-        (λ b. give-way (F .clauses) p τ l (negℤ l) (λ x. sym (assigned-sign l τ x)) t))
-  ]
+  -- monotone
+  pub monotone-law : (l : ℤ) → MonotoneAt (F .prefix) (F .clauses) l ρ → valueOf F ρ ≡ valueOf F (put l ρ)
+  monotone-law l r =
+      descend (F .prefix) (F .clauses) l (λ x y. x) (MonotoneAt (F .prefix) (F .clauses) l) (monotone-put (F .prefix) (F .clauses) l) (λ τ q v t x y z w. refl) met
+      (F .prefix) (ordered ok) (monotone-stands (F .prefix) (F .clauses) l ρ r) ρ (r .unset) r
+    where
+      met : (τ : Assignment) (p : List ℤ) → Ordered (F .prefix) p → MonotoneAt (F .prefix) (F .clauses) l τ → OneSided (F .prefix) (F .clauses) l p τ
+      met τ p o t = elim (t .spare) [
+        | inl k ↦ asked-first (universal (F .prefix) l) _ _
+            (λ b. give-way (F .clauses) p τ (negℤ l) l (assigned-sign l τ) (k .1))
+            (λ b. clash b (existential-universal ok l (k .0)))
+        | inr k ↦ asked-first (universal (F .prefix) l) _ _
+            (λ b. clash (k .0) b)
+            (λ b. give-way (F .clauses) p τ l (negℤ l) (λ x. sym (assigned-sign l τ x)) (k .1))
+      ]

@@ -3,21 +3,23 @@
 -- end to the last decision of its kind, and there only the opposite can matter.
 use mathlib.Core.Path.{_≡_, refl, sym, _∙_, ap}
 use mathlib.Core.Bool.{Bool, true, false, not}
-use mathlib.Core.List.{[], _∷_, _++_, append-nil, append-assoc}
+use mathlib.Core.List.{List, [], _∷_, _++_, append-nil, append-assoc}
 use Prim.Native.Nat.{ℕ, zero, suc}
 use lib.Dec.{eqb}
 use lib.IntN.{ℤ, negℤ}
 use Rattle.words.specs.Laws.Bools.{clash, and-l, and-r, not-t}
-use Rattle.words.specs.Lists.{all}
+use Rattle.words.specs.Lists.{In, all}
 use Rattle.words.specs.Laws.Lists.{past, all-append}
 use Rattle.formula.specs.Formula.{Formula}
 use Rattle.formula.specs.Laws.Prefix.{existential-universal}
 use Rattle.formula.specs.Proper.{Proper}
 use Rattle.formula.specs.Truth.{asked}
 use Rattle.theory.specs.Record.{Entry, entry, Record, Assignment, trueIn, without, forced}
+use Rattle.theory.specs.Tests.{isOpen}
 use Rattle.theory.specs.Rules.{State, going, valid, unsat, MonotoneTest, Within, StepBy, backtrack-exists, fail, unit, monotone, decide-exists, decide-forall, backtrack-forall, succeed, PathBy, stop, take}
 use Rattle.theory.specs.Laws.Assignment.{put, after, true-append}
 use Rattle.theory.specs.Laws.Value.{valueOf}
+use Rattle.theory.specs.Laws.Tested.{UnitAt, unit-e, open-neg, MonotoneAt, monotone-e}
 use Rattle.theory.specs.Laws.Decide.{decide-law}
 use Rattle.theory.specs.Laws.Conflict.{conflict-law, leaf-law}
 use Rattle.theory.specs.Laws.Forced.{unit-law, monotone-law}
@@ -29,9 +31,22 @@ worth (suc zero) x y = asked false x y
 worth (suc (suc zero)) x y = asked true x y
 worth (suc (suc (suc k))) x y = x
 
--- an entry, put in at ρ, carries the value at ρ
-abbrev pub Carries : Formula → Assignment → Entry → Type 0
-Carries F ρ e = valueOf F ρ ≡ worth (e .kind) (valueOf F (put (e .literal) ρ)) (valueOf F (put (negℤ (e .literal)) ρ))
+-- why a literal of a kind stands where it does: it was open there, or Unit or Monotone forced it
+pub data Placed (F : Formula) (ρ : Assignment) (l : ℤ) : ℕ → Type 0 where
+  chosen : {k : ℕ} → isOpen (F .prefix) ρ l ≡ true → Placed F ρ l k
+  by-unit : (C : List ℤ) → In C (F .clauses) → UnitAt (F .prefix) C l ρ → Placed F ρ l 0
+  by-monotone : MonotoneAt (F .prefix) (F .clauses) l ρ → Placed F ρ l 0
+
+-- a decision was open, and so was its opposite
+placed-flip : {F : Formula} {ρ : Assignment} {l : ℤ} {k : ℕ} → eqb k 0 ≡ false → Placed F ρ l k → Placed F ρ (negℤ l) 0
+placed-flip {F} {ρ} {l} d (chosen h) = chosen (open-neg (F .prefix) ρ l h)
+placed-flip d (by-unit C i u) = clash refl d
+placed-flip d (by-monotone u) = clash refl d
+
+-- an entry, put in at ρ, carries the value at ρ; how it was placed is kept for what an ended record shows
+pub record Carries (F : Formula) (ρ : Assignment) (e : Entry) : Type 0 where
+  pub value : valueOf F ρ ≡ worth (e .kind) (valueOf F (put (e .literal) ρ)) (valueOf F (put (negℤ (e .literal)) ρ))
+  pub placed : Placed F ρ (e .literal) (e .kind)
 
 -- so does each entry of a list, put in after those before it
 pub data Carried (F : Formula) : Assignment → Record → Type 0 where
@@ -57,7 +72,7 @@ carried-snoc F ρ (x ∷ s) e (more k ks) h = more k (carried-snoc F (put (x .li
 
 -- ---- going back from a record worth v
 -- the kind of the decisions that are flipped: existential ones at false, universal ones at true
-abbrev flipped : Bool → ℕ
+abbrev pub flipped : Bool → ℕ
 flipped false = 1
 flipped true = 2
 
@@ -82,18 +97,18 @@ decision true = refl
 
 module _ (F : Formula) (v : Bool) where
   -- with no entry of the kind the worth at the end is the worth at the start
-  passed-up : (ρ : Assignment) (s : Record) → Carried F ρ s → without (flipped v) s ≡ true → valueOf F (after ρ s) ≡ v → valueOf F ρ ≡ v
+  pub passed-up : (ρ : Assignment) (s : Record) → Carried F ρ s → without (flipped v) s ≡ true → valueOf F (after ρ s) ≡ v → valueOf F ρ ≡ v
   unfolding after without all
   passed-up ρ [] none h w = w
   passed-up ρ (e ∷ s) (more c ks) h w =
       let z = passed-up (put (e .literal) ρ) s ks (and-r (not (eqb (e .kind) (flipped v))) (without (flipped v) s) h) w in
-      c ∙ rw z (passes v (e .kind) _ (not-t (eqb (e .kind) (flipped v)) (and-l (not (eqb (e .kind) (flipped v))) (without (flipped v) s) h)))
+      c .value ∙ rw z (passes v (e .kind) _ (not-t (eqb (e .kind) (flipped v)) (and-l (not (eqb (e .kind) (flipped v))) (without (flipped v) s) h)))
 
   -- at the last one the opposite, forced, carries the value before it
   flip : (ρ : Assignment) (a b : Record) (l : ℤ) → Carried F ρ (a ++ entry (flipped v) l ∷ b) → without (flipped v) b ≡ true
       → valueOf F (after ρ (a ++ entry (flipped v) l ∷ b)) ≡ v → Carried F ρ (a ++ entry 0 (negℤ l) ∷ [])
   unfolding after worth
-  flip ρ [] b l (more c ks) h w = more {e = entry 0 (negℤ l)} (c ∙ rw (passed-up (put l ρ) b ks h w) (hands v _)) none
+  flip ρ [] b l (more c ks) h w = more {e = entry 0 (negℤ l)} (record { value = c .value ∙ rw (passed-up (put l ρ) b ks h w) (hands v _); placed = placed-flip (decision v) (c .placed) }) none
   flip ρ (x ∷ a) b l (more c ks) h w = more c (flip (put (x .literal) ρ) a b l ks h w)
 
 -- ---- the invariant, rule by rule
@@ -138,10 +153,15 @@ module _ (F : Formula) (r0 : Record) where
     unfolding worth
     holds-step {r} i (backtrack-exists c a b l e h) = invariant-cut start false a b l i e h (conflict-law F (trueIn r) ok c)
     holds-step {r} i (fail c h) = invariant-end start false i h (conflict-law F (trueIn r) ok c)
-    holds-step {r} i (unit q C j l h) = invariant-grow (entry 0 l) i (unit-law F ok (trueIn r) C j l h)
-    holds-step {r} i (monotone q l h) = invariant-grow (entry 0 l) i (monotone-law F ok (trueIn r) l (within .wide (F .prefix) (F .clauses) (trueIn r) l h))
-    holds-step {r} i (decide-exists q l o e) = invariant-grow (entry 1 l) i (rw (existential-universal ok l e) at (decide-law F ok (trueIn r) l o))
-    holds-step {r} i (decide-forall q l o e) = invariant-grow (entry 2 l) i (rw e at (decide-law F ok (trueIn r) l o))
+    holds-step {r} i (unit q C j l h) =
+        let u = unit-e (F .prefix) (trueIn r) C l h in
+        invariant-grow (entry 0 l) i (record { value = unit-law F ok (trueIn r) C j l u; placed = by-unit C j u })
+    holds-step {r} i (monotone q l h) =
+        let u = monotone-e (F .prefix) (F .clauses) (trueIn r) l (within .wide (F .prefix) (F .clauses) (trueIn r) l h) in
+        invariant-grow (entry 0 l) i (record { value = monotone-law F ok (trueIn r) l u; placed = by-monotone u })
+    holds-step {r} i (decide-exists q l o e) =
+        invariant-grow (entry 1 l) i (record { value = rw (existential-universal ok l e) at (decide-law F ok (trueIn r) l o); placed = chosen o })
+    holds-step {r} i (decide-forall q l o e) = invariant-grow (entry 2 l) i (record { value = rw e at (decide-law F ok (trueIn r) l o); placed = chosen o })
     holds-step {r} i (backtrack-forall q f a b l e h) = invariant-cut start true a b l i e h (leaf-law F (trueIn r) q f)
     holds-step {r} i (succeed q f h) = invariant-end start true i h (leaf-law F (trueIn r) q f)
 

@@ -17,7 +17,7 @@ use Rattle.formula.specs.Block.{twice}
 use Rattle.theory.specs.Record.{entry, Record, trueIn, assigned, Entry, literals}
 use Rattle.theory.specs.Rules.{State, going, verdict, MonotoneTest, Within, StepBy, backtrack-exists, fail, unit, monotone, decide-exists, decide-forall, backtrack-forall, succeed, valid, unsat, PathBy, stop, take}
 use Rattle.theory.specs.Start.{suits, allSuit, Good}
-use Rattle.theory.specs.Laws.Tested.{unassignedE-e, unassignedU-e, unit-e, open-e, wide-e}
+use Rattle.theory.specs.Laws.Tested.{unit-e, open-e, monotone-e}
 use Rattle.theory.specs.Laws.Assignment.{assigned-neg, assigned-among, literals-append}
 
 -- what a rule makes of the record r
@@ -47,10 +47,9 @@ unfolding suits
 move w F (backtrack-exists c a b l e h) = cuts 1 a b l refl e
 move w F (fail c h) = ends false
 move w F {r} (unit q C j l h) = let u = unit-e (F .prefix) (trueIn r) C l h in grows 0 l (u .unset) (or-l (universal (F .prefix) l) (u .exists))
-move w F {r} (monotone q l h) = elim (wide-e (F .prefix) (F .clauses) (trueIn r) l (w .wide (F .prefix) (F .clauses) (trueIn r) l h)) [
-  | inl k ↦ let (e, u) = unassignedE-e (F .prefix) (trueIn r) l (k .0) in grows 0 l u (or-l (universal (F .prefix) l) e)
-  | inr k ↦ let (e, u) = unassignedU-e (F .prefix) (trueIn r) l (k .0) in grows 0 l u (or-r (existential (F .prefix) l) e)
-]
+move w F {r} (monotone q l h) =
+    let u = monotone-e (F .prefix) (F .clauses) (trueIn r) l (w .wide (F .prefix) (F .clauses) (trueIn r) l h) in
+    grows 0 l (u .unset) (elim (u .spare) [ inl k ↦ or-l (universal (F .prefix) l) (k .0) | inr k ↦ or-r (existential (F .prefix) l) (k .0) ])
 move w F {r} (decide-exists q l o e) = grows 1 l (open-e (F .prefix) (trueIn r) l o .unset) e
 move w F {r} (decide-forall q l o e) = grows 2 l (open-e (F .prefix) (trueIn r) l o .unset) e
 move w F (backtrack-forall q f a b l e h) = cuts 2 a b l refl e
@@ -105,6 +104,10 @@ good-step w F {r} g s = go g (move w F s)
     go g (cuts k a b l d e) = good-cut F a b k l (rw e at g)
     go g (ends true) = tt
     go g (ends false) = tt
+
+pub good-path : {μ : MonotoneTest} → Within μ → (F : Formula) {n : ℕ} {s t : State} → GoodState F s → PathBy μ F n s t → GoodState F t
+good-path w F g stop = g
+good-path w F g (take x p) = good-path w F (good-step w F g x) p
 
 -- ---- paths put together: one after another, and one more rule at the end, as a history of steps grows
 pub path-append : {μ : MonotoneTest} (F : Formula) {n m : ℕ} {s t u : State} → PathBy μ F n s t → PathBy μ F m t u → (k : ℕ) × PathBy μ F k s u

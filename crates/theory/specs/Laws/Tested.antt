@@ -1,5 +1,5 @@
 -- What the tests say, taken apart, and what one more literal leaves of it. Each from its definition in Tests.
-use mathlib.Core.Path.{_≡_}
+use mathlib.Core.Path.{_≡_, _∙_}
 use mathlib.Core.Logic.{_⊎_, inl, inr}
 use mathlib.Core.Bool.{Bool, true, false, not, _&&_, _||_}
 use mathlib.Core.List.{List}
@@ -10,12 +10,12 @@ use Rattle.words.specs.Laws.Bools.{clash, look, T→eq, eq→T, and-l, and-r, a
 use Rattle.words.specs.Lists.{In, all, any}
 use Rattle.words.specs.Laws.Lists.{all-e, all-i, any-i, any-f, any-more}
 use Rattle.words.specs.Words.{mem}
-use Rattle.words.specs.Laws.Words.{eqZ-eq, mem-i, mem-e}
+use Rattle.words.specs.Laws.Words.{eqZ-eq, mem-i, mem-e, natAbs-neg}
 use Rattle.formula.specs.Formula.{existential, universal, level}
-use Rattle.formula.specs.Laws.Prefix.{stands, stands-bound, existential-stands, universal-stands}
+use Rattle.formula.specs.Laws.Prefix.{stands, stands-neg, stands-bound, existential-stands, universal-stands, level-var}
 use Rattle.theory.specs.Record.{Assignment, assigned}
 use Rattle.theory.specs.Tests.{unassignedE, unassignedU, inConflict, isOnly, isDeeper, unitOn, absent, monotoneWide, notBelow, isOpen}
-use Rattle.theory.specs.Laws.Assignment.{put, put-old, put-e, assigned-still}
+use Rattle.theory.specs.Laws.Assignment.{put, put-old, put-e, assigned-neg, assigned-still}
 
 -- ---- an unassigned literal of a quantifier
 parts : (b a : Bool) → (b && not a) ≡ true → (b ≡ true) × (a ≡ false)
@@ -148,6 +148,11 @@ open-i p ρ l b a h =
     least x i (inl e) = or-l (leb (level p l) (level p x)) e
     least x i (inr e) = or-r (assigned ρ x) (T→eq (le→leb (level p l) (level p x) (h x i e)))
 
+-- its opposite is open too
+pub open-neg : (p : List ℤ) (ρ : Assignment) (l : ℤ) → isOpen p ρ l ≡ true → isOpen p ρ (negℤ l) ≡ true
+open-neg p ρ l h = let o = open-e p ρ l h in
+    open-i p ρ (negℤ l) (stands-neg p l ∙ o .bound) (assigned-neg ρ l ∙ o .unset) (λ x i a. rw (level-var p (negℤ l) l (natAbs-neg l)) (o .lowest x i a))
+
 -- ---- a literal that stands in no clause without a true literal
 abbrev pub Absent : List (List ℤ) → ℤ → Assignment → Type 0
 Absent m a ρ = (C : List ℤ) → In C m → (any ρ C ≡ true) ⊎ (In a C → ⊥)
@@ -162,11 +167,22 @@ absent-e m ρ a h C i = elim (or-e (any ρ C) (not (mem a C)) (all-e (λ C. any 
 pub absent-put : (m : List (List ℤ)) (a y : ℤ) (ρ : Assignment) → Absent m a ρ → Absent m a (put y ρ)
 absent-put m a y ρ h C i = elim (h C i) [ inl e ↦ inl (true-put C y ρ e) | inr f ↦ inr f ]
 
--- ---- a monotone literal
-pub wide-e : (p : List ℤ) (m : List (List ℤ)) (ρ : Assignment) (l : ℤ) → monotoneWide p m ρ l ≡ true
-    → ((unassignedE p ρ l ≡ true) × (absent m ρ (negℤ l) ≡ true)) ⊎ ((unassignedU p ρ l ≡ true) × (absent m ρ l ≡ true))
+-- ---- a monotone literal: the sign that it gives up is so absent
+pub record MonotoneAt (p : List ℤ) (m : List (List ℤ)) (l : ℤ) (ρ : Assignment) : Type 0 where
+  pub unset : assigned ρ l ≡ false
+  pub spare : ((existential p l ≡ true) × Absent m (negℤ l) ρ) ⊎ ((universal p l ≡ true) × Absent m l ρ)
+
+pub monotone-e : (p : List ℤ) (m : List (List ℤ)) (ρ : Assignment) (l : ℤ) → monotoneWide p m ρ l ≡ true → MonotoneAt p m l ρ
 unfolding monotoneWide
-wide-e p m ρ l h = elim (or-e (unassignedE p ρ l && absent m ρ (negℤ l)) (unassignedU p ρ l && absent m ρ l) h) [
-  | inl k ↦ inl (and-l (unassignedE p ρ l) (absent m ρ (negℤ l)) k, and-r (unassignedE p ρ l) (absent m ρ (negℤ l)) k)
-  | inr k ↦ inr (and-l (unassignedU p ρ l) (absent m ρ l) k, and-r (unassignedU p ρ l) (absent m ρ l) k)
+monotone-e p m ρ l h = elim (or-e (unassignedE p ρ l && absent m ρ (negℤ l)) (unassignedU p ρ l && absent m ρ l) h) [
+  | inl k ↦
+      let (e, u) = unassignedE-e p ρ l (and-l (unassignedE p ρ l) (absent m ρ (negℤ l)) k) in
+      record { unset = u; spare = inl (e, absent-e m ρ (negℤ l) (and-r (unassignedE p ρ l) (absent m ρ (negℤ l)) k)) }
+  | inr k ↦
+      let (e, u) = unassignedU-e p ρ l (and-l (unassignedU p ρ l) (absent m ρ l) k) in
+      record { unset = u; spare = inr (e, absent-e m ρ l (and-r (unassignedU p ρ l) (absent m ρ l) k)) }
 ]
+
+-- its variable is the prefix's
+pub monotone-stands : (p : List ℤ) (m : List (List ℤ)) (l : ℤ) (ρ : Assignment) → MonotoneAt p m l ρ → stands p l ≡ true
+monotone-stands p m l ρ r = elim (r .spare) [ inl k ↦ existential-stands p l (k .0) | inr k ↦ universal-stands p l (k .0) ]

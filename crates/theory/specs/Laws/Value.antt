@@ -104,6 +104,20 @@ unfolding rest
 rest-unset [] ρ h = refl
 rest-unset (q ∷ p) ρ h = rw (h q (here refl), rest-unset p ρ (λ x i. h x (there i)))
 
+-- a word of what is left is an unassigned word
+pub rest-e : (p : List ℤ) (ρ : Assignment) {x : ℤ} → In x (rest p ρ) → In x p × (assigned ρ x ≡ false)
+unfolding rest
+rest-e (q ∷ p) ρ {x} i = elim (look (assigned ρ q)) [ inl a ↦ let (j, u) = rest-e p ρ (rw a at i) in (there j, u) | inr a ↦ go a (rw a at i) (rest-e p ρ) ]
+  where
+    go : assigned ρ q ≡ false → In x (q ∷ rest p ρ) → (In x (rest p ρ) → In x p × (assigned ρ x ≡ false)) → In x (q ∷ p) × (assigned ρ x ≡ false)
+    go a (here e) ih = (here e, rw e a)
+    go a (there i) ih = let (j, u) = ih i in (there j, u)
+
+pub rest-i : (p : List ℤ) (ρ : Assignment) {x : ℤ} → In x p → assigned ρ x ≡ false → In x (rest p ρ)
+unfolding rest
+rest-i (q ∷ p) ρ (here e) u = rw (rw e at u) (here e)
+rest-i (q ∷ p) ρ (there i) u = elim (look (assigned ρ q)) [ inl a ↦ rw a (rest-i p ρ i u) | inr a ↦ rw a (there (rest-i p ρ i u)) ]
+
 -- ---- a formula under a record
 -- the value under a record is the truth of the rest
 pub value-under : (F : Formula) → Proper F → (r : Record) → valueOf F (trueIn r) ≡ trueUnder F r
