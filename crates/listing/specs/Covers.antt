@@ -1,18 +1,15 @@
 -- The openings are all the ways to give the first group values: where the group is existential, the formula is true exactly if some opening wins,
 -- and the whole listing is empty exactly if it is false. From the recursive truth: an existential variable asks for one of its two values,
 -- and a number below 2^k has the bits of any k values.
-use Prim.Native.Nat.{ℕ, suc, _+_, _*_, _-_, _^_, _/_, _%_, _≤_, _<_}
+use Prim.Native.Nat.{ℕ, suc, _+_, _-_, _^_, _/_, _%_, _<_}
 use mathlib.Core.Path.{_≡_, refl, sym, _∙_, ap, fun-ext}
 use mathlib.Core.Logic.{_↔_, inl, inr}
 use mathlib.Core.Bool.{Bool, true, false, cond, _&&_, _||_, or-false, Bool·beq}
 use mathlib.Core.List.{List, [], _∷_, _++_}
-use native.Mathlib.Nat.{pow-suc, add-comm, add-mul-div-right, add-mul-mod-self-right, div-eq-of-lt}
 use native.Mathlib.Omega.{arith}
-use lib.Arith.{digits-div}
 use lib.Dec.{eqb, ltb}
 use lib.IntN.{ℤ, pos, negsuc, negℤ}
 use lib.ListN.{length, take, drop, take-append-drop}
-use lib.Pow.{pow-add, pow-pos}
 use borrow.Author.Tests.{lt-ltb}
 use Rattle.words.specs.Laws.Bools.{look, clash, to-false, or-e, or-l, or-r}
 use Rattle.words.specs.Lists.{In, here, there, all, any}
@@ -20,9 +17,10 @@ use Rattle.words.specs.Words.{negative, eqZ, mem}
 use Rattle.formula.specs.Formula.{Formula, word, run, firstGroup}
 use Rattle.formula.specs.Truth.{asked, truth, true?}
 use Rattle.theory.specs.Record.{among}
-use Rattle.listing.specs.Opening.{groupOf, openings, valuesOf}
+use Rattle.theory.specs.Witness.{groupOf}
+use Rattle.listing.specs.Opening.{openings, valuesOf}
 use Rattle.listing.specs.Page.{firstUniversal}
-use Rattle.listing.specs.Laws.Values.{group-length}
+use Rattle.listing.specs.Laws.Values.{values-one, values-zero, below-both, group-length}
 use Rattle.listing.specs.Wins.{wins, winners, entries, listing, winners-exactly}
 
 -- ---- truth depends on which literals are true, and not on their order
@@ -54,18 +52,6 @@ onto-among (v ∷ vs) σ x = onto-among vs (v ∷ σ) x ∙ swap (mem x vs) (eqZ
 abbrev Existential : List ℤ → Type 0
 Existential g = (x : ℤ) → In x g → negative x ≡ false
 
--- a bit above leaves the bits below
-bit-high : (r t d : ℕ) → (2 ^ (suc d + t) + r) / 2 ^ t % 2 ≡ r / 2 ^ t % 2
-bit-high r t d =
-    rw (pow-add 2 (suc d) t, pow-suc 2 d, add-comm (2 ^ d * 2 * 2 ^ t) r, add-mul-div-right r (2 ^ d * 2) {z = 2 ^ t} (pow-pos t)) (add-mul-mod-self-right (r / 2 ^ t) (2 ^ d) 2)
-
-values-high : (i r : ℕ) (g : List ℤ) → length g ≤ i → valuesOf (2 ^ i + r) g ≡ valuesOf r g
-unfolding valuesOf
-values-high i r [] h = refl
-values-high i r (q ∷ g) h =
-    let e : suc (i - suc (length g)) + length g ≡ i = omega arith in
-    rw (rw e at (bit-high r (length g) (i - suc (length g))), values-high i r g (omega arith))
-
 module _ (p : List ℤ) (m : List (List ℤ)) where
   -- the number has the bit of the value that makes the rest true, before the bits of the values after it
   some-number : (g σ : List ℤ) → Existential g → truth (g ++ p) m σ ≡ true → (n : ℕ) × (n < 2 ^ length g) × (truth p m (onto (valuesOf n g) σ) ≡ true)
@@ -77,21 +63,11 @@ module _ (p : List ℤ) (m : List (List ℤ)) where
     | inr t ↦ low (some-number g (negℤ (pos a) ∷ σ) (λ x i. e x (there i)) t)
   ]
     where
-      two : 2 ^ suc (length g) ≡ 2 ^ length g + 2 ^ length g
-      two = let z = pow-suc 2 (length g) in omega arith
-
       high : (n : ℕ) × (n < 2 ^ length g) × (truth p m (onto (valuesOf n g) (pos a ∷ σ)) ≡ true) → (n : ℕ) × (n < 2 ^ suc (length g)) × (truth p m (onto (valuesOf n (pos a ∷ g)) σ) ≡ true)
-      high (r, l, t) =
-          let d = two in
-          let x : 2 ^ length g + r ≡ 1 * 2 ^ length g + r = omega arith in
-          let b : (2 ^ length g + r) / 2 ^ length g ≡ 1 = rw x (digits-div 1 l) in
-          (2 ^ length g + r, omega arith, rw (values-high (length g) r g (omega arith), b) t)
+      high (r, l, t) = (2 ^ length g + r, below-both r (pos a) g l .0, rw (values-one r (pos a) g l) t)
 
       low : (n : ℕ) × (n < 2 ^ length g) × (truth p m (onto (valuesOf n g) (negℤ (pos a) ∷ σ)) ≡ true) → (n : ℕ) × (n < 2 ^ suc (length g)) × (truth p m (onto (valuesOf n (pos a ∷ g)) σ) ≡ true)
-      low (r, l, t) =
-          let d = two in
-          let b : r / 2 ^ length g ≡ 0 = div-eq-of-lt l in
-          (r, omega arith, rw b t)
+      low (r, l, t) = (r, below-both r (pos a) g l .1, rw (values-zero r (pos a) g l) t)
 
   -- whichever bit it has, the first value is one of the two that are asked for
   number-some : (n : ℕ) (g σ : List ℤ) → Existential g → truth p m (onto (valuesOf n g) σ) ≡ true → truth (g ++ p) m σ ≡ true

@@ -9,11 +9,12 @@ pub mod Promises
 -- which number a refused page is given, and what it leaves
 pub mod Rows
 pub mod Refused
--- an accepted page; any list of pages; all openings together
+-- an accepted page; any list of pages; all openings together; the one that an ended session shows
 pub mod Claims
 pub mod Accepted
 pub mod Pages
 pub mod Covers
+pub mod Found
 -- a page's searches are runs, and what the work record held before doesn't matter
 pub mod AsRun
 pub mod AnyWork

@@ -4,18 +4,15 @@ use mathlib.Core.Bool.{cond}
 use mathlib.Core.List.{List, [], _∷_}
 use lib.Dec.{eqb}
 use lib.IntN.{ℤ, pos, negℤ, natAbs}
-use lib.ListN.{length, take}
+use lib.ListN.{length}
 use lib.Seq.{sets}
 use Rattle.formula.specs.Formula.{Formula, firstGroup}
+use Rattle.theory.specs.Witness.{groupOf}
 use Rattle.record.specs.declared.rule.State.{State}
 use Rattle.record.specs.declared.rule.State.the-variants.{Open}
 use Rattle.record.specs.Search.{Search, search}
 use Rattle.record.specs.Trail.{Trail, wipedTrail, trail}
 use Rattle.session.specs.Run.{runFrom}
-
--- [group.first] the first group
-abbrev pub groupOf : Formula → List ℤ
-groupOf F = take (firstGroup (F .prefix)) (F .prefix)
 
 -- [opening] how many openings there are, 2^k
 abbrev pub openings : Formula → ℕ

@@ -13,7 +13,8 @@ use Rattle.words.specs.Laws.Bools.{look}
 use Rattle.words.specs.Lists.{In, here, there}
 use Rattle.formula.specs.Formula.{Formula, firstGroup}
 use Rattle.formula.specs.Truth.{truth}
-use Rattle.listing.specs.Opening.{groupOf, valuesOf}
+use Rattle.theory.specs.Witness.{groupOf}
+use Rattle.listing.specs.Opening.{valuesOf}
 use Rattle.words.specs.Laws.Lists.{in-left, in-right, in-either}
 
 -- [winner] the prefix after the first group is true with the opening's values

@@ -14,7 +14,7 @@ use Rattle.formula.specs.Limits.{Limits}
 use Rattle.formula.specs.Formula.{formulaOf, variablesOf, prefixOf}
 use Rattle.formula.specs.Block.{refusal}
 use Rattle.formula.specs.Truth.{true?}
-use Rattle.theory.specs.Rules.{going, Path, stop}
+use Rattle.theory.specs.Rules.{going, Step, Path, stop}
 use Rattle.theory.specs.Laws.Moves.{path-snoc, good-none}
 use Rattle.theory.specs.Theorem.{accepted-any-order}
 use Rattle.record.specs.declared.rule.State.{State}
@@ -23,7 +23,7 @@ use Rattle.record.specs.Found.{literal}
 use Rattle.record.specs.Trail.{recordOf, wipedTrail}
 use Rattle.record.specs.Laws.Wiped.{wiped-length}
 use Rattle.record.specs.Laws.Good.{good-kept}
-use Rattle.record.specs.Search.{standingOf}
+use Rattle.record.specs.Search.{recordIn, standingOf}
 use Rattle.record.specs.Inner.Ready.{KeptIn}
 use Rattle.record.specs.Laws.Accepted.{prefix-length, accepted-binds}
 use Rattle.session.specs.declared.Revision.{Revision}
@@ -73,9 +73,17 @@ pub record Demand (L : Limits) (b : List ℤ) (first : ℕ) (d : Desk) : Type 0 
       → (preferred : List ℤ) → runAt L b d (d .latest .revision) budget preferred .answer ≡ Stopped 15
 
 -- ---- what every call keeps
+-- the record of a desk was reached by a path, and one more rule made its state
+pub record Closed (b : List ℤ) (d : Desk) : Type 0 where
+  pub before : ℕ
+  pub path : Path (formulaOf b) before (going []) (going (recordIn (searchAt d)))
+  pub rule : Step (formulaOf b) (recordIn (searchAt d)) (standingOf (searchAt d))
+
 record Invariant (b : List ℤ) (first : ℕ) (d : Desk) : Type 0 where
   path : Path (formulaOf b) (d .steps) (going []) (standingOf (searchAt d))
   kept : KeptIn (prefixOf b) (searchAt d)
+  -- the rule that ended it left the record
+  ended : (d .latest .state ≡ Open → ⊥) → Closed b d
   sound : Sound b (d .memory) (d .latest .length)
   explained : Each (Explained (formulaOf b)) (searchAt d) (d .memory .reasons)
   revision : d .latest .revision .0 ≡ first + d .steps
@@ -92,7 +100,17 @@ module _ (L : Limits) (b : List ℤ) (first : ℕ) where
           let x : d .steps + 1 ≡ suc (d .steps) = omega arith in
           let y = r .revision in
           let z = f .revision in
-          record { path = rw x (path-snoc (formulaOf b) (rw (f .live) at (r .path)) (f .step)); kept = f .kept; sound = f .sound; explained = f .explained (r .explained); revision = omega arith }
+          record {
+            path = rw x (path-snoc (formulaOf b) (rw (f .live) at (r .path)) (f .step));
+            kept = f .kept;
+            ended = λ g.
+                let (t, c) = f .ended-leaves g in
+                let same : recordOf (stepAt L b d seen l .memory .trail) (s′ .length) ≡ recordOf (d .memory .trail) (d .latest .length) = rw (t, c) in
+                record { before = d .steps; path = rw same (rw (f .live) at (r .path)); rule = rw same (rw same at (f .step)) };
+            sound = f .sound;
+            explained = f .explained (r .explained);
+            revision = omega arith;
+          }
       go (Not n) e = let w = step-refused-leaves L (d .latest) b (d .memory) seen l n e in rw (w .memory) r
 
   hand-holds : (preferred : List ℤ) (c : ℕ) (d : Desk) → Invariant b first d → Invariant b first (byHand L b preferred c d)
@@ -155,7 +173,7 @@ module _ (L : Limits) (b : List ℤ) (m : Memory) (rev : Revision) (s : Session)
   unfolding openOutcome
   open-passed = unless-to (openRefusal L b (places m)) m _ s a
 
-  block : refusal L b ≡ 0
+  pub block : refusal L b ≡ 0
   block = opened L b (places m) open-passed .block
 
   begun : Invariant b (rev .0) (freshDesk L b m rev s)
@@ -170,6 +188,7 @@ module _ (L : Limits) (b : List ℤ) (m : Memory) (rev : Revision) (s : Session)
       rw (open-passed, z)
       (record {
         path = stop;
+        ended = λ f. absurd (f refl);
         kept = record {
           prefix = bound;
           room = record { lits = rw (wiped-length, n) (room .lits); kinds = rw (wiped-length, n) (room .kinds) };
@@ -186,6 +205,10 @@ module _ (L : Limits) (b : List ℤ) (m : Memory) (rev : Revision) (s : Session)
   -- [order.rules] the accepted steps of a history, exactly as many as it counts, are one path of the rules from the empty record
   pub history-path : (calls : List Call) → let d = play L b (freshDesk L b m rev s) calls in Path (formulaOf b) (d .steps) (going []) (standingOf (searchAt d))
   history-path calls = kept-after calls .path
+
+  -- and where it has ended, its last rule left the record that the path before it came to
+  pub history-ended : (calls : List Call) → let d = play L b (freshDesk L b m rev s) calls in (d .latest .state ≡ Open → ⊥) → Closed b d
+  history-ended calls = kept-after calls .ended
 
   -- [demand.2.reasons] each reason that is not 0 names a clause that did force its entry's literal, given the entries before it
   pub reasons-forced : (calls : List Call) → let d = play L b (freshDesk L b m rev s) calls in

@@ -16,9 +16,10 @@ pub mod Calls
 pub mod RunSteps
 -- reasons influence nothing else
 pub mod Apart
--- any history of calls, and what its reasons say
+-- any history of calls, what its reasons say, and what its end shows
 pub mod Forced
 pub mod History
+pub mod Witnessed
 -- what functions say to each other; what is proved of all these
 pub mod Inner
 pub mod Laws

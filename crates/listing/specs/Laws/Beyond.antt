@@ -13,6 +13,7 @@ use lib.Seq.{length-sets, ext-getD}
 use Rattle.words.specs.Laws.Bools.{look}
 use Rattle.formula.specs.Formula.{Formula}
 use Rattle.theory.specs.Record.{trueIn, Entry}
+use Rattle.theory.specs.Witness.{groupOf}
 use Rattle.rules.specs.Due.{due}
 use Rattle.choice.specs.Preferred.{proposalOf}
 use Rattle.record.specs.Search.{Search, recordIn}
@@ -27,7 +28,7 @@ use Rattle.session.specs.Run.{advance, runFrom}
 use Rattle.session.specs.Refusals.{over}
 use Rattle.session.specs.Laws.Accepted.{over-open}
 use Rattle.session.specs.Laws.Runs.{advance-keeps, loop-last, run-ended, run-further}
-use Rattle.listing.specs.Opening.{groupOf, valuesOf, openingStart, openingSearch, openingEnd}
+use Rattle.listing.specs.Opening.{valuesOf, openingStart, openingSearch, openingEnd}
 use Rattle.listing.specs.Claims.{Beyond}
 use Rattle.listing.specs.Laws.Values.{values-length, group-few, group-length}
 use Rattle.listing.specs.Laws.Start.{starts}

@@ -1,58 +1,38 @@
 -- The search of an opening: within its budget it goes on by rules of the theory from the opening's record, so where it ends its answer is the
 -- truth of the rest, and with a budget of 2^(V+1-k) - 1 it does end.
 use Prim.Native.Nat.{ℕ, suc, _-_, _^_, _≤_}
-use mathlib.Core.Path.{_≡_, refl, sym, _∙_, ap}
+use mathlib.Core.Path.{_≡_, sym, _∙_}
 use mathlib.Core.Bool.{true, false}
 use mathlib.Core.List.{List}
 use native.Mathlib.Omega.{arith}
 use lib.IntN.{ℤ}
-use lib.ListN.{length, take, drop, take-append-drop}
-use Rattle.words.specs.Lists.{In}
-use Rattle.words.specs.Laws.Lists.{all-i}
+use lib.ListN.{length}
 use Rattle.formula.specs.Formula.{Formula, firstGroup}
 use Rattle.formula.specs.Proper.{Proper}
-use Rattle.formula.specs.Laws.Prefix.{stands-i}
-use Rattle.theory.specs.Record.{among, assigned}
-use Rattle.theory.specs.Tests.{monotoneOpen, allAssigned}
-use Rattle.theory.specs.Laws.Assignment.{assigned-among}
-use Rattle.theory.specs.Start.{rest, trueUnder}
-use Rattle.theory.specs.Laws.Value.{rest-append, rest-set, rest-unset}
+use Rattle.theory.specs.Tests.{monotoneOpen}
+use Rattle.theory.specs.Laws.Assignment.{given-literals}
+use Rattle.theory.specs.Start.{trueUnder}
+use Rattle.theory.specs.Laws.Group.{rest-group}
 use Rattle.theory.specs.Rules.{going, Path}
 use Rattle.theory.specs.Laws.Monotone.{open-within}
 use Rattle.theory.specs.Theorem.{AnyOrder, any-order-from}
+use Rattle.theory.specs.Witness.{groupOf}
 use Rattle.record.specs.declared.rule.State.the-variants.{Open, Valid, Unsat}
 use Rattle.record.specs.Search.{standingOf}
 use Rattle.record.specs.Inner.Ready.{Binds, Room}
 use Rattle.session.specs.Run.{runFrom}
 use Rattle.session.specs.Laws.Runs.{Travelled, travelled}
-use Rattle.listing.specs.Opening.{groupOf, valuesOf, openingStart, openingSearch, openingEnd}
-use Rattle.listing.specs.Laws.Start.{opened, given-literals, Starts, starts}
-use Rattle.listing.specs.Laws.Values.{values-stand, before-rest}
+use Rattle.listing.specs.Opening.{valuesOf, openingStart, openingSearch, openingEnd}
+use Rattle.listing.specs.Laws.Start.{opened, Starts, starts}
+use Rattle.listing.specs.Laws.Values.{values-stand}
 use Rattle.listing.specs.Wins.{wins}
 use Rattle.record.specs.Trail.{Trail}
 
 -- ---- the truth of the rest is what the theory speaks of
-group-set : (F : Formula) (n : ℕ) → allAssigned (groupOf F) (among (valuesOf n (groupOf F))) ≡ true
-unfolding allAssigned
-group-set F n = all-i (assigned (among (valuesOf n (groupOf F)))) (groupOf F) (λ x i. assigned-among (valuesOf n (groupOf F)) x ∙ values-stand n (groupOf F) x ∙ stands-i x i refl)
-
 module _ (F : Formula) (ok : Proper F) (n : ℕ) where
-  rest-unassigned : (x : ℤ) → In x (drop (firstGroup (F .prefix)) (F .prefix)) → assigned (among (valuesOf n (groupOf F))) x ≡ false
-  rest-unassigned x i = assigned-among (valuesOf n (groupOf F)) x ∙ values-stand n (groupOf F) x ∙ before-rest (firstGroup (F .prefix)) (F .prefix) (ok .once) x i
-
-  -- what the values leave of the prefix is what stands after the first group
-  rest-is : rest (F .prefix) (among (valuesOf n (groupOf F))) ≡ drop (firstGroup (F .prefix)) (F .prefix)
-  rest-is =
-      let k = firstGroup (F .prefix) in
-      let p = F .prefix in
-      let ρ = among (valuesOf n (groupOf F)) in
-      ap (λ (ws : List ℤ). rest ws ρ) (sym (take-append-drop k p))
-      ∙ rest-append (take k p) (drop k p) ρ
-      ∙ rw (rest-set (take k p) ρ (group-set F n), rest-unset (drop k p) ρ rest-unassigned)
-
   wins-under : trueUnder F (opened F n) ≡ wins F n
   unfolding wins
-  wins-under = rw (given-literals (valuesOf n (groupOf F)), rest-is)
+  wins-under = rw (given-literals (valuesOf n (groupOf F)), rest-group F ok (valuesOf n (groupOf F)) (values-stand n (groupOf F)))
 
 -- ---- the search of the opening n, on buffers that pass row 11
 module _ (F : Formula) (ok : Proper F) (binds : Binds (F .prefix)) (work : Trail) (lent : Room (length (F .prefix)) work) (preferred : List ℤ) (budget n : ℕ) where

@@ -14,31 +14,25 @@ use Rattle.words.specs.Laws.Bools.{and-i, or-l, or-r}
 use Rattle.words.specs.Lists.{In, here, there, all}
 use Rattle.formula.specs.Formula.{Formula, firstGroup, existential, universal}
 use Rattle.formula.specs.Laws.Prefix.{stands, stands-i, stands-append, stands-bound}
-use Rattle.theory.specs.Record.{entry, Record, literals, forced}
+use Rattle.theory.specs.Record.{entry, Record, forced}
 use Rattle.theory.specs.Start.{suits, allSuit, Good}
+use Rattle.theory.specs.Witness.{groupOf}
+use Rattle.theory.specs.Laws.Assignment.{given, given-literals}
+use Rattle.theory.specs.Laws.Group.{twice-take}
 use Rattle.record.specs.Trail.{Trail, wiped, noEntry}
 use Rattle.record.specs.Search.{recordIn}
 use Rattle.record.specs.Inner.Ready.{Binds, KeptIn, Room}
 use Rattle.record.specs.Laws.Wiped.{wiped-length, wiped-inside}
 use Rattle.record.specs.Laws.Records.{room-less, record-length, record-get}
 use Rattle.record.specs.Laws.Good.{good-kept}
-use Rattle.listing.specs.Opening.{groupOf, valuesOf, openingStart}
+use Rattle.listing.specs.Opening.{valuesOf, openingStart}
 use Rattle.words.specs.Laws.Stores.{sets-first}
-use Rattle.listing.specs.Laws.Values.{values-length, values-stand, values-twice, group-few, group-length, twice-take}
+use Rattle.listing.specs.Laws.Values.{values-length, values-stand, values-twice, group-few, group-length}
 
 -- ---- a record of forced literals
-unfoldable pub given : List ℤ → Record
-given [] = []
-given (l ∷ ls) = entry 0 l ∷ given ls
-
--- the record of the opening n
+-- that of the opening n
 abbrev pub opened : Formula → ℕ → Record
 opened F n = given (valuesOf n (groupOf F))
-
-pub given-literals : (vs : List ℤ) → literals (given vs) ≡ vs
-unfolding given literals
-given-literals [] = refl
-given-literals (v ∷ vs) = ap (λ (ws : List ℤ). v ∷ ws) (given-literals vs)
 
 given-length : (vs : List ℤ) → length (given vs) ≡ length vs
 unfolding given

@@ -1,24 +1,26 @@
--- Laws of an opening's values: there is one for each word of the group, of the same variable, in the same order; and the first group is the
--- start of the prefix. By induction on the group.
-use Prim.Native.Nat.{ℕ, zero, suc, _-_, _^_, _/_, _%_, _≤_}
-use mathlib.Core.Path.{_≡_, refl, sym, _∙_, ap}
+-- Laws of an opening's values: there is one for each word of the group, of the same variable, in the same order, and any values are those of some
+-- number below 2^k; and the first group is the start of the prefix. By induction on the group.
+use Prim.Native.Nat.{ℕ, suc, _+_, _*_, _-_, _^_, _/_, _%_, _≤_, _<_}
+use mathlib.Core.Path.{_≡_, refl, _∙_, ap}
 use mathlib.Core.Logic.{inl, inr}
 use mathlib.Core.Bool.{Bool, false, Bool·beq}
 use mathlib.Core.List.{List, [], _∷_}
+use native.Mathlib.Nat.{pow-suc, add-comm, add-mul-div-right, add-mul-mod-self-right, div-eq-of-lt}
 use native.Mathlib.Omega.{arith}
+use lib.Arith.{digits-div}
 use lib.Dec.{eqb}
-use lib.IntN.{ℤ, pos, natAbs}
-use lib.ListN.{length, take, drop, take-append-drop}
+use lib.IntN.{ℤ, pos, negℤ, natAbs}
+use lib.ListN.{length}
+use lib.Pow.{pow-add, pow-pos}
 use lib.Seq.{length-take-le}
-use Rattle.words.specs.Laws.Bools.{look, or-fl, eqb-ne}
-use Rattle.words.specs.Lists.{In}
-use Rattle.words.specs.Laws.Lists.{in-drop}
+use Rattle.words.specs.Laws.Bools.{look}
 use Rattle.words.specs.Words.{negative}
 use Rattle.words.specs.Laws.Words.{natAbs-neg}
 use Rattle.formula.specs.Formula.{Formula, run, firstGroup}
 use Rattle.formula.specs.Block.{twice}
-use Rattle.formula.specs.Laws.Prefix.{stands, stands-none, stands-step, stands-append, other, twice-head, twice-tail, twice-cons}
-use Rattle.listing.specs.Opening.{groupOf, valuesOf, valueAt}
+use Rattle.formula.specs.Laws.Prefix.{stands, stands-step, twice-head, twice-tail, twice-cons}
+use Rattle.theory.specs.Witness.{groupOf, signed}
+use Rattle.listing.specs.Opening.{valuesOf, valueAt}
 
 -- ---- one value
 value-variable : (n j : ℕ) (q : ℤ) → natAbs (valueAt n j q) ≡ natAbs q
@@ -48,6 +50,44 @@ module _ (n : ℕ) where
       let v = valueAt n (length g) q in
       twice-cons v (valuesOf n g) (values-stand g v ∙ stands-var g v q (value-variable n (length g) q) ∙ twice-head q g h) (values-twice g (twice-tail q g h))
 
+-- ---- the numbers of values
+-- a bit above leaves the bits below
+bit-high : (r t d : ℕ) → (2 ^ (suc d + t) + r) / 2 ^ t % 2 ≡ r / 2 ^ t % 2
+bit-high r t d =
+    rw (pow-add 2 (suc d) t, pow-suc 2 d, add-comm (2 ^ d * 2 * 2 ^ t) r, add-mul-div-right r (2 ^ d * 2) {z = 2 ^ t} (pow-pos t)) (add-mul-mod-self-right (r / 2 ^ t) (2 ^ d) 2)
+
+values-high : (i r : ℕ) (g : List ℤ) → length g ≤ i → valuesOf (2 ^ i + r) g ≡ valuesOf r g
+unfolding valuesOf
+values-high i r [] h = refl
+values-high i r (q ∷ g) h =
+    let e : suc (i - suc (length g)) + length g ≡ i = omega arith in
+    rw (rw e at (bit-high r (length g) (i - suc (length g))), values-high i r g (omega arith))
+
+-- with the bit of the first word, and without it
+module _ (r : ℕ) (q : ℤ) (g : List ℤ) (l : r < 2 ^ length g) where
+  pub values-one : valuesOf (2 ^ length g + r) (q ∷ g) ≡ pos (natAbs q) ∷ valuesOf r g
+  unfolding valuesOf
+  values-one =
+      let x : 2 ^ length g + r ≡ 1 * 2 ^ length g + r = omega arith in
+      let b : (2 ^ length g + r) / 2 ^ length g ≡ 1 = rw x (digits-div 1 l) in
+      rw (values-high (length g) r g (omega arith), b)
+
+  pub values-zero : valuesOf r (q ∷ g) ≡ negℤ (pos (natAbs q)) ∷ valuesOf r g
+  unfolding valuesOf
+  values-zero = let b : r / 2 ^ length g ≡ 0 = div-eq-of-lt l in rw b
+
+  pub below-both : (2 ^ length g + r < 2 ^ suc (length g)) × (r < 2 ^ suc (length g))
+  below-both = let z = pow-suc 2 (length g) in (omega arith, omega arith)
+
+-- whatever the signs, some number has these values
+pub number-of : (s : ℤ → Bool) (g : List ℤ) → (n : ℕ) × (n < 2 ^ length g) × (valuesOf n g ≡ signed s g)
+unfolding valuesOf signed
+number-of s [] = (0, omega arith, refl)
+number-of s (q ∷ g) =
+    let (r, l, e) = number-of s g in
+    let (x, y) = below-both r q g l in
+    elim (look (s q)) [ inl z ↦ (2 ^ length g + r, x, rw z (values-one r q g l ∙ rw e)) | inr z ↦ (r, y, rw z (values-zero r q g l ∙ rw e)) ]
+
 -- ---- the first group and the rest of the prefix
 run-few : (s : Bool) (p : List ℤ) → run s p ≤ length p
 unfolding run
@@ -61,19 +101,3 @@ group-few (q ∷ p) = run-few (negative q) (q ∷ p)
 
 pub group-length : (F : Formula) → length (groupOf F) ≡ firstGroup (F .prefix)
 group-length F = length-take-le (firstGroup (F .prefix)) (F .prefix) (group-few (F .prefix))
-
--- where no variable stands twice, one of the rest does not stand before it
-pub before-rest : (k : ℕ) (p : List ℤ) → twice p ≡ false → (x : ℤ) → In x (drop k p) → stands (take k p) x ≡ false
-before-rest zero p h x i = stands-none x
-before-rest (suc k) [] h x i = stands-none x
-before-rest (suc k) (q ∷ p) h x i =
-    rw (stands-step q (take k p) x, before-rest k p (twice-tail q p h) x i, eqb-ne (natAbs x) (natAbs q) (λ e. other q (twice-head q p h) (in-drop k p i) (sym e)))
-
-stands-take : (k : ℕ) (p : List ℤ) (x : ℤ) → stands p x ≡ false → stands (take k p) x ≡ false
-stands-take k p x h = or-fl (stands (take k p) x) (stands (drop k p) x) (sym (stands-append (take k p) (drop k p) x) ∙ rw (take-append-drop k p) h)
-
-pub twice-take : (k : ℕ) (p : List ℤ) → twice p ≡ false → twice (take k p) ≡ false
-unfolding twice
-twice-take zero p h = refl
-twice-take (suc k) [] h = refl
-twice-take (suc k) (q ∷ p) h = twice-cons q (take k p) (stands-take k p q (twice-head q p h)) (twice-take k p (twice-tail q p h))
