@@ -2,6 +2,7 @@
 -- accepted counted run is a run, and a refused one leaves the desk. So all that is proved of those holds.
 use Prim.Native.Nat.{ℕ, suc, _<_}
 use mathlib.Core.Path.{_≡_, refl, _∙_, ap}
+use mathlib.Core.Bool.{Bool}
 use mathlib.Core.List.{List, [], _∷_, _++_}
 use lib.IntN.{ℤ, pos}
 use lib.ListN.{getD}
@@ -21,7 +22,8 @@ use Rattle.session.specs.Outcome.{openOutcome}
 use Rattle.session.specs.Calls.{Desk, Call, run, afterRun, call, play}
 use Rattle.session.specs.RunSteps.{searchAt}
 use Rattle.session.specs.Forced.{Forced}
-use Rattle.session.specs.History.{Demand, freshDesk, history-path, reasons-forced, any-history}
+use Rattle.session.specs.History.{verdictOf, Demand, freshDesk, history-path, reasons-forced, any-history}
+use Rattle.session.specs.Witnessed.{Witnessed, history-shows}
 use Rattle.counted.specs.Lent.{Lent, lent}
 use Rattle.counted.specs.Counted.{countedOf}
 use Rattle.counted.specs.Runs.{counted-is-run, counted-refused-leaves}
@@ -88,3 +90,7 @@ module _ (L : Limits) (b : List ℤ) (m : Memory) (rev : Revision) (s : Session)
       (j c : ℕ) → j < d .latest .length → getD (d .memory .reasons) j 0 ≡ suc c
       → Forced (formulaOf b) (recordOf (d .memory .trail) j) (getD (d .memory .trail .lits) j (pos 0)) c
   mixed-reasons calls = let (cs, e) = are-calls L b calls (freshDesk L b m rev s) in rw (← e) (reasons-forced L b m rev s a cs)
+
+  -- [witness]
+  pub mixed-shows : (calls : List AnyCall) (v : Bool) → let d = playAny L b (freshDesk L b m rev s) calls in d .latest .state ≡ verdictOf v → Witnessed b d v
+  mixed-shows calls = let (cs, e) = are-calls L b calls (freshDesk L b m rev s) in rw (← e) (history-shows L b m rev s a cs)

@@ -6,6 +6,8 @@ mod guard; // which row of the table turns a page away
 mod openings; // an opening: its values and its search
 mod sheets; // the openings of a page, one after the other
 
+pub use openings::first_group;
+
 // What a page answers: where the next one begins, the entries written, and whether a search didn't end within the budget.
 pub enum Paged {
     Page {

@@ -6,11 +6,12 @@ ghost use lib.IntN.{pos};
 ghost use lib.ListN.{length, getD};
 ghost use lib.Seq.{sets};
 ghost use Rattle.formula.specs.Limits.{limits};
-ghost use Rattle.formula.specs.Formula.{formulaOf, firstGroup};
+ghost use Rattle.formula.specs.Formula.{formulaOf};
 ghost use Rattle.record.specs.Trail.{trail};
 ghost use Rattle.record.specs.Search.{search, reached};
 ghost use Rattle.record.specs.declared.rule.State.the-variants.{Open};
 ghost use Rattle.listing.specs.Opening.{valueAt, valuesOf, openingStart, openingSearch};
+ghost use Rattle.listing.specs.Promises.{FirstGroupPromise};
 ghost use Rattle.listing.specs.Inner.Pages.{OnGroup, WritableAt, Writable};
 ghost use Rattle.words.specs.Outcomes.{outcome};
 ghost use Rattle.formula.specs.Limits.{maxVariables};
@@ -21,8 +22,8 @@ use record::PLACES;
 use record::Reached;
 
 // The size of the first group.
-pub(crate) fn first_group(prefix: &[i32]) -> usize
-    ensures { λ r. ⌜ r ≡ firstGroup (now (prefix .entry)) ⌝ }
+pub fn first_group(prefix: &[i32]) -> usize
+    ensures { λ r. ⌜ FirstGroupPromise (now (prefix .entry)) r ⌝ }
 {
     let universal = words::negative_at(prefix, 0);
     let mut i = 0;

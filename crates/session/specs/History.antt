@@ -24,7 +24,7 @@ use Rattle.record.specs.Trail.{recordOf, wipedTrail}
 use Rattle.record.specs.Laws.Wiped.{wiped-length}
 use Rattle.record.specs.Laws.Good.{good-kept}
 use Rattle.record.specs.Search.{recordIn, standingOf}
-use Rattle.record.specs.Inner.Ready.{KeptIn}
+use Rattle.record.specs.Inner.Ready.{KeptIn, OnBlock}
 use Rattle.record.specs.Laws.Accepted.{prefix-length, accepted-binds}
 use Rattle.session.specs.declared.Revision.{Revision}
 use Rattle.session.specs.declared.Session.{Session}
@@ -205,6 +205,10 @@ module _ (L : Limits) (b : List ℤ) (m : Memory) (rev : Revision) (s : Session)
   -- [order.rules] the accepted steps of a history, exactly as many as it counts, are one path of the rules from the empty record
   pub history-path : (calls : List Call) → let d = play L b (freshDesk L b m rev s) calls in Path (formulaOf b) (d .steps) (going []) (standingOf (searchAt d))
   history-path calls = kept-after calls .path
+
+  -- the block and the record pass rows 1 to 12 again
+  pub history-kept : (calls : List Call) → let d = play L b (freshDesk L b m rev s) calls in OnBlock L b (d .memory .trail) (d .latest .length)
+  history-kept calls = record { block = block; kept = kept-after calls .kept }
 
   -- and where it has ended, its last rule left the record that the path before it came to
   pub history-ended : (calls : List Call) → let d = play L b (freshDesk L b m rev s) calls in (d .latest .state ≡ Open → ⊥) → Closed b d
