@@ -23,7 +23,7 @@ enum { MOKI_OPEN = 0, MOKI_VALID = 1, MOKI_UNSAT = 2 };
 
 /* How many words a call's answer has. Its array must have as many places or more;
    it comes as a pointer alone, so no call can see how many there are. */
-enum { MOKI_SESSION_WORDS = 3, MOKI_STEP_WORDS = 4, MOKI_RUN_WORDS = 5, MOKI_PAGE_WORDS = 3, MOKI_READ_WORDS = 1, MOKI_WRITE_WORDS = 1 };
+enum { MOKI_SESSION_WORDS = 3, MOKI_STEP_WORDS = 4, MOKI_RUN_WORDS = 5, MOKI_PAGE_WORDS = 3, MOKI_PLAIN_WORDS = 1, MOKI_READ_WORDS = 1, MOKI_WRITE_WORDS = 1 };
 
 /* How many words a reader has between two pieces of a text. */
 enum { MOKI_READER_WORDS = 12 };
@@ -96,6 +96,12 @@ uint32_t moki_page(const int32_t *block, size_t block_length,
                    uint32_t budget,
                    uint32_t *output, size_t output_length,
                    uint64_t answer[MOKI_PAGE_WORDS]);
+
+/* Refusals 1 to 10, 22 and 23. A second opinion, by the definition of truth alone: the
+   answer is MOKI_VALID or MOKI_UNSAT. It takes at most 24 variables, and may try all of
+   their values. */
+uint32_t moki_plain(const int32_t *block, size_t block_length,
+                    uint64_t answer[MOKI_PLAIN_WORDS]);
 
 /* Reads a formula's text (QDIMACS) into a block. The status is 0, and the answer the
    block's length; or 27, and the answer the place of the byte that no text goes on

@@ -1,5 +1,5 @@
 /* A text read whole and in pieces, and written; two administrators at one session, the reasons of
-   its steps, a counted run, a listing page by page, and what happens to bad input. */
+   its steps, a counted run, a second opinion, a listing page by page, and what happens to bad input. */
 #include <stdio.h>
 #include <string.h>
 
@@ -229,6 +229,18 @@ static void bad_input(void)
     expect("nothing is written", lits[0] == 7 && kinds[0] == 7 && reasons[0] == 7 && output[0] == 7 && answer[0] == 7 && answer[3] == 7 && answer[4] == 7);
 }
 
+/* Case A is false. A block of 25 variables and no clauses is more than plain takes. */
+static void a_second_opinion(void)
+{
+    int32_t many[6 + 25] = {25, 0, 0, 6, 31, 31};
+    uint64_t answer[MOKI_PLAIN_WORDS] = {7};
+
+    for (int32_t v = 1; v <= 25; v++)
+        many[5 + v] = v;
+    expect("25 variables are refused with 22, and nothing is written", moki_plain(many, COUNT(many), answer) == 22 && answer[0] == 7);
+    expect("a second opinion on case A is Unsat", moki_plain(block, COUNT(block), answer) == 0 && answer[0] == MOKI_UNSAT);
+}
+
 int main(void)
 {
     a_text();
@@ -236,6 +248,7 @@ int main(void)
     two_administrators();
     eight_reasons();
     counted();
+    a_second_opinion();
     a_listing();
     bad_input();
     return failures != 0;

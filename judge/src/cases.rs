@@ -286,6 +286,8 @@ pub fn talks() -> Vec<Talk> {
         most_levels(),
         paused_after_entries(),
         repeated_on_short_buffers(),
+        small_second_opinions(),
+        large_second_opinions(),
     ]
 }
 
@@ -617,5 +619,55 @@ fn repeated_on_short_buffers() -> Talk {
     talk.say("page 0 1", "page 23");
     talk.say(&line("block", &b()), "block 0");
     talk.say("open 0", "open 11");
+    talk
+}
+
+/// The worked cases once more, by the truth alone. Nothing else on the desk is looked at
+/// or written.
+fn small_second_opinions() -> Talk {
+    let mut talk = Talk::at("the worked cases, a second opinion", &A, 1);
+    talk.say("session 9 9 2", "session");
+    talk.say("plain", "plain 0 2");
+    let desk = "show 9 9 2 lits 9 9 9 9 kinds 9 9 9 9 reasons 9 9 9 9 out 7";
+    talk.say("show", desk);
+    for (block, answer) in [
+        (b(), "plain 0 1"),
+        (d(), "plain 0 2"),
+        (E.to_vec(), "plain 0 1"),
+        (F.to_vec(), "plain 0 2"),
+        (G.to_vec(), "plain 0 1"),
+        (i(), "plain 0 1"),
+        (j(), "plain 0 2"),
+    ] {
+        talk.say(&line("block", &block), "block 0");
+        talk.say("plain", answer);
+    }
+    talk.say(&line("block", &c()), "block 7");
+    talk.say("plain", "plain 7");
+    talk.say(&line("block", &n()), "block 23");
+    talk.say("plain", "plain 23");
+    talk.say("show", desk);
+    talk
+}
+
+/// As many variables as a second opinion takes, and one more: that row comes after
+/// all rows of the block, 23 among them.
+fn large_second_opinions() -> Talk {
+    let existential = |v| (1..=v).collect::<Vec<i32>>();
+    let universal: Vec<i32> = (1..24).map(|v| -v).chain([24]).collect();
+    let block = lay_out(&existential(24), &[vec![24, 1]]);
+    let mut talk = Talk::at("24 variables, and 25", &block, 0);
+    talk.say("plain", "plain 0 1");
+    talk.say(&line("block", &lay_out(&universal, &[vec![]])), "block 0");
+    talk.say("plain", "plain 0 2");
+    for (clause, check, answer) in [
+        (vec![25, 1], 0, 22),
+        (vec![25, 25], 23, 23),
+        (vec![25, -25], 10, 10),
+    ] {
+        let block = lay_out(&existential(25), &[clause]);
+        talk.say(&line("block", &block), &format!("block {check}"));
+        talk.say("plain", &format!("plain {answer}"));
+    }
     talk
 }

@@ -41,6 +41,7 @@ use crate::block;
 use crate::counted::Numbers;
 use crate::hits::Hits;
 use crate::page::{self, Ask, Work};
+use crate::plain;
 use crate::reading::TEXT_ROOM;
 use crate::session::{self, Lent, Session, State};
 
@@ -120,6 +121,7 @@ impl Desk {
             b"step" => self.step(words),
             b"run" => self.run(words),
             b"page" => self.page(words),
+            b"plain" => self.plain(words),
             b"show" => self.show(words),
             b"text" => set(&mut self.text, "text", words, TEXT_ROOM),
             b"read" => self.read(words),
@@ -248,6 +250,17 @@ impl Desk {
                 joined(head, written)
             }
             Err(number) => format!("page {number}"),
+        })
+    }
+
+    fn plain(&self, words: &[&[u8]]) -> Option<String> {
+        if !words.is_empty() {
+            return None;
+        }
+        Some(match plain::solve(&self.block) {
+            Ok(true) => "plain 0 1".to_string(),
+            Ok(false) => "plain 0 2".to_string(),
+            Err(number) => format!("plain {number}"),
         })
     }
 

@@ -9,6 +9,7 @@ use crate::console::{line, Desk};
 use crate::damage::{break_entry, damaged, EDGES};
 use crate::dice::Dice;
 use crate::nonsense;
+use crate::plain::MOST;
 use crate::record::{self, Entry};
 use crate::rules;
 use crate::session::State;
@@ -93,6 +94,7 @@ impl Play {
             self.calls_of_each_kind();
         }
         self.say_block(&block);
+        self.plain();
         self.lend_buffers(self.variables());
         self.lend_numbers();
         self.say_output();
@@ -103,11 +105,11 @@ impl Play {
     }
 
     /// Mostly small formulas, with now and then a large count, or one at its limit
-    /// or over it.
+    /// or over it, the limit of a second opinion being one of them.
     fn new_block(&mut self) -> Vec<i32> {
         let dice = &mut self.dice;
         let variables = 3 + dice.below(10);
-        let (shape, k) = match dice.weighted(&[160, 160, 340, 280, 100, 12, 9, 5]) {
+        let (shape, k) = match dice.weighted(&[160, 160, 340, 280, 140, 14, 14, 9, 70]) {
             0 => (shapes::small(dice, 4), None),
             1 => (shapes::small(dice, 8), None),
             2 => (shapes::harder(dice, variables), None),
@@ -118,7 +120,11 @@ impl Play {
             4 => shapes::wide(dice),
             5 => (shapes::large(dice), None),
             6 => return shapes::full(dice),
-            _ => return shapes::overfull(dice),
+            7 => return shapes::overfull(dice),
+            _ => {
+                let many = MOST + 1 + dice.below(3);
+                (shapes::harder(dice, many), None)
+            }
         };
         shapes::block(dice, shape, k)
     }
@@ -370,6 +376,15 @@ impl Play {
         self.asked("page", start.min(u32::MAX as u64), budget);
     }
 
+    /// The second opinion, where it is soon told: it is refused, or there are few
+    /// values to try.
+    fn plain(&mut self) {
+        let v = self.variables();
+        if self.formula.is_none() || v <= 10 || v > MOST {
+            self.say("plain".to_string());
+        }
+    }
+
     fn say_session(&mut self) {
         let v = self.variables() as u64;
         let now = self.desk.session;
@@ -471,6 +486,9 @@ impl Play {
         }
         if self.dice.chance(1, 2) {
             self.counted();
+        }
+        if self.dice.chance(1, 2) {
+            self.plain();
         }
     }
 

@@ -13,6 +13,7 @@ pub mod dice;
 pub mod hits;
 pub mod nonsense;
 pub mod page;
+pub mod plain;
 pub mod qdimacs;
 pub mod reading;
 pub mod record;

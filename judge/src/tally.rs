@@ -9,14 +9,14 @@ use crate::console::Desk;
 use crate::hits::NAMES;
 
 /// The commands whose answer begins with a number of the table.
-const CALLS: [&str; 9] = [
-    "block", "open", "step", "run", "page", "read", "pieces", "write", "counted",
+const CALLS: [&str; 10] = [
+    "block", "open", "step", "run", "page", "read", "pieces", "write", "counted", "plain",
 ];
 
-const COMMANDS: [&str; 22] = [
+const COMMANDS: [&str; 23] = [
     "block", "lits", "kinds", "reasons", "out", "session", "open", "step", "run", "page", "show",
     "text", "read", "pieces", "words", "write", "bytes", "trues", "opens", "index", "counted",
-    "numbers",
+    "numbers", "plain",
 ];
 
 /// The refusals of a reading, 31 with its rows.
@@ -126,7 +126,7 @@ impl fmt::Display for Tally {
             writeln!(f, "blame {name} {count}")?;
         }
         self.number_row(f, "accepted", "0")?;
-        let table = (1..=21).chain([23]).map(|number| number.to_string());
+        let table = (1..=23).map(|number| number.to_string());
         for number in table.chain(READINGS.map(String::from)) {
             self.number_row(f, &format!("refusal {number}"), &number)?;
         }

@@ -93,6 +93,7 @@ mod c {
             output_length: usize,
             answer: &mut [u64; 3],
         ) -> u32;
+        pub fn moki_plain(block: *const i32, block_length: usize, answer: &mut [u64; 1]) -> u32;
         pub fn moki_read(
             bytes: *const u8,
             bytes_length: usize,
@@ -287,6 +288,16 @@ pub fn page(
         entries: answer[1] as u32,
         paused: answer[2] == 1,
     })
+}
+
+/// A second opinion, by the definition of truth alone: whether the formula is true;
+/// refusals 1 to 10, 22 and 23. It takes at most 24 variables, and may try all of their
+/// values.
+pub fn plain(block: &[i32]) -> Result<bool, Refusal> {
+    let mut answer = [0; 1];
+    let status = call!(moki_plain(in block, &mut answer));
+    accepted(status)?;
+    Ok(answer[0] == 1)
 }
 
 /// What reading answers: the block's length, or why the text was refused.

@@ -7,7 +7,7 @@
 
 mod door;
 
-pub use door::{check, open, page, read, write};
+pub use door::{check, open, page, plain, read, write};
 
 /// Counts the accepted steps of a session, from the number that it was opened at.
 #[derive(Clone, Copy, Debug, PartialEq, Eq)]

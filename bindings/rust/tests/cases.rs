@@ -1,6 +1,8 @@
-//! Cases A, G and K of docs/SPEC.md, and the texts of A and G.
+//! Cases A, G and K of docs/SPEC.md, the texts of A and G, and second opinions.
 
-use mokihazureo::{open, page, read, write, Literal, Page, Reason, Refusal, Revision, Session};
+use mokihazureo::{
+    open, page, plain, read, write, Literal, Page, Reason, Refusal, Revision, Session,
+};
 use mokihazureo::{Numbers, Reader, State, Unread};
 
 const A: [i32; 28] = [
@@ -286,4 +288,15 @@ fn a_block_is_not_written() {
         assert_eq!(write(block, &mut output), Err(Refusal(number)));
         assert_eq!(output, vec![7; room]);
     }
+}
+
+/// A is false, and G has winners. 25 variables are one more than plain takes.
+#[test]
+fn second_opinions() {
+    assert_eq!(plain(&A), Ok(false));
+    assert_eq!(plain(&G), Ok(true));
+    let mut many = vec![25, 0, 0, 6, 31, 31];
+    many.extend(1..=25);
+    assert_eq!(plain(&many), Err(Refusal(22)));
+    assert_eq!(plain(&A[..27]), Err(Refusal(4)));
 }

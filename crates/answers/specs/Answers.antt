@@ -14,6 +14,8 @@ use Rattle.session.specs.declared.Ran.the-variants.{Until, Stopped}
 use Rattle.memory.specs.States.{numberOf, stateNumbered}
 use Rattle.session.specs.Outcome.{session}
 use Rattle.listing.specs.declared.Paged as paged
+use Rattle.plain.specs.declared.Opinion as opinion
+use Rattle.plain.specs.Agrees.{stateTold}
 use Rattle.text.specs.declared.Answer as read
 use Rattle.writer.specs.declared.Written as wrote
 
@@ -63,6 +65,17 @@ pagedStatus (paged.the-variants.Refused n) = n
 abbrev pub pagedNumbers : paged.Paged → List ℕ
 pagedNumbers (paged.the-variants.Page n e p) = n ∷ e ∷ cond p 1 0 ∷ []
 pagedNumbers (paged.the-variants.Refused n) = []
+
+-- ---- [calls.plain] a second opinion: the number of the state that it tells
+abbrev pub solvedStatus : opinion.Opinion → ℕ
+solvedStatus opinion.the-variants.Valid = 0
+solvedStatus opinion.the-variants.Unsat = 0
+solvedStatus (opinion.the-variants.Refused n) = n
+
+abbrev pub solvedNumbers : opinion.Opinion → List ℕ
+solvedNumbers opinion.the-variants.Valid = numberOf (stateTold opinion.the-variants.Valid) ∷ []
+solvedNumbers opinion.the-variants.Unsat = numberOf (stateTold opinion.the-variants.Unsat) ∷ []
+solvedNumbers (opinion.the-variants.Refused n) = []
 
 -- ---- [calls.read] a text: status 0 and the block's length; 27 and the place; 28, 29 or 30, and 0; 31 and the row
 abbrev pub readStatus : read.Answer → ℕ

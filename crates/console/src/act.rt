@@ -49,6 +49,7 @@ fn call(
             names::PIECES,
             pieces::read(line, from, bytes, block),
         ),
+        Command::Plain => reply::solved(session, plain::solve(block)),
         Command::Write => reply::written(session, writer::write(block, bytes)),
         _ => reply::told(command, session, counts),
     }

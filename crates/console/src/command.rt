@@ -69,6 +69,7 @@ pub(crate) enum Command {
         from: usize,
     },
     Numbers,
+    Plain,
 }
 
 // A command, if its words fit.
@@ -199,6 +200,7 @@ fn behind(name: Name, line: &[u8], from: usize) -> Command {
         ),
         names::COUNTED => run(name, line, from),
         names::NUMBERS => only(ends(line, from), Command::Numbers),
+        names::PLAIN => only(ends(line, from), Command::Plain),
         _ => Command::Unknown,
     }
 }

@@ -7,6 +7,8 @@ use crate::room::ANSWER_NUMBERS;
 use formula::Checked;
 use listing::Paged;
 use memory::number_of;
+use plain::Opinion;
+use record::State;
 use session::Answer;
 use session::Ran;
 use session::Session;
@@ -181,6 +183,15 @@ pub(crate) fn written(session: Session, answer: Written) -> Reply {
     match answer {
         Written::Text(length) => pair(session, names::WRITE, 2, 0, length as u64),
         Written::Refused(n) => short(session, names::WRITE, 1, n as u64),
+    }
+}
+
+// `plain 0 STATE`, or `plain N`
+pub(crate) fn solved(session: Session, answer: Opinion) -> Reply {
+    match answer {
+        Opinion::Valid => pair(session, names::PLAIN, 2, 0, number_of(State::Valid) as u64),
+        Opinion::Unsat => pair(session, names::PLAIN, 2, 0, number_of(State::Unsat) as u64),
+        Opinion::Refused(n) => short(session, names::PLAIN, 1, n as u64),
     }
 }
 

@@ -32,8 +32,8 @@ truth-among (q ∷ p) m σ τ e = rw (truth-among p m (q ∷ σ) (q ∷ τ) (gro
     grow : (l : ℤ) → among (l ∷ σ) ≡ among (l ∷ τ)
     grow l = fun-ext (λ x. ap (λ (ρ : ℤ → Bool). eqZ x l || ρ x) e)
 
--- literals made true one after the other
-onto : List ℤ → List ℤ → List ℤ
+-- literals made true one after the other, so the newest stands first
+unfoldable pub onto : List ℤ → List ℤ → List ℤ
 onto [] σ = σ
 onto (v ∷ vs) σ = onto vs (v ∷ σ)
 
@@ -108,14 +108,14 @@ unfolding entries
 listed-none [] f = refl
 listed-none (n ∷ ns) f = absurd (f n (here refl))
 
+-- an opening's values, whichever way they are put together
+pub wins-onto : (F : Formula) (n : ℕ) → truth (drop (firstGroup (F .prefix)) (F .prefix)) (F .clauses) (onto (valuesOf n (groupOf F)) []) ≡ wins F n
+unfolding wins mem
+wins-onto F n = truth-among _ (F .clauses) (onto (valuesOf n (groupOf F)) []) (valuesOf n (groupOf F)) (fun-ext (λ x. onto-among (valuesOf n (groupOf F)) [] x ∙ or-false (mem x (valuesOf n (groupOf F)))))
+
 module _ (F : Formula) (exists : firstUniversal F ≡ false) where
   whole : groupOf F ++ drop (firstGroup (F .prefix)) (F .prefix) ≡ F .prefix
   whole = take-append-drop (firstGroup (F .prefix)) (F .prefix)
-
-  -- an opening's values, whichever way they are put together
-  wins-onto : (n : ℕ) → truth (drop (firstGroup (F .prefix)) (F .prefix)) (F .clauses) (onto (valuesOf n (groupOf F)) []) ≡ wins F n
-  unfolding wins mem
-  wins-onto n = truth-among _ (F .clauses) (onto (valuesOf n (groupOf F)) []) (valuesOf n (groupOf F)) (fun-ext (λ x. onto-among (valuesOf n (groupOf F)) [] x ∙ or-false (mem x (valuesOf n (groupOf F)))))
 
   -- [demand.3.some] the formula is true exactly if some opening wins
   pub some-opening : (true? F ≡ true) ↔ ((n : ℕ) × (n < openings F) × (wins F n ≡ true))
@@ -125,11 +125,11 @@ module _ (F : Formula) (exists : firstUniversal F ≡ false) where
       there-is : truth (F .prefix) (F .clauses) [] ≡ true → (n : ℕ) × (n < openings F) × (wins F n ≡ true)
       there-is h =
           let (n, l, t) = some-number (drop (firstGroup (F .prefix)) (F .prefix)) (F .clauses) (groupOf F) [] (group-exists F exists) (rw whole h) in
-          (n, rw (group-length F) at l, sym (wins-onto n) ∙ t)
+          (n, rw (group-length F) at l, sym (wins-onto F n) ∙ t)
 
       is-true : (n : ℕ) → wins F n ≡ true → truth (F .prefix) (F .clauses) [] ≡ true
       is-true n w =
-          rw whole at (number-some (drop (firstGroup (F .prefix)) (F .prefix)) (F .clauses) n (groupOf F) [] (group-exists F exists) (wins-onto n ∙ w))
+          rw whole at (number-some (drop (firstGroup (F .prefix)) (F .prefix)) (F .clauses) n (groupOf F) [] (group-exists F exists) (wins-onto F n ∙ w))
 
   -- [demand.3.some] so the whole listing is empty exactly if the formula is false
   pub empty-listing : (listing F (openings F) ≡ []) ↔ (true? F ≡ false)

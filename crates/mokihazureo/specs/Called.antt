@@ -14,8 +14,9 @@ use Rattle.session.specs.Run.{runOf}
 use Rattle.counted.specs.Lent as counted
 use Rattle.counted.specs.Counted.{countedOf}
 use Rattle.listing.specs.Page.{PageMemory, pageOf}
+use Rattle.plain.specs.Solve.{solveOf}
 use Rattle.writer.specs.Write.{writeOf}
-use Rattle.answers.specs.Answers.{telling, openedStatus, openedNumbers, steppedStatus, steppedNumbers, ranStatus, ranNumbers, pagedStatus, pagedNumbers, wroteStatus, wroteNumbers}
+use Rattle.answers.specs.Answers.{telling, openedStatus, openedNumbers, steppedStatus, steppedNumbers, ranStatus, ranNumbers, pagedStatus, pagedNumbers, solvedStatus, solvedNumbers, wroteStatus, wroteNumbers}
 
 -- what is lent: the call's own memory, and the array for the answer's numbers
 pub record Lent (M : Type 0) : Type 0 where
@@ -51,6 +52,10 @@ countedCall L s b w seen budget preferred a = told ranStatus ranNumbers a (count
 -- ---- a page: where the next one begins, the entries written, and 1 for paused, else 0
 abbrev pub pageCall : Limits → List ℤ → PageMemory → ℕ → List ℤ → ℕ → List ℕ → Outcome (Lent PageMemory) ℕ
 pageCall L b m start preferred budget a = told pagedStatus pagedNumbers a (pageOf L b m start preferred budget)
+
+-- ---- [calls.plain] a second opinion, which is lent no other memory: the number of the state that it tells
+abbrev pub plainCall : Limits → List ℤ → List ℕ → Outcome (List ℕ) ℕ
+plainCall L b a = telling solvedStatus solvedNumbers a (solveOf L b)
 
 -- ---- [calls.write] a block written as a text: status 0 and the text's length, or the refusal's number and none
 abbrev pub writeCall : Limits → List ℤ → List ℕ → List ℕ → Outcome (Lent (List ℕ)) ℕ

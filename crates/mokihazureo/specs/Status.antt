@@ -2,13 +2,17 @@
 -- them, is as it was. By the two cases of the number, 0 and not 0. Reading a text is the exception: with another status its output is 0.
 use mathlib.Core.Path.{_≡_, refl, ap}
 use mathlib.Core.Logic.{_⊎_, inl, inr}
+use mathlib.Core.Bool.{Bool, true, false}
 use mathlib.Core.List.{List, []}
 use Prim.Native.Nat.{ℕ, zero, suc}
 use native.Mathlib.Nat.{suc-ne-zero}
 use lib.IntN.{ℤ}
 use lib.ListN.{length}
+use lib.Seq.{sets}
 use Rattle.words.specs.Outcomes.{Outcome, outcome, unless}
 use Rattle.formula.specs.Limits.{Limits}
+use Rattle.formula.specs.Formula.{formulaOf}
+use Rattle.formula.specs.Truth.{true?}
 use Rattle.session.specs.declared.Session.{Session}
 use Rattle.session.specs.declared.Answer.the-variants.{Refused}
 use Rattle.session.specs.declared.Stepped.the-variants.{Not}
@@ -25,14 +29,15 @@ use Rattle.counted.specs.Laws.Guards.{passes}
 use Rattle.record.specs.Found.{literal}
 use Rattle.listing.specs.declared.Paged as paged
 use Rattle.listing.specs.Page.{PageMemory, pageRefusal, pageOf}
+use Rattle.plain.specs.Solve.{plainRefusal, opinionOf, solveOf}
 use Rattle.text.specs.declared.Answer as text
 use Rattle.grammar.specs.Reads.{Read, spelled, misfit, reads}
 use Rattle.text.specs.Tree.{zeros, textRefusal, rowOf, textOf, answered, readOf}
 use Rattle.text.specs.Meaning.{accepted-or-wiped}
 use Rattle.writer.specs.declared.Written as wrote
 use Rattle.writer.specs.Write.{writeRefusal, writeOf}
-use Rattle.answers.specs.Answers.{openedStatus, openedNumbers, steppedStatus, steppedNumbers, ranStatus, ranNumbers, pagedStatus, pagedNumbers, readStatus, wroteStatus, wroteNumbers}
-use Rattle.mokihazureo.specs.Called.{Lent, lent, told, revision, openCall, stepCall, runCall, countedCall, pageCall, writeCall}
+use Rattle.answers.specs.Answers.{openedStatus, openedNumbers, steppedStatus, steppedNumbers, ranStatus, ranNumbers, pagedStatus, pagedNumbers, solvedStatus, solvedNumbers, readStatus, wroteStatus, wroteNumbers}
+use Rattle.mokihazureo.specs.Called.{Lent, lent, told, revision, openCall, stepCall, runCall, countedCall, pageCall, plainCall, writeCall}
 use Rattle.mokihazureo.specs.Reading.{readCall}
 
 -- the status is the table's number n, and unless that is 0 all is as it was
@@ -73,6 +78,16 @@ page-stated L b m start preferred budget a = stated pagedStatus pagedNumbers pag
 pub write-stated : (L : Limits) (b : List ℤ) (o a : List ℕ) → Stated (writeRefusal L b (length o)) o a (writeCall L b o a)
 unfolding writeOf
 write-stated L b o a = stated wroteStatus wroteNumbers wrote.the-variants.Refused (λ n. refl) (λ n. refl) (writeRefusal L b (length o)) o a _ (λ e. refl)
+
+-- a second opinion is lent the answer's array alone
+pub plain-stated : (L : Limits) (b : List ℤ) (a : List ℕ) → (plainCall L b a .answer ≡ plainRefusal L b) × ((plainRefusal L b ≡ 0 → ⊥) → plainCall L b a .memory ≡ a)
+unfolding solveOf opinionOf
+plain-stated L b a = by (plainRefusal L b) (true? (formulaOf b))
+  where
+    by : (n : ℕ) (t : Bool) → let o = opinionOf n t in (solvedStatus o ≡ n) × ((n ≡ 0 → ⊥) → sets a 0 (solvedNumbers o) ≡ a)
+    by zero true = (refl, λ f. absurd (f refl))
+    by zero false = (refl, λ f. absurd (f refl))
+    by (suc n) t = (refl, λ f. refl)
 
 -- ---- [calls.read] a text: with status 0 it is accepted, and [text.wiped] with any other all of the output is 0
 pub record ReadStated (o : List ℤ) (r : Outcome (List ℤ) text.Answer) (u : Outcome (Lent (List ℤ)) ℕ) : Type 0 where

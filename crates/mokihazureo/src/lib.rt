@@ -4,7 +4,7 @@ ghost use Rattle.counted.specs.Lent as counted;
 ghost use Rattle.listing.specs.Page.{pageMemory};
 ghost use Rattle.answers.specs.Answers.{sessionOf};
 ghost use Rattle.mokihazureo.specs.Called.{lent};
-ghost use Rattle.mokihazureo.specs.Promises.{CheckPromise, OpenPromise, StepPromise, RunPromise, CountedPromise, PagePromise, ReadPromise, BeginPromise, PiecePromise, EndPromise, WritePromise};
+ghost use Rattle.mokihazureo.specs.Promises.{CheckPromise, OpenPromise, StepPromise, RunPromise, CountedPromise, PagePromise, PlainPromise, ReadPromise, BeginPromise, PiecePromise, EndPromise, WritePromise};
 use formula::Checked;
 use session::Revision;
 use words::Literal;
@@ -141,6 +141,15 @@ pub extern "C" fn moki_page(
 {
     let outcome = listing::page(block, lits, kinds, start, preferred, budget, output);
     answers::paged(outcome, answer)
+}
+
+// A second opinion: the state's number is written to the answer.
+#[no_mangle]
+pub extern "C" fn moki_plain(block: &[i32], answer: &mut [u64; 1]) -> u32
+    ensures { λ r. ⌜ PlainPromise (now (block .entry)) (now (answer .entry)) r (now (answer .exit)) ⌝ }
+{
+    let outcome = plain::solve(block);
+    answers::solved(outcome, answer)
 }
 
 // A whole text, read into a block; the block's length, the place or the row is written to the answer.

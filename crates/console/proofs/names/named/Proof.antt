@@ -1,14 +1,14 @@
--- Twenty-two names are tried.
+-- Twenty-three names are tried.
 use Prim.Native.Nat.{_-_, _≤_}
 use borrow.Author.Needs.{needs}
 use Rattle.console.proofs.names.named.Statement.{statement}
 use Rattle.console.proofs.names.named.Tie as tie
 
 abbrev Inv-loop : tie.InvT-loop
-Inv-loop word names place₀ place = (place ≤ 22)
+Inv-loop word names place₀ place = (place ≤ 23)
 
 abbrev μ-loop : tie.MeasureT-loop
-μ-loop word names place₀ place = 22 - place
+μ-loop word names place₀ place = 23 - place
 
 pub named-spec : {M : Type 1} → statement M
 named-spec =

@@ -1,0 +1,3 @@
+-- What functions say to each other.
+pub mod Met
+pub mod Tried
