@@ -28,6 +28,43 @@ enum { MOKI_SESSION_WORDS = 3, MOKI_STEP_WORDS = 4, MOKI_RUN_WORDS = 5, MOKI_PAG
 /* How many words a reader has between two pieces of a text. */
 enum { MOKI_READER_WORDS = 12 };
 
+/* What a status means, in the words of the table of docs/SPEC.md (tools/refusals --write
+   puts them here, and the gate compares them). */
+static inline const char *moki_refusal_text(uint32_t status)
+{
+    switch (status) {
+    case 1: return "block too short for a header";
+    case 2: return "count out of range";
+    case 3: return "wrong offset";
+    case 4: return "block of the wrong length";
+    case 5: return "prefix word that names no variable";
+    case 6: return "variable bound more than once";
+    case 7: return "innermost variable is universal";
+    case 8: return "wrong clause end";
+    case 9: return "literal that names no variable";
+    case 10: return "clause with a literal and its opposite";
+    case 11: return "record buffer too short";
+    case 12: return "broken record";
+    case 13: return "session is over";
+    case 14: return "seen at another revision";
+    case 15: return "no revisions left";
+    case 16: return "no decision is due";
+    case 17: return "literal is not open";
+    case 18: return "first group is universal";
+    case 19: return "first group too large";
+    case 20: return "start past the end";
+    case 21: return "no room for an entry";
+    case 22: return "too many values to try";
+    case 23: return "clause that repeats a literal";
+    case 27: return "not a text";
+    case 28: return "numbers that can't be right";
+    case 29: return "text over the limits";
+    case 30: return "output too short";
+    case 31: return "formula that no block may have";
+    default: return status == 0 ? "accepted" : "no number of the table";
+    }
+}
+
 /* The record is two buffers, literals and kinds; open, step and run are lent a third
    beside them, the reasons. Each has V places or more. A reason is the number of the
    clause that forced the entry, counted from 0, plus one; 0 is none. */

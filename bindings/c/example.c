@@ -112,6 +112,7 @@ static void two_administrators(void)
     expect("and there is no fifth number", session[4] == 7);
 
     expect("Ben's move from revision 0 is refused with 14", moki_step(session[0], session[1], (uint32_t)session[2], block, COUNT(block), lits, 4, kinds, 4, reasons, 5, 0, -1, session) == 14);
+    expect("in words: seen at another revision", strcmp(moki_refusal_text(14), "seen at another revision") == 0);
     expect("nothing is changed", session[0] == 1 && session[1] == 1 && lits[0] == 1 && lits[1] == 0);
 
     expect("he goes on from revision 1", moki_step(session[0], session[1], (uint32_t)session[2], block, COUNT(block), lits, 4, kinds, 4, reasons, 5, 1, -2, session) == 0);

@@ -6,6 +6,7 @@
 //! beside it, each of at least V places.
 
 mod door;
+mod refusals;
 
 pub use door::{check, open, page, plain, read, write};
 
@@ -42,9 +43,16 @@ pub enum State {
 #[derive(Clone, Copy, Debug, PartialEq, Eq)]
 pub struct Refusal(pub u32);
 
+impl Refusal {
+    /// What the number means, in the table's words.
+    pub fn words(self) -> &'static str {
+        refusals::words(self.0)
+    }
+}
+
 impl std::fmt::Display for Refusal {
     fn fmt(&self, to: &mut std::fmt::Formatter) -> std::fmt::Result {
-        write!(to, "refused with number {}", self.0)
+        write!(to, "refused with {}: {}", self.0, self.words())
     }
 }
 
@@ -124,11 +132,11 @@ impl Unread {
 
 impl std::fmt::Display for Unread {
     fn fmt(&self, to: &mut std::fmt::Formatter) -> std::fmt::Result {
-        write!(to, "refused with number {}", self.number())?;
-        match self {
-            Unread::Misfit(place) => write!(to, " at byte {place}"),
+        write!(to, "{}", Refusal(self.number()))?;
+        match *self {
+            Unread::Misfit(place) => write!(to, ", at byte {place}"),
             Unread::Refused(_) => Ok(()),
-            Unread::Row(row) => write!(to, " for row {row}"),
+            Unread::Row(row) => write!(to, ", row {row}: {}", Refusal(row).words()),
         }
     }
 }

@@ -1,4 +1,4 @@
-//! Cases A, G and K of docs/SPEC.md, the texts of A and G, and second opinions.
+//! Cases A, G and K of docs/SPEC.md, the texts of A and G, second opinions, and refusals in words.
 
 use mokihazureo::{
     open, page, plain, read, write, Literal, Page, Reason, Refusal, Revision, Session,
@@ -247,10 +247,35 @@ fn a_text_is_refused_and_the_output_wiped() {
         assert_eq!(read(text, &mut output), Err(unread));
         assert_eq!(output, vec![0; words]);
     }
-    assert_eq!(
-        Unread::Misfit(9).to_string(),
-        "refused with number 27 at byte 9"
-    );
+}
+
+/// Refusals speak in the table's words.
+#[test]
+fn refusals_in_words() {
+    for (said, wanted) in [
+        (
+            Refusal(14).to_string(),
+            "refused with 14: seen at another revision",
+        ),
+        (
+            Refusal(24).to_string(),
+            "refused with 24: no number of the table",
+        ),
+        (
+            Unread::Misfit(9).to_string(),
+            "refused with 27: not a text, at byte 9",
+        ),
+        (
+            Unread::Refused(30).to_string(),
+            "refused with 30: output too short",
+        ),
+        (
+            Unread::Row(7).to_string(),
+            "refused with 31: formula that no block may have, row 7: innermost variable is universal",
+        ),
+    ] {
+        assert_eq!(said, wanted);
+    }
 }
 
 /// What is written, and the bytes behind it; and it is read back.
