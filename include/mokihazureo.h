@@ -61,6 +61,7 @@ static inline const char *moki_refusal_text(uint32_t status)
     case 29: return "text over the limits";
     case 30: return "output too short";
     case 31: return "formula that no block may have";
+    case 32: return "nothing to show";
     default: return status == 0 ? "accepted" : "no number of the table";
     }
 }

@@ -31,6 +31,7 @@ pub(crate) fn words(number: u32) -> &'static str {
         29 => "text over the limits",
         30 => "output too short",
         31 => "formula that no block may have",
+        32 => "nothing to show",
         _ => "no number of the table",
     }
 }

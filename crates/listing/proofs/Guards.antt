@@ -1,10 +1,8 @@
 -- Which row turns a page away, one law for each way out of the guard: the rows passed so far do not hold, the next one does.
 use Prim.Native.Nat.{ℕ, _-_, _^_, _≤_, _<_}
 use mathlib.Core.Path.{_≡_, refl, sym, _∙_}
-use mathlib.Core.Bool.{Bool, true, false, _&&_}
-use mathlib.Core.List.{List, [], _∷_}
-use native.Mathlib.Omega.{arith}
-use lib.Dec.{ltb}
+use mathlib.Core.Bool.{Bool, true, false}
+use mathlib.Core.List.{List, []}
 use lib.IntN.{ℤ}
 use lib.ListN.{length}
 use borrow.Author.Tests.{lt-ltb, le-ltb}
@@ -15,17 +13,13 @@ use Rattle.formula.specs.Formula.{word, formulaOf, firstGroup, prefixOf}
 use Rattle.record.specs.Inner.Ready.{formula}
 use Rattle.memory.specs.Memory.{recordPlaces}
 use Rattle.memory.specs.Refusals.{openRows, openRefusal}
+use Rattle.listing.specs.Laws.Values.{first-word}
 use Rattle.listing.specs.Page.{ofPage, pageRefusal, PageMemory}
 use Rattle.formula.specs.Limits.{limits}
 
 -- ---- rows 18 to 21
 abbrev rowsOf : List ℤ → ℕ → List ℕ → List Row
 rowsOf p start out = ofPage limits (formula p [] []) start out
-
--- an empty prefix has no first word, and the word past its end is not negative
-first-word : (p : List ℤ) → (ltb 0 (length p) && negative (word p 0)) ≡ negative (word p 0)
-first-word [] = refl
-first-word (q ∷ p) = let h : 0 < length (q ∷ p) = omega arith in rw (lt-ltb 0 (length (q ∷ p)) h)
 
 module _ (p : List ℤ) (start : ℕ) (out : List ℕ) {u : Bool} (is : u ≡ negative (word p 0)) where
   pub openings-universal : u ≡ true → 18 ≡ refusalOf (rowsOf p start out)

@@ -3,20 +3,21 @@
 use Prim.Native.Nat.{ℕ, suc, _+_, _*_, _-_, _^_, _/_, _%_, _≤_, _<_}
 use mathlib.Core.Path.{_≡_, refl, _∙_, ap}
 use mathlib.Core.Logic.{inl, inr}
-use mathlib.Core.Bool.{Bool, false, Bool·beq}
+use mathlib.Core.Bool.{Bool, false, _&&_, Bool·beq}
 use mathlib.Core.List.{List, [], _∷_}
 use native.Mathlib.Nat.{pow-suc, add-comm, add-mul-div-right, add-mul-mod-self-right, div-eq-of-lt}
 use native.Mathlib.Omega.{arith}
 use lib.Arith.{digits-div}
-use lib.Dec.{eqb}
+use lib.Dec.{eqb, ltb}
 use lib.IntN.{ℤ, pos, negℤ, natAbs}
 use lib.ListN.{length}
 use lib.Pow.{pow-add, pow-pos}
 use lib.Seq.{length-take-le}
+use borrow.Author.Tests.{lt-ltb}
 use Rattle.words.specs.Laws.Bools.{look}
 use Rattle.words.specs.Words.{negative}
 use Rattle.words.specs.Laws.Words.{natAbs-neg}
-use Rattle.formula.specs.Formula.{Formula, run, firstGroup}
+use Rattle.formula.specs.Formula.{Formula, word, run, firstGroup}
 use Rattle.formula.specs.Block.{twice}
 use Rattle.formula.specs.Laws.Prefix.{stands, stands-step, twice-head, twice-tail, twice-cons}
 use Rattle.theory.specs.Witness.{groupOf, signed}
@@ -101,3 +102,8 @@ group-few (q ∷ p) = run-few (negative q) (q ∷ p)
 
 pub group-length : (F : Formula) → length (groupOf F) ≡ firstGroup (F .prefix)
 group-length F = length-take-le (firstGroup (F .prefix)) (F .prefix) (group-few (F .prefix))
+
+-- [row.18] an empty prefix has no first word, and the word past its end is not negative
+pub first-word : (p : List ℤ) → (ltb 0 (length p) && negative (word p 0)) ≡ negative (word p 0)
+first-word [] = refl
+first-word (q ∷ p) = let h : 0 < length (q ∷ p) = omega arith in rw (lt-ltb 0 (length (q ∷ p)) h)
