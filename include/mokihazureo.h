@@ -23,7 +23,7 @@ enum { MOKI_OPEN = 0, MOKI_VALID = 1, MOKI_UNSAT = 2 };
 
 /* How many words a call's answer has. Its array must have as many places or more;
    it comes as a pointer alone, so no call can see how many there are. */
-enum { MOKI_SESSION_WORDS = 3, MOKI_STEP_WORDS = 4, MOKI_RUN_WORDS = 5, MOKI_PAGE_WORDS = 3, MOKI_PLAIN_WORDS = 1, MOKI_READ_WORDS = 1, MOKI_WRITE_WORDS = 1 };
+enum { MOKI_SESSION_WORDS = 3, MOKI_STEP_WORDS = 4, MOKI_RUN_WORDS = 5, MOKI_PAGE_WORDS = 3, MOKI_SHOWN_WORDS = 1, MOKI_PLAIN_WORDS = 1, MOKI_READ_WORDS = 1, MOKI_WRITE_WORDS = 1 };
 
 /* How many words a reader has between two pieces of a text. */
 enum { MOKI_READER_WORDS = 12 };
@@ -134,6 +134,20 @@ uint32_t moki_page(const int32_t *block, size_t block_length,
                    uint32_t budget,
                    uint32_t *output, size_t output_length,
                    uint64_t answer[MOKI_PAGE_WORDS]);
+
+/* Refusals 1 to 12, 23, 30 and 32. What a session that has ended shows: a value for each
+   variable of the first group, as a literal, in prefix order. Reached by calls from an
+   opening on, these are an opening that wins where the session is Valid, and a
+   counter-example where it is Unsat. The answer is how many they are; the output has V
+   places or more, and those behind the values stay as they were. With 32 there is
+   nothing to show: the session is open, or Valid with a universal first group, or Unsat
+   with another one. */
+uint32_t moki_shown(size_t length, uint64_t revision, uint32_t state,
+                    const int32_t *block, size_t block_length,
+                    const int32_t *lits, size_t lits_length,
+                    const uint8_t *kinds, size_t kinds_length,
+                    int32_t *output, size_t output_length,
+                    uint64_t answer[MOKI_SHOWN_WORDS]);
 
 /* Refusals 1 to 10, 22 and 23. A second opinion, by the definition of truth alone: the
    answer is MOKI_VALID or MOKI_UNSAT. It takes at most 24 variables, and may try all of

@@ -230,6 +230,23 @@ static void bad_input(void)
     expect("nothing is written", lits[0] == 7 && kinds[0] == 7 && reasons[0] == 7 && output[0] == 7 && answer[0] == 7 && answer[3] == 7 && answer[4] == 7);
 }
 
+/* The listing's formula is Valid: what its record shows is an opening that wins, the
+   values of 1 and 2. While the session is open there is nothing to show. */
+static void a_witness(void)
+{
+    int32_t lits[4] = {0}, shown[4] = {7, 7, 7, 7};
+    uint8_t kinds[4] = {0};
+    uint32_t reasons[4] = {0};
+    uint64_t answer[MOKI_SHOWN_WORDS] = {7}, session[MOKI_RUN_WORDS];
+
+    expect("an open session shows nothing", moki_shown(0, 0, MOKI_OPEN, openings, COUNT(openings), lits, 4, kinds, 4, shown, 4, answer) == 32 && answer[0] == 7 && shown[0] == 7);
+    expect("the listing's formula is Valid", moki_run(0, 0, MOKI_OPEN, openings, COUNT(openings), lits, 4, kinds, 4, reasons, 4, 0, 1000, openings, 0, session) == 0 && session[2] == MOKI_VALID);
+    expect("three places are too few for four variables", moki_shown(session[0], session[1], (uint32_t)session[2], openings, COUNT(openings), lits, 4, kinds, 4, shown, 3, answer) == 30);
+    expect("two values are shown", moki_shown(session[0], session[1], (uint32_t)session[2], openings, COUNT(openings), lits, 4, kinds, 4, shown, 4, answer) == 0 && answer[0] == 2);
+    expect("of 1 and 2, one of them true", (shown[0] == 1 || shown[0] == -1) && (shown[1] == 2 || shown[1] == -2) && (shown[0] > 0 || shown[1] > 0));
+    expect("and the places behind them stay", shown[2] == 7 && shown[3] == 7);
+}
+
 /* Case A is false. A block of 25 variables and no clauses is more than plain takes. */
 static void a_second_opinion(void)
 {
@@ -250,6 +267,7 @@ int main(void)
     eight_reasons();
     counted();
     a_second_opinion();
+    a_witness();
     a_listing();
     bad_input();
     return failures != 0;

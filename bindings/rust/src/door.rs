@@ -93,6 +93,20 @@ mod c {
             output_length: usize,
             answer: &mut [u64; 3],
         ) -> u32;
+        pub fn moki_shown(
+            length: usize,
+            revision: u64,
+            state: u32,
+            block: *const i32,
+            block_length: usize,
+            lits: *const i32,
+            lits_length: usize,
+            kinds: *const u8,
+            kinds_length: usize,
+            output: *mut i32,
+            output_length: usize,
+            answer: &mut [u64; 1],
+        ) -> u32;
         pub fn moki_plain(block: *const i32, block_length: usize, answer: &mut [u64; 1]) -> u32;
         pub fn moki_read(
             bytes: *const u8,
@@ -239,6 +253,25 @@ impl Session {
         let status = call!(moki_run(length, revision, state, in block, out lits, out kinds, out reasons, seen.0, budget, in preferred, &mut answer));
         accepted(status)?;
         Ok(ran(&answer))
+    }
+
+    /// What a session that has ended shows: the value of each variable of the first
+    /// group, written to the output's first places in prefix order; refusals 1 to 12,
+    /// 23, 30 and 32. Reached by calls from an opening on, they are an opening that
+    /// wins where the session is `Valid`, a counter-example where it is `Unsat`. The
+    /// output has V places or more; the answer is how many were written.
+    pub fn shown(
+        self,
+        block: &[i32],
+        lits: &[i32],
+        kinds: &[u8],
+        output: &mut [i32],
+    ) -> Result<usize, Refusal> {
+        let (length, revision, state) = numbers_of(self);
+        let mut answer = [0; 1];
+        let status = call!(moki_shown(length, revision, state, in block, in lits, in kinds, out output, &mut answer));
+        accepted(status)?;
+        Ok(answer[0] as usize)
     }
 
     /// The same as `run`, faster on long runs; refusals 1 to 15 and 23. Its numbers by

@@ -315,6 +315,29 @@ fn a_block_is_not_written() {
     }
 }
 
+/// G is Valid, and what its record shows wins: 1 or 2 is true. With 32 there is nothing
+/// to show, and with 30 no room.
+#[test]
+fn a_witness() {
+    let (mut lits, mut kinds, mut reasons) = ([0; 4], [0; 4], [0; 4]);
+    let fresh = open(&G, &mut lits, &mut kinds, &mut reasons, Revision(0)).unwrap();
+    let mut output = [7; 5];
+    assert_eq!(
+        fresh.shown(&G, &lits, &kinds, &mut output),
+        Err(Refusal(32))
+    );
+    let ran = fresh.run(&G, &mut lits, &mut kinds, &mut reasons, Revision(0), 99, &[]);
+    let ended = ran.unwrap().session;
+    assert_eq!(
+        ended.shown(&G, &lits, &kinds, &mut output[..3]),
+        Err(Refusal(30))
+    );
+    assert_eq!(output, [7; 5]);
+    assert_eq!(ended.shown(&G, &lits, &kinds, &mut output), Ok(2));
+    assert_eq!(output.map(i32::abs), [1, 2, 7, 7, 7]);
+    assert!(output[0] == 1 || output[1] == 2);
+}
+
 /// A is false, and G has winners. 25 variables are one more than plain takes.
 #[test]
 fn second_opinions() {

@@ -14,6 +14,7 @@ use Rattle.session.specs.declared.Ran.the-variants.{Until, Stopped}
 use Rattle.memory.specs.States.{numberOf, stateNumbered}
 use Rattle.session.specs.Outcome.{session}
 use Rattle.listing.specs.declared.Paged as paged
+use Rattle.shown.specs.declared.Told as shown
 use Rattle.plain.specs.declared.Opinion as opinion
 use Rattle.plain.specs.Agrees.{stateTold}
 use Rattle.text.specs.declared.Answer as read
@@ -65,6 +66,15 @@ pagedStatus (paged.the-variants.Refused n) = n
 abbrev pub pagedNumbers : paged.Paged → List ℕ
 pagedNumbers (paged.the-variants.Page n e p) = n ∷ e ∷ cond p 1 0 ∷ []
 pagedNumbers (paged.the-variants.Refused n) = []
+
+-- ---- [calls.shown] what an ended session shows: how many values were written
+abbrev pub showedStatus : shown.Told → ℕ
+showedStatus (shown.the-variants.Values n) = 0
+showedStatus (shown.the-variants.Refused n) = n
+
+abbrev pub showedNumbers : shown.Told → List ℕ
+showedNumbers (shown.the-variants.Values n) = n ∷ []
+showedNumbers (shown.the-variants.Refused n) = []
 
 -- ---- [calls.plain] a second opinion: the number of the state that it tells
 abbrev pub solvedStatus : opinion.Opinion → ℕ

@@ -9,10 +9,11 @@ use Rattle.session.specs.declared.Answer.{Answer}
 use Rattle.session.specs.declared.Stepped.{Stepped}
 use Rattle.session.specs.declared.Ran.{Ran}
 use Rattle.listing.specs.declared.Paged.{Paged}
+use Rattle.shown.specs.declared.Told.{Told}
 use Rattle.plain.specs.declared.Opinion.{Opinion}
 use Rattle.text.specs.declared.Answer as read
 use Rattle.writer.specs.declared.Written.{Written}
-use Rattle.answers.specs.Answers.{telling, sessionOf, openedStatus, openedNumbers, steppedStatus, steppedNumbers, ranStatus, ranNumbers, pagedStatus, pagedNumbers, solvedStatus, solvedNumbers, readStatus, readNumbers, wroteStatus, wroteNumbers}
+use Rattle.answers.specs.Answers.{telling, sessionOf, openedStatus, openedNumbers, steppedStatus, steppedNumbers, ranStatus, ranNumbers, pagedStatus, pagedNumbers, showedStatus, showedNumbers, solvedStatus, solvedNumbers, readStatus, readNumbers, wroteStatus, wroteNumbers}
 
 abbrev pub SessionOfPromise : ℕ → ℕ → ℕ → Session → Type 0
 SessionOfPromise n rev st r = r ≡ sessionOf n rev st
@@ -28,6 +29,9 @@ RanPromise x a r a′ = outcome r a′ ≡ telling ranStatus ranNumbers a x
 
 abbrev pub PagedPromise : Paged → List ℕ → ℕ → List ℕ → Type 0
 PagedPromise x a r a′ = outcome r a′ ≡ telling pagedStatus pagedNumbers a x
+
+abbrev pub ShowedPromise : Told → List ℕ → ℕ → List ℕ → Type 0
+ShowedPromise x a r a′ = outcome r a′ ≡ telling showedStatus showedNumbers a x
 
 abbrev pub SolvedPromise : Opinion → List ℕ → ℕ → List ℕ → Type 0
 SolvedPromise x a r a′ = outcome r a′ ≡ telling solvedStatus solvedNumbers a x
@@ -53,6 +57,9 @@ module _ (r r′ : ℕ) (a a′ a″ : List ℕ) where
 
   pub only-paged : (x : Paged) → PagedPromise x a r a′ → PagedPromise x a r′ a″ → Same r r′ a′ a″
   only-paged x = same
+
+  pub only-showed : (x : Told) → ShowedPromise x a r a′ → ShowedPromise x a r′ a″ → Same r r′ a′ a″
+  only-showed x = same
 
   pub only-solved : (x : Opinion) → SolvedPromise x a r a′ → SolvedPromise x a r′ a″ → Same r r′ a′ a″
   only-solved x = same

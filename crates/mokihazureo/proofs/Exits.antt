@@ -11,6 +11,9 @@ use Rattle.session.specs.declared.Ran.{Ran}
 use Rattle.memory.specs.Memory.{Memory}
 use Rattle.session.specs.Outcome.{stepOutcome}
 use Rattle.session.specs.Run.{runOf}
+use Rattle.record.specs.Trail.{Trail}
+use Rattle.shown.specs.declared.Told.{Told}
+use Rattle.shown.specs.Shown.{shownOf}
 use Rattle.counted.specs.Lent as counted
 use Rattle.counted.specs.Promises.{CountedPromise}
 use Rattle.reader.specs.declared.Reader.{Reader}
@@ -37,6 +40,9 @@ module _ {s t : Session} (same : s ≡ t) (b : List ℤ) (m : Memory) (seen : �
 pub counted-of : {s t : Session} → s ≡ t → (b : List ℤ) (w : counted.Lent) (seen budget : ℕ) (preferred : List ℤ) (w′ : counted.Lent) {r : Ran}
     → CountedPromise s b w (revision seen) budget preferred r w′ → CountedPromise t b w (revision seen) budget preferred r w′
 counted-of same b w seen budget preferred w′ e = rw (← same) e
+
+pub shown-of : {s s′ : Session} → s ≡ s′ → (b : List ℤ) (t : Trail) (o : List ℤ) {u : Outcome (List ℤ) Told} → u ≡ shownOf limits s b t o → u ≡ shownOf limits s′ b t o
+shown-of same b t o e = rw (← same) e
 
 -- the reader of the numbers
 module _ (s : List ℕ) {r : Reader} (same : r ≡ readerOf s) (o : List ℤ) where

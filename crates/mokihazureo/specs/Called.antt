@@ -8,15 +8,17 @@ use Rattle.formula.specs.Limits.{Limits}
 use Rattle.record.specs.Found.{literal}
 use Rattle.session.specs.declared.Revision.{Revision}
 use Rattle.session.specs.declared.Session.{Session}
+use Rattle.record.specs.Trail.{Trail}
 use Rattle.memory.specs.Memory.{Memory}
 use Rattle.session.specs.Outcome.{openOutcome, stepOutcome}
 use Rattle.session.specs.Run.{runOf}
 use Rattle.counted.specs.Lent as counted
 use Rattle.counted.specs.Counted.{countedOf}
 use Rattle.listing.specs.Page.{PageMemory, pageOf}
+use Rattle.shown.specs.Shown.{shownOf}
 use Rattle.plain.specs.Solve.{solveOf}
 use Rattle.writer.specs.Write.{writeOf}
-use Rattle.answers.specs.Answers.{telling, openedStatus, openedNumbers, steppedStatus, steppedNumbers, ranStatus, ranNumbers, pagedStatus, pagedNumbers, solvedStatus, solvedNumbers, wroteStatus, wroteNumbers}
+use Rattle.answers.specs.Answers.{telling, openedStatus, openedNumbers, steppedStatus, steppedNumbers, ranStatus, ranNumbers, pagedStatus, pagedNumbers, showedStatus, showedNumbers, solvedStatus, solvedNumbers, wroteStatus, wroteNumbers}
 
 -- what is lent: the call's own memory, and the array for the answer's numbers
 pub record Lent (M : Type 0) : Type 0 where
@@ -52,6 +54,10 @@ countedCall L s b w seen budget preferred a = told ranStatus ranNumbers a (count
 -- ---- a page: where the next one begins, the entries written, and 1 for paused, else 0
 abbrev pub pageCall : Limits → List ℤ → PageMemory → ℕ → List ℤ → ℕ → List ℕ → Outcome (Lent PageMemory) ℕ
 pageCall L b m start preferred budget a = told pagedStatus pagedNumbers a (pageOf L b m start preferred budget)
+
+-- ---- [calls.shown] what an ended session shows, and how many values that is; t is the record in its buffers, which are only read
+abbrev pub shownCall : Limits → Session → List ℤ → Trail → List ℤ → List ℕ → Outcome (Lent (List ℤ)) ℕ
+shownCall L s b t o a = told showedStatus showedNumbers a (shownOf L s b t o)
 
 -- ---- [calls.plain] a second opinion, which is lent no other memory: the number of the state that it tells
 abbrev pub plainCall : Limits → List ℤ → List ℕ → Outcome (List ℕ) ℕ

@@ -7,13 +7,14 @@ use Rattle.words.specs.Outcomes.{only-one, outcome, Same, same}
 use Rattle.formula.specs.Limits.{limits}
 use Rattle.formula.specs.Block.{refusal}
 use Rattle.session.specs.declared.Session.{Session}
+use Rattle.record.specs.Trail.{Trail}
 use Rattle.memory.specs.Memory.{Memory}
 use Rattle.counted.specs.Lent as counted
 use Rattle.counted.specs.Promises.{used}
 use Rattle.listing.specs.Page.{PageMemory}
 use Rattle.text.specs.Pieces.{begun}
 use Rattle.saved.specs.Numbers.{written}
-use Rattle.mokihazureo.specs.Called.{Lent, lent, revision, openCall, stepCall, runCall, countedCall, pageCall, plainCall, writeCall}
+use Rattle.mokihazureo.specs.Called.{Lent, lent, revision, openCall, stepCall, runCall, countedCall, pageCall, shownCall, plainCall, writeCall}
 use Rattle.mokihazureo.specs.Reading.{readCall, pieceCall, endCall}
 
 -- ---- the promises
@@ -35,6 +36,9 @@ CountedPromise s b w seen budget preferred a r w′ a′ = outcome r (lent (coun
 
 abbrev pub PagePromise : List ℤ → PageMemory → ℕ → List ℤ → ℕ → List ℕ → ℕ → Lent PageMemory → Type 0
 PagePromise b m start preferred budget a r left = outcome r left ≡ pageCall limits b m start preferred budget a
+
+abbrev pub ShownPromise : Session → List ℤ → Trail → List ℤ → List ℕ → ℕ → Lent (List ℤ) → Type 0
+ShownPromise s b t o a r left = outcome r left ≡ shownCall limits s b t o a
 
 abbrev pub PlainPromise : List ℤ → List ℕ → ℕ → List ℕ → Type 0
 PlainPromise b a r left = outcome r left ≡ plainCall limits b a
@@ -78,6 +82,9 @@ only-counted r r′ w′ w″ a′ a″ s b w seen budget preferred a = same
 pub only-page : (r r′ : ℕ) (left left′ : Lent PageMemory) (b : List ℤ) (m : PageMemory) (start : ℕ) (preferred : List ℤ) (budget : ℕ) (a : List ℕ)
     → PagePromise b m start preferred budget a r left → PagePromise b m start preferred budget a r′ left′ → Same r r′ left left′
 only-page r r′ left left′ b m start preferred budget a = same
+
+pub only-shown : (r r′ : ℕ) (left left′ : Lent (List ℤ)) (s : Session) (b : List ℤ) (t : Trail) (o : List ℤ) (a : List ℕ) → ShownPromise s b t o a r left → ShownPromise s b t o a r′ left′ → Same r r′ left left′
+only-shown r r′ left left′ s b t o a = same
 
 pub only-plain : (r r′ : ℕ) (left left′ : List ℕ) (b : List ℤ) (a : List ℕ) → PlainPromise b a r left → PlainPromise b a r′ left′ → Same r r′ left left′
 only-plain r r′ left left′ b a = same

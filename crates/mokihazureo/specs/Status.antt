@@ -29,6 +29,9 @@ use Rattle.counted.specs.Laws.Guards.{passes}
 use Rattle.record.specs.Found.{literal}
 use Rattle.listing.specs.declared.Paged as paged
 use Rattle.listing.specs.Page.{PageMemory, pageRefusal, pageOf}
+use Rattle.record.specs.Trail.{Trail}
+use Rattle.shown.specs.declared.Told as shown
+use Rattle.shown.specs.Shown.{shownRefusal, shownOf}
 use Rattle.plain.specs.Solve.{plainRefusal, opinionOf, solveOf}
 use Rattle.text.specs.declared.Answer as text
 use Rattle.grammar.specs.Reads.{Read, spelled, misfit, reads}
@@ -36,8 +39,8 @@ use Rattle.text.specs.Tree.{zeros, textRefusal, rowOf, textOf, answered, readOf
 use Rattle.text.specs.Meaning.{accepted-or-wiped}
 use Rattle.writer.specs.declared.Written as wrote
 use Rattle.writer.specs.Write.{writeRefusal, writeOf}
-use Rattle.answers.specs.Answers.{openedStatus, openedNumbers, steppedStatus, steppedNumbers, ranStatus, ranNumbers, pagedStatus, pagedNumbers, solvedStatus, solvedNumbers, readStatus, wroteStatus, wroteNumbers}
-use Rattle.mokihazureo.specs.Called.{Lent, lent, told, revision, openCall, stepCall, runCall, countedCall, pageCall, plainCall, writeCall}
+use Rattle.answers.specs.Answers.{openedStatus, openedNumbers, steppedStatus, steppedNumbers, ranStatus, ranNumbers, pagedStatus, pagedNumbers, showedStatus, showedNumbers, solvedStatus, solvedNumbers, readStatus, wroteStatus, wroteNumbers}
+use Rattle.mokihazureo.specs.Called.{Lent, lent, told, revision, openCall, stepCall, runCall, countedCall, pageCall, shownCall, plainCall, writeCall}
 use Rattle.mokihazureo.specs.Reading.{readCall}
 
 -- the status is the table's number n, and unless that is 0 all is as it was
@@ -78,6 +81,11 @@ page-stated L b m start preferred budget a = stated pagedStatus pagedNumbers pag
 pub write-stated : (L : Limits) (b : List ℤ) (o a : List ℕ) → Stated (writeRefusal L b (length o)) o a (writeCall L b o a)
 unfolding writeOf
 write-stated L b o a = stated wroteStatus wroteNumbers wrote.the-variants.Refused (λ n. refl) (λ n. refl) (writeRefusal L b (length o)) o a _ (λ e. refl)
+
+-- [calls.shown]
+pub shown-stated : (L : Limits) (s : Session) (b : List ℤ) (t : Trail) (o : List ℤ) (a : List ℕ) → Stated (shownRefusal L s b t (length o)) o a (shownCall L s b t o a)
+unfolding shownOf
+shown-stated L s b t o a = stated showedStatus showedNumbers shown.the-variants.Refused (λ n. refl) (λ n. refl) (shownRefusal L s b t (length o)) o a _ (λ e. refl)
 
 -- a second opinion is lent the answer's array alone
 pub plain-stated : (L : Limits) (b : List ℤ) (a : List ℕ) → (plainCall L b a .answer ≡ plainRefusal L b) × ((plainRefusal L b ≡ 0 → ⊥) → plainCall L b a .memory ≡ a)

@@ -1,10 +1,11 @@
 // The library's calls for programs in other languages: numbers and slices in; a status, and numbers in a lent array, out.
+ghost use Rattle.record.specs.Trail.{trail};
 ghost use Rattle.memory.specs.Memory.{memory};
 ghost use Rattle.counted.specs.Lent as counted;
 ghost use Rattle.listing.specs.Page.{pageMemory};
 ghost use Rattle.answers.specs.Answers.{sessionOf};
 ghost use Rattle.mokihazureo.specs.Called.{lent};
-ghost use Rattle.mokihazureo.specs.Promises.{CheckPromise, OpenPromise, StepPromise, RunPromise, CountedPromise, PagePromise, PlainPromise, ReadPromise, BeginPromise, PiecePromise, EndPromise, WritePromise};
+ghost use Rattle.mokihazureo.specs.Promises.{CheckPromise, OpenPromise, StepPromise, RunPromise, CountedPromise, PagePromise, ShownPromise, PlainPromise, ReadPromise, BeginPromise, PiecePromise, EndPromise, WritePromise};
 use formula::Checked;
 use session::Revision;
 use words::Literal;
@@ -141,6 +142,25 @@ pub extern "C" fn moki_page(
 {
     let outcome = listing::page(block, lits, kinds, start, preferred, budget, output);
     answers::paged(outcome, answer)
+}
+
+// What an ended session shows: the first group's literals go to the output, and their count to the answer.
+#[no_mangle]
+pub extern "C" fn moki_shown(
+    length: usize,
+    revision: u64,
+    state: u32,
+    block: &[i32],
+    lits: &[i32],
+    kinds: &[u8],
+    output: &mut [i32],
+    answer: &mut [u64; 1],
+) -> u32
+    ensures { λ r. ⌜ ShownPromise (sessionOf length revision state) (now (block .entry)) (trail (now (lits .entry)) (now (kinds .entry))) (now (output .entry)) (now (answer .entry)) r (lent (now (output .exit)) (now (answer .exit))) ⌝ }
+{
+    let before = answers::session_of(length, revision, state);
+    let outcome = shown::shown(before, block, lits, kinds, output);
+    answers::showed(outcome, answer)
 }
 
 // A second opinion: the state's number is written to the answer.
