@@ -36,7 +36,8 @@ use Rattle.session.specs.Refusals.{stepRefusal, runRefusal}
 use Rattle.memory.specs.Memory.{Memory, memory}
 use Rattle.session.specs.Outcome.{openOutcome, stepOutcome}
 use Rattle.memory.specs.Reasons.{badReasons}
-use Rattle.session.specs.Run.{advance, runFrom, whyFrom, runOf}
+use Rattle.search.specs.Run.{advance, runFrom, whyFrom}
+use Rattle.session.specs.Run.{runOf}
 use Rattle.listing.specs.declared.Paged as paged
 use Rattle.listing.specs.Opening.{valuesOf, openingStart}
 use Rattle.listing.specs.Page.{PageMemory, pageRefusal, pageFrom, pageOf}

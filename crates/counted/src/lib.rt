@@ -12,7 +12,7 @@ mod live; // the literals of the clauses with no true literal
 mod free; // the variables, where no clause makes a rule due
 mod due; // the due rule
 mod decided; // one rule applied
-mod search; // rule after rule
+mod searches; // rule after rule
 mod guard; // which row of the table turns a call away
 
 use session::Ran;
@@ -51,7 +51,7 @@ pub fn run(
         return Ran::Stopped(refused);
     }
     let count = session.length;
-    let found = search::search(
+    let found = searches::search(
         block,
         lits,
         kinds,

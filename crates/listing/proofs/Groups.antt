@@ -25,7 +25,7 @@ use Rattle.record.specs.Search.{Search, search}
 use Rattle.record.specs.Inner.Ready.{KeptIn, OnBlock}
 use Rattle.record.specs.Trail.{Trail, wipedTrail, trail}
 use Rattle.record.specs.Laws.Accepted.{accepted-binds}
-use Rattle.session.specs.Run.{trip, runFrom}
+use Rattle.search.specs.Run.{trip, runFrom}
 use Rattle.listing.specs.Opening.{valuesOf, valueAt, openingStart, openingSearch}
 use Rattle.listing.specs.Laws.Start.{starts}
 use Rattle.listing.specs.Laws.Values.{group-few}

@@ -24,7 +24,8 @@ use Rattle.memory.specs.Reasons.{why}
 use Rattle.memory.specs.Refusals.{openRows, openRefusal}
 use Rattle.session.specs.Refusals.{lastRevision, ofSession, sessionRows, ofRun, runRefusal}
 use Rattle.session.specs.Outcome.{session}
-use Rattle.session.specs.Run.{runFrom, whyFrom, runOf}
+use Rattle.search.specs.Run.{runFrom, whyFrom}
+use Rattle.session.specs.Run.{runOf}
 use Rattle.memory.specs.Laws.Opened.{open-passes, room-buffers}
 use Rattle.session.specs.Laws.Accepted.{Sound}
 use Rattle.session.specs.Laws.Sound.{none-sound}

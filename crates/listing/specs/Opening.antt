@@ -12,7 +12,7 @@ use Rattle.record.specs.declared.rule.State.{State}
 use Rattle.record.specs.declared.rule.State.the-variants.{Open}
 use Rattle.record.specs.Search.{Search, search}
 use Rattle.record.specs.Trail.{Trail, wipedTrail, trail}
-use Rattle.session.specs.Run.{runFrom}
+use Rattle.search.specs.Run.{runFrom}
 
 -- [opening] how many openings there are, 2^k
 abbrev pub openings : Formula → ℕ

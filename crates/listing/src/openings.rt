@@ -109,7 +109,7 @@ pub(crate) fn try_opening(
     ensures { λ r. ⌜ length (now (reasons .exit)) ≡ maxVariables ⌝ }
 {
     begin(block, lits, kinds, k, n);
-    let found = session::search(
+    let found = search::search(
         block,
         lits,
         kinds,

@@ -24,7 +24,8 @@ use Rattle.session.specs.declared.Session.{Session}
 use Rattle.memory.specs.Memory.{Memory, places}
 use Rattle.memory.specs.Reasons.{badReasons}
 use Rattle.memory.specs.Refusals.{openRows, openRefusal}
-use Rattle.session.specs.Refusals.{over, ofSession}
+use Rattle.search.specs.Run.{over}
+use Rattle.session.specs.Refusals.{ofSession}
 use Rattle.memory.specs.Laws.Opened.{Opened, opened, buffers-room, reasons-room}
 use Rattle.session.specs.Laws.Accepted.{from-12}
 use Rattle.memory.specs.Inner.Reasons.{Beside}

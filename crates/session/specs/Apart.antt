@@ -20,7 +20,8 @@ use Rattle.memory.specs.Reasons.{Why, why}
 use Rattle.session.specs.Refusals.{stepRefusal, runRefusal}
 use Rattle.session.specs.Refused.{unless-next, unless-until}
 use Rattle.session.specs.Outcome.{searchOf, stepOutcome}
-use Rattle.session.specs.Run.{whileOpen, whyFrom, runOf}
+use Rattle.search.specs.Run.{whileOpen, whyFrom}
+use Rattle.session.specs.Run.{runOf}
 
 -- a record with some reasons
 abbrev pub beside : Trail → List ℕ → Memory

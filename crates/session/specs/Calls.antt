@@ -1,5 +1,5 @@
 -- [demand.2.history] A desk after a list of calls, each on that block and that record and with the latest session.
-use Prim.Native.Nat.{ℕ, zero, suc, _+_}
+use Prim.Native.Nat.{ℕ, _+_}
 use mathlib.Core.List.{List, [], _∷_}
 use lib.IntN.{ℤ}
 use Rattle.words.specs.Outcomes.{Outcome}
@@ -12,6 +12,7 @@ use Rattle.session.specs.declared.Stepped.the-variants.{Next, Not}
 use Rattle.session.specs.declared.Ran.{Ran}
 use Rattle.session.specs.declared.Ran.the-variants.{Until, Stopped}
 use Rattle.memory.specs.Memory.{Memory}
+use Rattle.search.specs.Run.{lastReason}
 use Rattle.session.specs.Outcome.{stepOutcome}
 use Rattle.session.specs.Run.{runOf}
 
@@ -33,11 +34,6 @@ pub data Call : Type 0 where
 abbrev pub afterStep : Desk → Stepped → Memory → Desk
 afterStep d (Next s w) m = desk s m (d .steps + 1) w
 afterStep d (Not n) m = desk (d .latest) m (d .steps) (d .reason)
-
--- the reason of the last of n steps is w; with none, it is the one before
-abbrev pub lastReason : ℕ → ℕ → ℕ → ℕ
-lastReason zero before w = before
-lastReason (suc n) before w = w
 
 abbrev pub afterRun : Desk → Ran → Memory → Desk
 afterRun d (Until s n w) m = desk s m (d .steps + n) (lastReason n (d .reason) w)

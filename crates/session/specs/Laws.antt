@@ -1,8 +1,6 @@
 -- What is proved about the definitions, for use in proofs.
 pub mod Accepted
-pub mod Named
 pub mod Each
 pub mod Sound
 pub mod Forced
-pub mod Runs
-pub mod Rounds
+pub mod Exits

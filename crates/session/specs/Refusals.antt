@@ -1,6 +1,6 @@
 -- When a call on a session is turned away: rows 12 to 17, after the block's rows and row 11, in the table's order.
 use Prim.Native.Nat.{ℕ, _+_}
-use mathlib.Core.Bool.{Bool, true, false, not, _&&_}
+use mathlib.Core.Bool.{Bool, not, _&&_}
 use mathlib.Core.List.{List, [], _∷_, _++_}
 use lib.Dec.{eqb, ltb}
 use lib.IntN.{ℤ, natAbs}
@@ -10,8 +10,6 @@ use Rattle.formula.specs.Limits.{Limits}
 use Rattle.formula.specs.Formula.{formulaOf}
 use Rattle.theory.specs.Record.{Assignment, trueIn}
 use Rattle.theory.specs.Tests.{isOpen}
-use Rattle.record.specs.declared.rule.State.{State}
-use Rattle.record.specs.declared.rule.State.the-variants.{Open, Valid, Unsat}
 use Rattle.record.specs.declared.rule.Rule.{Rule}
 use Rattle.record.specs.Trail.{recordOf}
 use Rattle.rules.specs.Due.{due}
@@ -20,16 +18,11 @@ use Rattle.session.specs.declared.Revision.{Revision}
 use Rattle.session.specs.declared.Session.{Session}
 use Rattle.memory.specs.Memory.{Memory, places}
 use Rattle.memory.specs.Refusals.{broken, openRows}
+use Rattle.search.specs.Run.{over}
 
 -- the largest revision, 2^64 - 1
 abbrev pub lastRevision : ℕ
 lastRevision = 18446744073709551615
-
--- [row.13] the session has ended
-abbrev pub over : State → Bool
-over Open = false
-over Valid = true
-over Unsat = true
 
 -- [row.14] the seen revision is not the session's
 abbrev pub stale : Session → Revision → Bool

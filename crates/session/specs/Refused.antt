@@ -24,7 +24,8 @@ use Rattle.session.specs.declared.Ran.{Ran}
 use Rattle.session.specs.declared.Ran.the-variants.{Until, Stopped}
 use Rattle.memory.specs.Memory.{Memory, places}
 use Rattle.memory.specs.Refusals.{openRefusal}
-use Rattle.session.specs.Refusals.{lastRevision, over, stepRows, stepRefusal, runRows, runRefusal}
+use Rattle.search.specs.Run.{over}
+use Rattle.session.specs.Refusals.{lastRevision, stepRows, stepRefusal, runRows, runRefusal}
 use Rattle.session.specs.Outcome.{openOutcome, stepOutcome}
 use Rattle.session.specs.Run.{runOf}
 

@@ -24,13 +24,14 @@ use Rattle.session.specs.declared.Session.{Session}
 use Rattle.session.specs.declared.Ran.{Ran}
 use Rattle.session.specs.declared.Ran.the-variants.{Until, Stopped}
 use Rattle.memory.specs.Memory.{memoryOf}
-use Rattle.session.specs.Refusals.{lastRevision, over, runRefusal}
+use Rattle.search.specs.Run.{over, Trip, trip, advance, runFrom, whyFrom}
+use Rattle.session.specs.Refusals.{lastRevision, runRefusal}
 use Rattle.memory.specs.Reasons.{Why, why, told}
-use Rattle.session.specs.Laws.Accepted.{over-open, Sound, Guarded, run-guarded, step-passes}
+use Rattle.session.specs.Laws.Accepted.{Sound, Guarded, run-guarded, step-passes}
 use Rattle.session.specs.Laws.Sound.{sound-after}
 use Rattle.session.specs.Outcome.{moved, searchOf}
-use Rattle.session.specs.Run.{Trip, trip, advance, runFrom, whyFrom, ran, runOf}
-use Rattle.session.specs.Laws.Runs.{proposal-passes, advance-keeps, run-ended, loop-last, run-further, run-counted, why-more, why-ended, why-none, why-counted, why-latest, why-silent, Travelled, travelled}
+use Rattle.session.specs.Run.{ran, runOf}
+use Rattle.search.specs.Laws.Runs.{over-open, proposal-passes, advance-keeps, run-ended, loop-last, run-further, run-counted, why-more, why-ended, why-none, why-counted, why-latest, why-silent, Travelled, travelled}
 use Rattle.session.specs.Calls.{Desk, desk, step, run, afterRun, runAt, call}
 use Rattle.session.specs.Refused.{unless-until, run-refused, ended-step-refused}
 use Rattle.session.specs.Stepped.{accepted-is}

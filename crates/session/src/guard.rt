@@ -4,46 +4,15 @@ ghost use lib.ListN.{take};
 ghost use Rattle.formula.specs.Formula.{prefixOf};
 ghost use Rattle.theory.specs.Record.{among};
 ghost use Rattle.memory.specs.Memory.{memory};
-ghost use Rattle.choice.specs.Preferred.{decides};
 ghost use Rattle.record.specs.Inner.Ready.{HeldOn};
 ghost use Rattle.tables.specs.Inner.Levels.{Levels};
-ghost use Rattle.session.specs.Promises.{IsOverPromise, SessionRefusalPromise};
+ghost use Rattle.session.specs.Promises.{SessionRefusalPromise};
 ghost use Rattle.session.specs.Inner.Guards.{proposalRefusal};
 use crate::Revision;
 use crate::Session;
 use record::PLACES;
 use record::Rule;
-use record::State;
 use words::Literal;
-
-// Whether a session has ended.
-pub fn is_over(state: State) -> bool
-    ensures { λ r. ⌜ IsOverPromise state r ⌝ }
-{
-    match state {
-        State::Open => false,
-        State::Valid => true,
-        State::Unsat => true,
-    }
-}
-
-// Whether a rule takes a proposal.
-pub(crate) fn is_decide(rule: Rule) -> bool
-    ensures { λ r. ⌜ r ≡ decides rule ⌝ }
-{
-    match rule {
-        Rule::BacktrackExists { at: _, clause: _ } => false,
-        Rule::Fail { clause: _ } => false,
-        Rule::Unit {
-            literal: _,
-            clause: _,
-        } => false,
-        Rule::Monotone { literal: _ } => false,
-        Rule::Decide { first: _ } => true,
-        Rule::BacktrackForall { at: _ } => false,
-        Rule::Succeed => false,
-    }
-}
 
 // The block's rows and rows 11 to 14, which a step and a run share: the number of the first that applies, 0 if none does.
 pub fn session_refusal(
@@ -68,7 +37,7 @@ pub fn session_refusal(
         return 12;
     }
     let state = session.state;
-    if is_over(state) {
+    if search::is_over(state) {
         return 13;
     }
     let mine = session.revision.0;
@@ -94,7 +63,7 @@ pub(crate) fn proposal_refusal(
     if words::size(proposal.0) == 0 {
         return 0;
     }
-    if !is_decide(rule) {
+    if !search::is_decide(rule) {
         return 16;
     }
     if !choice::is_open(block, lits, count, proposal, levels) {

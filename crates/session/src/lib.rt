@@ -6,15 +6,11 @@ ghost use Rattle.session.specs.Outcome.{session};
 ghost use Rattle.session.specs.Promises.{OpenPromise, StepPromise, RunPromise};
 
 mod guard; // which row of the table turns a call away, but for row 15
-mod searches; // rule after rule
 
 use formula::LITERAL_PLACES;
-pub use guard::is_over;
 pub use guard::session_refusal;
 use record::Reached;
 use record::State;
-pub use searches::Searched;
-pub use searches::search;
 use words::Literal;
 
 // [session.types] A revision and a literal are numbers of different types: neither can stand for the other.
@@ -138,7 +134,7 @@ impl Session {
         let count = self.length;
         let levels = tables::levels(block);
         let mut statuses = [0u8; LITERAL_PLACES];
-        let found = search(
+        let found = search::search(
             block,
             lits,
             kinds,

@@ -14,17 +14,16 @@ use Rattle.record.specs.Trail.{recordOf}
 use Rattle.record.specs.Search.{search, reached}
 use Rattle.record.specs.declared.rule.State.{State}
 use Rattle.record.specs.declared.rule.State.the-variants.{Open}
-use Rattle.session.specs.declared.searches.Searched.{Searched}
+use Rattle.search.specs.declared.searches.Searched.{Searched}
 use Rattle.memory.specs.Memory.{Memory}
 use Rattle.memory.specs.Reasons.{why, told}
-use Rattle.session.specs.Refusals.{over}
-use Rattle.session.specs.Run.{trip, advance, runFrom, whyFrom}
+use Rattle.search.specs.Run.{over, trip, advance, runFrom, whyFrom}
 use Rattle.counted.specs.Inner.Index.{Index}
 use Rattle.counted.specs.Inner.Numbers.{Rest}
 use Rattle.counted.specs.Inner.State.{AllOnce, Set}
 use Rattle.counted.specs.Inner.Standing.{clausesOf, SetOn, Numbered}
 use Rattle.counted.specs.declared.walk.Bounds.{Bounds}
-use Rattle.counted.specs.declared.search.Next.{Next}
+use Rattle.counted.specs.declared.searches.Next.{Next}
 
 -- an entry at a place of a search that goes on: it is in the buffer, and its variable has no value yet
 pub record Entrant (p : List ℤ) (lits : List ℤ) (at : ℕ) : Type 0 where

@@ -27,13 +27,11 @@ use Rattle.record.specs.declared.rule.Rule.{Rule}
 use Rattle.record.specs.declared.rule.Rule.the-variants.{BacktrackExists, Fail, Unit, Monotone, Decide, BacktrackForall, Succeed}
 use Rattle.memory.specs.Memory.{memory}
 use Rattle.memory.specs.Reasons.{why, told}
-use Rattle.session.specs.Refusals.{over}
-use Rattle.session.specs.Run.{advance}
+use Rattle.search.specs.Run.{over, advance}
 use Rattle.memory.specs.Inner.Reasons.{Tellable}
-use Rattle.session.specs.Laws.Accepted.{fitting}
-use Rattle.session.specs.Laws.Named.{tellable}
-use Rattle.session.specs.Laws.Rounds.{advanced}
-use Rattle.session.specs.Laws.Runs.{advance-keeps}
+use Rattle.search.specs.Laws.Named.{fitting, tellable}
+use Rattle.search.specs.Laws.Rounds.{advanced}
+use Rattle.search.specs.Laws.Runs.{advance-keeps}
 use Rattle.counted.specs.Inner.Decided.{Enacting}
 use Rattle.counted.specs.Inner.Entry.{Taking}
 use Rattle.counted.specs.Inner.State.{Counted, SetFrom}

@@ -44,7 +44,7 @@ use Rattle.choice.specs.declared.found.Picked.{Picked}
 use Rattle.choice.specs.declared.found.Picked.the-variants.{Is, NoLiteral}
 use Rattle.rules.specs.declared.found.UnitFound.{UnitFound}
 use Rattle.rules.specs.declared.found.UnitFound.the-variants.{On, NoUnit}
-use Rattle.session.specs.Laws.Accepted.{fitting}
+use Rattle.search.specs.Laws.Named.{fitting}
 use Rattle.counted.specs.Inner.Free.{freeAt}
 use Rattle.counted.specs.Inner.Decided.{openAt, pickedAt, preferredAt, firstIn, Enacting}
 use Rattle.counted.specs.Laws.Checked.{some-values}

@@ -37,7 +37,7 @@ use Rattle.record.specs.declared.found.Found.{Found}
 use Rattle.record.specs.declared.found.Found.the-variants.{At, Nothing}
 use Rattle.rules.specs.declared.found.UnitFound.{UnitFound}
 use Rattle.rules.specs.declared.found.UnitFound.the-variants.{On, NoUnit}
-use Rattle.session.specs.Laws.Named.{due-names}
+use Rattle.search.specs.Laws.Named.{due-names}
 use Rattle.counted.specs.Inner.Free.{Walkable, freeRule}
 use Rattle.counted.specs.Inner.Numbers.{Least}
 use Rattle.counted.specs.Inner.State.{Counted}

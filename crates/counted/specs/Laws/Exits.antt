@@ -17,12 +17,13 @@ use Rattle.session.specs.declared.Revision.{Revision}
 use Rattle.session.specs.declared.Session.{Session}
 use Rattle.session.specs.declared.Ran.{Ran}
 use Rattle.session.specs.declared.Ran.the-variants.{Until, Stopped}
-use Rattle.session.specs.declared.searches.Searched.{Searched}
+use Rattle.search.specs.declared.searches.Searched.{Searched}
 use Rattle.memory.specs.Memory.{Memory}
 use Rattle.session.specs.Refusals.{lastRevision}
 use Rattle.session.specs.Outcome.{session}
 use Rattle.session.specs.Laws.Accepted.{guarded, run-guarded}
-use Rattle.session.specs.Laws.Rounds.{run-moves, steps-within}
+use Rattle.search.specs.Laws.Rounds.{steps-within}
+use Rattle.session.specs.Laws.Exits.{run-moves}
 use Rattle.counted.specs.Lent.{Lent, lent, past}
 use Rattle.counted.specs.Refusals.{indexPlaces, countedRefusal}
 use Rattle.counted.specs.Counted.{accepted, countedOf, usedBy}

@@ -14,15 +14,15 @@ use Rattle.record.specs.Laws.Accepted.{kept-true}
 use Rattle.record.specs.declared.rule.State.the-variants.{Open}
 use Rattle.record.specs.declared.rule.Reached.{Reached}
 use Rattle.memory.specs.Memory.{Memory}
-use Rattle.session.specs.Refusals.{over}
-use Rattle.session.specs.Laws.Rounds.{Round, begun, ended, used, more}
+use Rattle.search.specs.Run.{over}
+use Rattle.search.specs.Laws.Rounds.{Round, begun, ended, used, more}
 use Rattle.counted.specs.Inner.Numbers.{Rest}
 use Rattle.counted.specs.Inner.State.{Counted}
 use Rattle.counted.specs.Inner.Standing.{clausesOf, SetOn, Tables, Standing, Numbered}
 use Rattle.counted.specs.Inner.Search.{Advanced, SearchedTo}
 use Rattle.counted.specs.Laws.State.{trues-laid, opens-laid}
 use Rattle.counted.specs.declared.walk.Bounds.{Bounds}
-use Rattle.counted.specs.declared.search.Next.{Next}
+use Rattle.counted.specs.declared.searches.Next.{Next}
 
 -- ---- the numbers in the buffers
 pub numbers-are : (b : List ℤ) (t : Trail) (n : ℕ) → OnBlock limits b t n → (ts₀ os₀ ts os : List ℕ) (bounds : Bounds) → Counted (prefixOf b) (clausesOf b) (among (take n (t .lits))) ts os bounds

@@ -8,7 +8,7 @@ use lib.ListN.{getD, take}
 use Rattle.theory.specs.Record.{among}
 use Rattle.theory.specs.Laws.Assignment.{put}
 use Rattle.record.specs.declared.rule.State.{State}
-use Rattle.session.specs.Refusals.{over}
+use Rattle.search.specs.Run.{over}
 use Rattle.counted.specs.Inner.Entry.{Setting}
 use Rattle.counted.specs.Inner.State.{SetFrom}
 use Rattle.counted.specs.Inner.Search.{Recounting, countedTo}

@@ -26,7 +26,7 @@ use Rattle.counted.specs.Inner.Standing.{clausesOf, Standing, Roomy}
 use Rattle.counted.specs.Inner.Search.{SearchedTo}
 use Rattle.counted.specs.Laws.Checked.{ready, few, ends-length}
 use Rattle.counted.specs.Laws.State.{counted-start}
-use Rattle.session.specs.declared.searches.Searched.{Searched}
+use Rattle.search.specs.declared.searches.Searched.{Searched}
 
 -- ---- what the fillings ask for
 module _ (b : List ℤ) (h : refusal limits b ≡ 0) where

@@ -22,8 +22,8 @@ use Rattle.record.specs.Inner.Ready.{KeptIn}
 use Rattle.applied.specs.Inner.Fits.{Fitting}
 use Rattle.record.specs.Laws.Records.{kept-room, kept-more, record-get, record-put, record-cut}
 use Rattle.rules.specs.Laws.Steps.{due-fits}
-use Rattle.session.specs.Run.{Trip, trip, whileOpen, advance, runFrom}
-use Rattle.session.specs.Laws.Runs.{advance-keeps}
+use Rattle.search.specs.Run.{Trip, trip, whileOpen, advance, runFrom}
+use Rattle.search.specs.Laws.Runs.{advance-keeps}
 
 pub record Alike (t u : Search) : Type 0 where
   pub held : recordIn t ≡ recordIn u

@@ -24,10 +24,8 @@ use Rattle.record.specs.Laws.Wiped.{wiped-length, wiped-inside, wiped-outside}
 use Rattle.record.specs.Laws.Records.{kept-good}
 use Rattle.record.specs.Laws.Wiped.{wiped-other}
 use Rattle.applied.specs.Laws.Untouched.{apply-lengths, apply-untouched}
-use Rattle.session.specs.Run.{advance, runFrom}
-use Rattle.session.specs.Refusals.{over}
-use Rattle.session.specs.Laws.Accepted.{over-open}
-use Rattle.session.specs.Laws.Runs.{advance-keeps, loop-last, run-ended, run-further}
+use Rattle.search.specs.Run.{advance, runFrom, over}
+use Rattle.search.specs.Laws.Runs.{over-open, advance-keeps, loop-last, run-ended, run-further}
 use Rattle.listing.specs.Opening.{valuesOf, openingStart, openingSearch, openingEnd}
 use Rattle.listing.specs.Claims.{Beyond}
 use Rattle.listing.specs.Laws.Values.{values-length, group-few, group-length}

@@ -20,8 +20,8 @@ use Rattle.theory.specs.Witness.{groupOf}
 use Rattle.record.specs.declared.rule.State.the-variants.{Open, Valid, Unsat}
 use Rattle.record.specs.Search.{standingOf}
 use Rattle.record.specs.Inner.Ready.{Binds, Room}
-use Rattle.session.specs.Run.{runFrom}
-use Rattle.session.specs.Laws.Runs.{Travelled, travelled}
+use Rattle.search.specs.Run.{runFrom}
+use Rattle.search.specs.Laws.Runs.{Travelled, travelled}
 use Rattle.listing.specs.Opening.{valuesOf, openingStart, openingSearch, openingEnd}
 use Rattle.listing.specs.Laws.Start.{opened, Starts, starts}
 use Rattle.listing.specs.Laws.Values.{values-stand}

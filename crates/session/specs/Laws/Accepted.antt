@@ -8,7 +8,6 @@ use mathlib.Core.List.{List}
 use lib.Dec.{eqb}
 use lib.IntN.{ℤ, natAbs}
 use lib.ListN.{length}
-use native.Mathlib.Omega.{arith}
 use borrow.Author.Tests.{eqb-true, ltb-false, not-false, lt-ltb, eq-eqb, ne-eqb}
 use Rattle.words.specs.Laws.Bools.{clash, or-fl, or-fr}
 use Rattle.words.specs.Rows.{refusalOf}
@@ -18,31 +17,23 @@ use Rattle.formula.specs.Limits.{Limits}
 use Rattle.formula.specs.Formula.{variablesOf, clauseCountOf, prefixOf, formulaOf}
 use Rattle.theory.specs.Record.{trueIn}
 use Rattle.theory.specs.Tests.{isOpen}
-use Rattle.record.specs.declared.rule.State.{State}
-use Rattle.record.specs.declared.rule.State.the-variants.{Open, Valid, Unsat}
+use Rattle.record.specs.declared.rule.State.the-variants.{Open}
 use Rattle.rules.specs.Due.{due}
 use Rattle.choice.specs.Preferred.{decides}
-use Rattle.record.specs.Trail.{Trail, recordOf}
-use Rattle.record.specs.Search.{search, recordIn}
+use Rattle.record.specs.Search.{recordIn}
 use Rattle.record.specs.Check.{badRecord}
 use Rattle.record.specs.Inner.Ready.{OnBlock, Permitted}
-use Rattle.applied.specs.Inner.Fits.{Fitting}
 use Rattle.record.specs.Laws.Accepted.{prefix-length, on-block}
-use Rattle.rules.specs.Laws.Steps.{due-fits}
 use Rattle.memory.specs.Laws.Opened.{opened, open-passes, buffers-room, reasons-room, room-buffers}
 use Rattle.session.specs.declared.Revision.{Revision}
 use Rattle.session.specs.declared.Session.{Session}
 use Rattle.memory.specs.Memory.{Memory, places}
 use Rattle.memory.specs.Reasons.{badReasons}
 use Rattle.memory.specs.Refusals.{openRows, openRefusal}
-use Rattle.session.specs.Refusals.{lastRevision, over, proposed, ofSession, sessionRows, ofStep, stepRows, stepRefusal, ofRun, runRows, runRefusal}
+use Rattle.search.specs.Laws.Runs.{over-open}
+use Rattle.session.specs.Refusals.{lastRevision, proposed, ofSession, sessionRows, ofStep, stepRows, stepRefusal, ofRun, runRows, runRefusal}
 use Rattle.session.specs.Inner.Guards.{sessionRefusal}
 use Rattle.session.specs.Outcome.{searchOf}
-
--- ---- rows 1 to 12: the due rule has a place to write to
-pub fitting : {L : Limits} {b : List ℤ} {t : Trail} {n : ℕ} → OnBlock L b t n → Fitting (prefixOf b) n (due (formulaOf b) (recordOf t n))
-unfolding formulaOf
-fitting {L} {b} {t} {n} o = due-fits (formulaOf b) (search t n Open) (o .kept)
 
 -- rows 11 and 12 as they speak of the reasons of a record of n entries
 pub record Sound (b : List ℤ) (m : Memory) (n : ℕ) : Type 0 where
@@ -55,11 +46,6 @@ pub record Guarded (L : Limits) (s : Session) (b : List ℤ) (m : Memory) (seen 
   pub sound : Sound b m (s .length)
   pub live : s .state ≡ Open
   pub current : seen .0 ≡ s .revision .0
-
-pub over-open : (t : State) → over t ≡ false → t ≡ Open
-over-open Open h = refl
-over-open Valid h = clash refl h
-over-open Unsat h = clash refl h
 
 -- a proposal that passes rows 16 and 17 is 0, or such as the row asks, and the other way round
 module _ (l : Literal) where

@@ -28,8 +28,7 @@ use Rattle.record.specs.Inner.Ready.{OnBlock}
 use Rattle.record.specs.Laws.Accepted.{prefix-length, accepted-binds}
 use Rattle.memory.specs.Reasons.{noted}
 use Rattle.session.specs.Forced.{Aside, Forced, Explained}
-use Rattle.session.specs.Laws.Accepted.{fitting}
-use Rattle.session.specs.Laws.Named.{Names, due-names}
+use Rattle.search.specs.Laws.Named.{fitting, Names, due-names}
 use Rattle.session.specs.Laws.Each.{Each, each-after}
 
 module _ (L : Limits) (b : List ℤ) (block : refusal L b ≡ 0) where

@@ -21,9 +21,9 @@ use Rattle.record.specs.Laws.Accepted.{prefix-length}
 use Rattle.memory.specs.Memory.{memoryOf}
 use Rattle.memory.specs.Reasons.{noted, badReason}
 use Rattle.memory.specs.Laws.BadReasons.{bad-each, each-bad, zero-right}
-use Rattle.session.specs.Laws.Accepted.{fitting, Sound}
+use Rattle.session.specs.Laws.Accepted.{Sound}
 use Rattle.memory.specs.Laws.Noted.{noted-length}
-use Rattle.session.specs.Laws.Named.{due-names, clause-count}
+use Rattle.search.specs.Laws.Named.{fitting, due-names, clause-count}
 use Rattle.session.specs.Laws.Each.{Each, each-after}
 
 -- reasons that are all 0 pass rows 11 and 12, beside any record

@@ -13,7 +13,7 @@ use Rattle.formula.specs.Laws.Limits.{variables-are}
 use Rattle.record.specs.Laws.Accepted.{prefix-length, accepted-bound}
 use Rattle.record.specs.Laws.Records.{kept-more}
 use Rattle.record.specs.declared.rule.Rule.the-variants.{Decide}
-use Rattle.session.specs.Laws.Accepted.{fitting}
+use Rattle.search.specs.Laws.Named.{fitting}
 use Rattle.counted.specs.Inner.Decided.{preferredAt}
 use Rattle.counted.specs.Laws.Decided.{decide-from, first-small, decided-named, decide-enacts, decide-room, other-enacts}
 use Rattle.counted.proofs.decided.enact.Statement.{statement}

@@ -3,7 +3,8 @@ use native.Mathlib.Omega.{arith}
 use borrow.Author.Needs.{needs}
 use Rattle.words.specs.Outcomes.{same-answer}
 use Rattle.tables.specs.Laws.Blanks.{new-blank}
-use Rattle.session.specs.Laws.Rounds.{run-stops, run-over, run-moves, steps-within}
+use Rattle.search.specs.Laws.Rounds.{steps-within}
+use Rattle.session.specs.Laws.Exits.{run-stops, run-over, run-moves}
 use Rattle.session.proofs.Exits.{on-memory}
 use Rattle.session.proofs.Session.run.Statement.{statement}
 use Rattle.session.proofs.Session.run.Tie as tie

@@ -6,8 +6,8 @@ use Rattle.formula.specs.Limits.{limits}
 use Rattle.words.specs.Outcomes.{same-answer}
 use Rattle.record.specs.Laws.Accepted.{held-on}
 use Rattle.tables.specs.Laws.Blanks.{new-blank}
-use Rattle.session.specs.Laws.Accepted.{fitting, guarded}
-use Rattle.session.specs.Laws.Named.{tellable}
+use Rattle.session.specs.Laws.Accepted.{guarded}
+use Rattle.search.specs.Laws.Named.{fitting, tellable}
 use Rattle.session.proofs.Exits.{on-memory, step-stops, step-last, step-improper, step-moves}
 use Rattle.session.proofs.Session.step.Statement.{statement}
 use Rattle.session.proofs.Session.step.Tie as tie

@@ -19,7 +19,7 @@ use record::PLACES;
 use record::Reached;
 use record::Rule;
 use record::State;
-use session::Searched;
+use search::Searched;
 
 // Where one step leads, its reason, and the bounds after it.
 pub(crate) struct Next {
@@ -61,7 +61,7 @@ fn recount(
     requires { ⌜ Recounting (now lits) at state (now stops) (now index) (now statuses) (now trues) (now opens) bounds ⌝ }
     ensures { λ r. ⌜ ((x : Recounting (now (lits .entry)) at state (now (stops .entry)) (now (index .entry)) (now (statuses .entry)) (now (trues .entry)) (now (opens .entry)) bounds) → SetFrom (x .p) (x .m) (among (take (countedTo at state) (now (lits .entry)))) (now (trues .entry)) (now (opens .entry)) (now (statuses .exit)) (now (trues .exit)) (now (opens .exit)) r) ⌝ }
 {
-    if session::is_over(state) {
+    if search::is_over(state) {
         return bounds;
     }
     count_entry(lits, at, index, stops, statuses, trues, opens, bounds)
@@ -165,7 +165,7 @@ fn go_on(
     let mut reason: u32 = 0;
     while steps < budget {
         let state = at.state;
-        if session::is_over(state) {
+        if search::is_over(state) {
             return Searched {
                 reached: at,
                 steps: steps,

@@ -4,8 +4,8 @@ use native.Mathlib.Omega.{arith}
 use borrow.Author.Needs.{needs}
 use Rattle.memory.specs.Memory.{memory}
 use Rattle.counted.specs.Laws.Going.{Going, going-begin, going-stands, going-ended, going-used, going-more}
-use Rattle.counted.proofs.search.go_on.Statement.{statement}
-use Rattle.counted.proofs.search.go_on.Tie as tie
+use Rattle.counted.proofs.searches.go_on.Statement.{statement}
+use Rattle.counted.proofs.searches.go_on.Tie as tie
 
 abbrev Inv-loop : tie.InvT-loop
 Inv-loop block lits₀ kinds₀ reasons₀ count budget preferred levels quantifiers index stops statuses₀ trues₀ opens₀ at₀ bounds₀ steps₀ reason₀ lits kinds reasons statuses trues opens at bounds steps reason =

@@ -20,11 +20,14 @@ use Rattle.record.specs.Search.{Search, recordIn, standing, standingOf}
 use Rattle.record.specs.Inner.Ready.{KeptIn, Permitted}
 use Rattle.choice.specs.Laws.Searches.{first-open}
 use Rattle.rules.specs.Laws.Steps.{due-step, due-keeps}
-use Rattle.session.specs.Refusals.{over}
 use Rattle.memory.specs.Reasons.{Why, why, told}
-use Rattle.session.specs.Run.{Trip, trip, whileOpen, advance, runFrom, whyFrom}
-use Rattle.session.specs.Calls.{lastReason}
-use Rattle.session.specs.Laws.Accepted.{over-open}
+use Rattle.search.specs.Run.{over, Trip, trip, whileOpen, advance, runFrom, whyFrom, lastReason}
+
+-- ---- a search that is not over is open
+pub over-open : (t : State) → over t ≡ false → t ≡ Open
+over-open Open h = refl
+over-open Valid h = clash refl h
+over-open Unsat h = clash refl h
 
 -- ---- what a run proposes passes rows 16 and 17: it is 0, or Decide is due and it is open
 pub proposal-passes : (p : List ℤ) (ρ : Assignment) (preferred : List ℤ) (rule : Rule) → let l = proposalOf p ρ preferred rule in

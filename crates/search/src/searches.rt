@@ -15,10 +15,10 @@ ghost use Rattle.rules.specs.Inner.Lent.{LentTables};
 ghost use Rattle.record.specs.declared.rule.State.the-variants.{Open};
 ghost use Rattle.memory.specs.Memory.{memory};
 ghost use Rattle.memory.specs.Reasons.{why, told};
-ghost use Rattle.session.specs.Run.{advance};
+ghost use Rattle.search.specs.Run.{advance};
 ghost use Rattle.memory.specs.Inner.Reasons.{OnMemory};
-ghost use Rattle.session.specs.Promises.{SearchPromise};
-use crate::guard;
+ghost use Rattle.search.specs.Promises.{SearchPromise};
+use crate::asked;
 use formula::LITERAL_PLACES;
 use record::PLACES;
 use record::Reached;
@@ -52,7 +52,7 @@ fn proposal(
     requires { ⌜ Levels (prefixOf (now block)) (now levels) ⌝ }
     ensures { λ r. ⌜ r ≡ literal (proposalOf (prefixOf (now (block .entry))) (among (take count (now (lits .entry)))) (now (preferred .entry)) rule) ⌝ }
 {
-    if guard::is_decide(rule) {
+    if asked::is_decide(rule) {
         choice::first_open(block, lits, count, preferred, levels)
     } else {
         Literal(0)
@@ -108,7 +108,7 @@ pub fn search(
     let mut reason: u32 = 0;
     while steps < budget {
         let state = at.state;
-        if guard::is_over(state) {
+        if asked::is_over(state) {
             return Searched {
                 reached: at,
                 steps: steps,

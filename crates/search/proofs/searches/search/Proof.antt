@@ -4,9 +4,9 @@ use Prim.Native.Nat.{_-_}
 use Rattle.words.specs.Outcomes.{same-answer, same-memory, both-same}
 use borrow.Author.Needs.{needs}
 use Rattle.memory.specs.Memory.{memory}
-use Rattle.session.specs.Laws.Rounds.{Round, begun, ended, more, used}
-use Rattle.session.proofs.searches.search.Statement.{statement}
-use Rattle.session.proofs.searches.search.Tie as tie
+use Rattle.search.specs.Laws.Rounds.{Round, begun, ended, more, used}
+use Rattle.search.proofs.searches.search.Statement.{statement}
+use Rattle.search.proofs.searches.search.Tie as tie
 
 abbrev Inv-loop : tie.InvT-loop
 Inv-loop block lits₀ kinds₀ reasons₀ count budget preferred levels statuses₀ at₀ steps₀ reason₀ lits kinds reasons statuses at steps reason =

@@ -8,9 +8,6 @@ use native.Mathlib.Nat.{sub-zero}
 use native.Mathlib.Omega.{arith}
 use lib.IntN.{ℤ}
 use lib.ListN.{length, take}
-use borrow.Author.Tests.{lt-ltb, le-ltb}
-use Rattle.words.specs.Outcomes.{outcome, unless-number}
-use Rattle.words.specs.Laws.Rows.{stops}
 use Rattle.words.specs.declared.Literal.{Literal}
 use Rattle.formula.specs.Formula.{Formula, prefixOf, formulaOf}
 use Rattle.theory.specs.Record.{among}
@@ -27,19 +24,12 @@ use Rattle.applied.specs.Apply.{apply}
 use Rattle.record.specs.Inner.Ready.{OnBlock}
 use Rattle.applied.specs.Laws.Untouched.{apply-lengths}
 use Rattle.record.specs.Laws.Accepted.{kept-true}
-use Rattle.session.specs.declared.Revision.{Revision}
-use Rattle.session.specs.declared.Session.{Session}
-use Rattle.session.specs.declared.Ran.the-variants.{Until, Stopped}
-use Rattle.session.specs.Refusals.{lastRevision, over, sessionRows, ofRun, runRefusal}
-use Rattle.session.specs.Outcome.{session}
 use Rattle.memory.specs.Memory.{Memory}
 use Rattle.memory.specs.Reasons.{Why, why, noted, told}
-use Rattle.session.specs.Run.{trip, advance, runFrom, whyFrom, runOf}
-use Rattle.session.specs.Inner.Guards.{sessionRefusal}
+use Rattle.search.specs.Run.{over, trip, advance, runFrom, whyFrom}
 use Rattle.memory.specs.Inner.Reasons.{OnMemory}
-use Rattle.session.specs.Laws.Accepted.{over-open, guarded, run-from-15}
 use Rattle.memory.specs.Laws.Noted.{noted-length}
-use Rattle.session.specs.Laws.Runs.{travelled, advance-keeps, run-ended, loop-more, loop-last, why-ended, why-loop, why-none}
+use Rattle.search.specs.Laws.Runs.{over-open, travelled, advance-keeps, run-ended, loop-more, loop-last, why-ended, why-loop, why-none}
 use Rattle.formula.specs.Limits.{limits}
 
 module _ {b : List ℤ} {t : Trail} {n : ℕ} (o : OnBlock limits b t n) (preferred : List ℤ) where
@@ -134,27 +124,6 @@ module _
               ∙ why-loop F preferred budget here (why (m .reasons) reason) steps h live
               ∙ now .told-same;
         }
-
--- ---- a run
-module _ (s : Session) (b : List ℤ) (m : Memory) (seen : Revision) (budget : ℕ) (preferred : List ℤ) {r : ℕ} (e : r ≡ sessionRefusal limits s b m seen) where
-  pub run-stops : (r ≡ 0 → ⊥) → outcome (Stopped r) m ≡ runOf limits s b m seen budget preferred
-  unfolding runOf runRefusal sessionRefusal
-  run-stops f = rw (← stops (sessionRows limits s b m seen) (ofRun s b m seen budget) e f) (unless-number Stopped r m _ f)
-
-  module _ (z : r ≡ 0) where
-    pub run-over : lastRevision - s .revision .0 < budget → outcome (Stopped 15) m ≡ runOf limits s b m seen budget preferred
-    unfolding runOf
-    run-over h = rw (run-from-15 limits s b m seen budget (sym e ∙ z), lt-ltb lastRevision (s .revision .0 + budget) (omega arith))
-
-    pub run-moves : s .revision .0 ≤ lastRevision → budget ≤ lastRevision - s .revision .0
-        → (t : Reached) (steps : ℕ) (t′ : Trail) → trip (reached t t′) steps ≡ runFrom (formulaOf b) preferred budget (search (m .trail) (s .length) Open) 0
-        → (ws : List ℕ) (w : ℕ) → why ws w ≡ whyFrom (formulaOf b) preferred budget (search (m .trail) (s .length) Open) (why (m .reasons) 0)
-        → {s′ : Session} → s′ ≡ session (t .count) (s .revision .0 + steps) (t .state)
-        → outcome (Until s′ steps w) (record { trail = t′; reasons = ws }) ≡ runOf limits s b m seen budget preferred
-    unfolding runOf
-    run-moves low h t steps t′ a ws w v d =
-        let g = guarded limits s b m seen (sym e ∙ z) in
-        rw (run-from-15 limits s b m seen budget (sym e ∙ z), le-ltb lastRevision (s .revision .0 + budget) (omega arith), g .live, ← a, ← v, d)
 
 -- a run's steps are at most its budget
 pub steps-within : {b : List ℤ} {t : Trail} {n : ℕ} → OnBlock limits b t n → (budget : ℕ) (preferred : List ℤ) {u : Search} {steps : ℕ}

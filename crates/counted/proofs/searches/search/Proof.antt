@@ -3,8 +3,8 @@ use borrow.Author.Needs.{needs}
 use Rattle.record.specs.Laws.Accepted.{held-on}
 use Rattle.tables.specs.Laws.Blanks.{new-blank}
 use Rattle.counted.specs.Laws.Start.{prefix-bound, prefix-written, clauses-few, index-long, numbers-lent, begins, ends-so, index-so}
-use Rattle.counted.proofs.search.search.Statement.{statement}
-use Rattle.counted.proofs.search.search.Tie as tie
+use Rattle.counted.proofs.searches.search.Statement.{statement}
+use Rattle.counted.proofs.searches.search.Tie as tie
 
 module _ (c : tie.After-prefix) where
   abbrev start : tie.Start

@@ -2,8 +2,8 @@
 use mathlib.Core.Path.{sym, _∙_}
 use borrow.Author.Needs.{needs}
 use Rattle.counted.specs.Laws.Search.{recount-over, entering, entered-is}
-use Rattle.counted.proofs.search.recount.Statement.{statement}
-use Rattle.counted.proofs.search.recount.Tie as tie
+use Rattle.counted.proofs.searches.recount.Statement.{statement}
+use Rattle.counted.proofs.searches.recount.Tie as tie
 
 returns : tie.Need-returns
 returns c x = recount-over _ _ _ _ _ _ _ _ _ x (sym (c .before .is-over .ensures) ∙ c .if1 .taken)

@@ -9,8 +9,8 @@ use Rattle.record.specs.Trail.{trail, recordOf}
 use Rattle.counted.specs.Inner.State.{Counted}
 use Rattle.counted.specs.Inner.Standing.{clausesOf}
 use Rattle.counted.specs.Laws.Advance.{sought, step-tells, step-within, taking, enacting, recounting, step-done}
-use Rattle.counted.proofs.search.advance.Statement.{statement}
-use Rattle.counted.proofs.search.advance.Tie as tie
+use Rattle.counted.proofs.searches.advance.Statement.{statement}
+use Rattle.counted.proofs.searches.advance.Tie as tie
 
 -- the due rule, and the bounds that its looks leave
 module _ (d : tie.After-due) where

@@ -2,11 +2,10 @@
 use borrow.Author.Needs.{needs}
 use Rattle.words.specs.Outcomes.{same-answer, same-memory, both-same}
 use Rattle.record.specs.Laws.Accepted.{held-on}
-use Rattle.session.specs.Laws.Accepted.{fitting}
-use Rattle.session.specs.Laws.Named.{tellable}
-use Rattle.session.specs.Laws.Rounds.{advanced}
-use Rattle.session.proofs.searches.advance.Statement.{statement}
-use Rattle.session.proofs.searches.advance.Tie as tie
+use Rattle.search.specs.Laws.Named.{fitting, tellable}
+use Rattle.search.specs.Laws.Rounds.{advanced}
+use Rattle.search.proofs.searches.advance.Statement.{statement}
+use Rattle.search.proofs.searches.advance.Tie as tie
 
 due-requires : tie.Need-due-requires
 due-requires c κs = let s = c .before .before .before .before .before in (s .pre .0 .on, s .pre .1)

@@ -24,17 +24,25 @@ use Rattle.choice.specs.declared.found.Picked.{Picked}
 use Rattle.choice.specs.declared.found.Picked.the-variants.{Is, NoLiteral}
 use Rattle.rules.specs.declared.found.UnitFound.{UnitFound}
 use Rattle.rules.specs.declared.found.UnitFound.the-variants.{On, NoUnit}
-use Rattle.record.specs.Trail.{recordOf}
+use Rattle.record.specs.declared.rule.State.the-variants.{Open}
+use Rattle.record.specs.Trail.{Trail, recordOf}
+use Rattle.record.specs.Search.{search}
+use Rattle.record.specs.Inner.Ready.{OnBlock}
 use Rattle.record.specs.Found.{literal, onFound, last}
 use Rattle.choice.specs.First.{onPicked, firstUnassigned}
 use Rattle.rules.specs.Due.{onUnit, lowest, candidate, isUnit, lowestUnit, firstMonotone, dueAssigned, dueDecide, dueMonotone, dueUnit, dueConflict, due}
 use Rattle.applied.specs.Inner.Fits.{Fitting}
 use Rattle.record.specs.Laws.Accepted.{prefix-length}
 use Rattle.rules.specs.Laws.Searches.{lowest-at}
+use Rattle.rules.specs.Laws.Steps.{due-fits}
 use Rattle.memory.specs.Memory.{Memory}
 use Rattle.memory.specs.Reasons.{reasonOf}
 use Rattle.memory.specs.Inner.Reasons.{PlaceFits, Tellable, OnMemory}
-use Rattle.session.specs.Laws.Accepted.{fitting}
+
+-- the due rule has a place to write to, where rows 1 to 12 have passed
+pub fitting : {L : Limits} {b : List ℤ} {t : Trail} {n : ℕ} → OnBlock L b t n → Fitting (prefixOf b) n (due (formulaOf b) (recordOf t n))
+unfolding formulaOf
+fitting {L} {b} {t} {n} o = due-fits (formulaOf b) (search t n Open) (o .kept)
 
 lowest-below : {A : Type 0} (f : A → Bool) (n : ℕ) (xs : List A) (i : ℕ) → lowest f n xs ≡ At i → i < n + length xs
 unfolding lowest

@@ -1,8 +1,8 @@
 -- By the two answers of `is_decide`.
 use mathlib.Core.Path.{sym, _∙_}
 use borrow.Author.Needs.{needs}
-use Rattle.session.proofs.searches.proposal.Statement.{statement}
-use Rattle.session.proofs.searches.proposal.Tie as tie
+use Rattle.search.proofs.searches.proposal.Statement.{statement}
+use Rattle.search.proofs.searches.proposal.Tie as tie
 
 returns : tie.Need-returns
 returns c =
