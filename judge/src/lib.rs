@@ -11,6 +11,7 @@ pub mod damage;
 pub mod desks;
 pub mod dice;
 pub mod hits;
+pub mod listed;
 pub mod nonsense;
 pub mod page;
 pub mod plain;

@@ -1,7 +1,7 @@
 //! The judge's commands.
 
 use std::fs::{self, File};
-use std::io::{self, BufRead, BufWriter, Write};
+use std::io::{self, BufRead, BufWriter, Read, Write};
 use std::path::Path;
 use std::process::ExitCode;
 
@@ -10,6 +10,7 @@ use judge::cases;
 use judge::console::{self, Desk};
 use judge::desks;
 use judge::dice::Dice;
+use judge::listed;
 use judge::qdimacs::Asked;
 use judge::sheets::Sheet;
 use judge::tally::Tally;
@@ -26,6 +27,7 @@ judge qdimacs SEED COUNT FOLDER    writes generated formulas: N.qdimacs for each
 judge tally                        counts what console lines from standard input try
 judge talks                        writes the cases that ask for more than a check as console lines
 judge text-cases                   writes the cases of the reader of texts as console lines
+judge winners                      reads a text from standard input and writes its winners by brute force, as literals, and their number
 judge written-cases                writes the cases of the writer of texts as console lines
 ";
 
@@ -39,6 +41,7 @@ fn main() -> ExitCode {
         ["tally"] => count(&mut io::stdin().lock(), &mut io::stdout().lock()),
         ["talks"] => write_talks(&mut io::stdout().lock()),
         ["text-cases"] => write_text_cases(&mut io::stdout().lock()),
+        ["winners"] => write_winners(&mut io::stdin().lock(), &mut io::stdout().lock()),
         ["written-cases"] => write_written_cases(&mut io::stdout().lock()),
         ["desks", seed, lines] => match (seed.parse(), lines.parse()) {
             (Ok(seed), Ok(lines)) => write_desks(seed, lines),
@@ -171,6 +174,22 @@ fn write_qdimacs(seed: u64, count: usize, folder: &Path) -> io::Result<()> {
         }
     }
     lines.flush()
+}
+
+/// One winner to a line, as the literals of the outermost group and 0; the last
+/// line is `all COUNT`. A text or a group that is refused is `refused NUMBER` and
+/// what else is told of it.
+fn write_winners(from: &mut impl Read, to: &mut impl Write) -> io::Result<()> {
+    let mut text = Vec::new();
+    from.read_to_end(&mut text)?;
+    match listed::lines(&text) {
+        Ok(lines) => {
+            let count = lines.len();
+            lines.iter().try_for_each(|line| writeln!(to, "{line}"))?;
+            writeln!(to, "all {count}")
+        }
+        Err(refused) => writeln!(to, "refused {refused}"),
+    }
 }
 
 /// The lines without their line feeds; the last one may have none.
