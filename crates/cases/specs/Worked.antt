@@ -19,7 +19,8 @@ use Rattle.record.specs.declared.rule.Rule.{Rule}
 use Rattle.record.specs.declared.rule.Rule.the-variants.{BacktrackExists, Fail, Unit, Monotone, Decide, BacktrackForall, Succeed}
 use Rattle.record.specs.Found.{literal, last}
 use Rattle.choice.specs.First.{firstOf, firstUnassigned}
-use Rattle.rules.specs.Due.{due, lowest, candidate, lowestUnit, firstMonotone}
+use Rattle.clauses.specs.Lowest.{lowest}
+use Rattle.rules.specs.Due.{due, candidate, lowestUnit, firstMonotone}
 use Rattle.choice.specs.Preferred.{firstOpen}
 use Rattle.record.specs.Trail.{recordOf, wiped, entries}
 use Rattle.applied.specs.Apply.{apply}

@@ -14,7 +14,7 @@ use Rattle.words.specs.Laws.Lists.{blank}
 use Rattle.formula.specs.Inner.Places.{literalPlaces, placeOf}
 use Rattle.formula.specs.Laws.Limits.{variables-are}
 use Rattle.formula.specs.Laws.Places.{place-within}
-use Rattle.rules.specs.Inner.Clauses.{Placed}
+use Rattle.clauses.specs.Inner.Clauses.{Placed}
 use Rattle.counted.specs.Fresh.{bit}
 use Rattle.counted.specs.Inner.Index.{at}
 use Rattle.counted.specs.Laws.Index.{at-ended, at-next, within}

@@ -13,7 +13,7 @@ use borrow.Author.Tests.{lt-ltb, le-ltb}
 use Rattle.words.specs.Laws.Bools.{look}
 use Rattle.words.specs.Laws.Lists.{next, ended}
 use Rattle.record.specs.Found.{literal}
-use Rattle.rules.specs.Inner.Clauses.{levelBy}
+use Rattle.clauses.specs.Inner.Clauses.{levelBy}
 use Rattle.record.specs.Inner.Tables.{places}
 use Rattle.choice.specs.declared.found.Picked.the-variants.{Is, NoLiteral}
 use Rattle.counted.specs.Inner.Unit.{above, lastOpen, unitBy}

@@ -11,10 +11,10 @@ use crate::free::due_free;
 use crate::numbers::lowest;
 use crate::unit::lowest_unit;
 use crate::walk::Bounds;
+use clauses::UnitFound;
 use formula::LITERAL_PLACES;
 use record::PLACES;
 use record::Rule;
-use rules::UnitFound;
 
 // The due rule, and the bounds as the looks leave them.
 pub(crate) struct Looked {

@@ -3,7 +3,7 @@ ghost use Prim.Native.Nat.{_≤_};
 ghost use lib.ListN.{length};
 ghost use Rattle.formula.specs.Limits.{limits};
 ghost use Rattle.formula.specs.Formula.{clausesFrom};
-ghost use Rattle.rules.specs.Inner.Clauses.{Placed};
+ghost use Rattle.clauses.specs.Inner.Clauses.{Placed};
 ghost use Rattle.counted.specs.Inner.Index.{Few, Table, at, before, Indexed};
 use formula::LITERAL_PLACES;
 use formula::place_at;

@@ -7,7 +7,7 @@ ghost use lib.ListN.{length};
 ghost use Rattle.formula.specs.Limits.{limits};
 ghost use Rattle.formula.specs.Formula.{clausesFrom};
 ghost use Rattle.tables.specs.Inner.ByLiteral.{statusIn};
-ghost use Rattle.rules.specs.Inner.Clauses.{Placed};
+ghost use Rattle.clauses.specs.Inner.Clauses.{Placed};
 ghost use Rattle.counted.specs.Fresh.{bit};
 ghost use Rattle.counted.specs.Inner.Numbers.{numbersOf, Fillable, Filled, Least};
 use formula::LITERAL_PLACES;

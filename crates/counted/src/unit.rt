@@ -10,15 +10,15 @@ ghost use Rattle.formula.specs.Laws.Ends.{clauseStart};
 ghost use Rattle.formula.specs.Limits.{limits};
 ghost use Rattle.rules.specs.Due.{lowestUnit};
 ghost use Rattle.tables.specs.Inner.ByLiteral.{statusIn};
-ghost use Rattle.rules.specs.Inner.Clauses.{Placed, levelBy};
+ghost use Rattle.clauses.specs.Inner.Clauses.{Placed, levelBy};
 ghost use Rattle.counted.specs.Inner.Unit.{unitBy, Looking, LookRoom};
 use crate::numbers::lowest;
 use choice::Picked;
+use clauses::UnitFound;
 use formula::LITERAL_PLACES;
 use formula::place_at;
 use record::PLACES;
 use record::literal_at;
-use rules::UnitFound;
 
 // More than any level: with n variables there are at most n levels.
 const NO_LEVEL: u16 = PLACES as u16;

@@ -19,9 +19,9 @@ use Rattle.formula.specs.Laws.Places.{place-word, word-place, place-within}
 use Rattle.theory.specs.Record.{Assignment}
 use Rattle.theory.specs.Tests.{occurs, untrueOf}
 use Rattle.rules.specs.Inner.Occurrences.{Occurring, Marked, Counted, markedBy}
-use Rattle.rules.specs.Inner.Clauses.{Placed, Clauses}
+use Rattle.clauses.specs.Inner.Clauses.{Placed, Clauses}
 use Rattle.record.specs.Laws.Filled.{Filled, turn, end}
-use Rattle.rules.proofs.Walk.{Turn}
+use Rattle.clauses.specs.Laws.Walk.{Turn}
 use Rattle.formula.specs.Block.{badEnds}
 use Rattle.formula.specs.Formula.{clausesFrom}
 use Rattle.formula.specs.Laws.Clauses.{clauses-ended}

@@ -1,5 +1,5 @@
 -- The due rule: the searches of the five conditions, each with what follows if it finds nothing. To be read from the end.
-use Prim.Native.Nat.{ℕ, suc}
+use Prim.Native.Nat.{ℕ}
 use mathlib.Core.Bool.{Bool, cond}
 use mathlib.Core.List.{List, [], _∷_}
 use lib.IntN.{ℤ, pos, negℤ}
@@ -11,24 +11,17 @@ use Rattle.theory.specs.Tests.{unassignedE, inConflict, unitOn, monotone, untru
 use Rattle.record.specs.Found.{literal, onFound, last}
 use Rattle.record.specs.declared.rule.Rule.{Rule}
 use Rattle.record.specs.declared.rule.Rule.the-variants.{BacktrackExists, Fail, Unit, Monotone, Decide, BacktrackForall, Succeed}
-use Rattle.record.specs.declared.found.Found.{Found}
-use Rattle.record.specs.declared.found.Found.the-variants.{At, Nothing}
 use Rattle.choice.specs.First.{onPicked, firstOf, firstUnassigned}
 use Rattle.choice.specs.declared.found.Picked.{Picked}
 use Rattle.choice.specs.declared.found.Picked.the-variants.{Is, NoLiteral}
-use Rattle.rules.specs.declared.found.UnitFound.{UnitFound}
-use Rattle.rules.specs.declared.found.UnitFound.the-variants.{On, NoUnit}
+use Rattle.clauses.specs.declared.found.UnitFound.{UnitFound}
+use Rattle.clauses.specs.declared.found.UnitFound.the-variants.{On, NoUnit}
+use Rattle.clauses.specs.Lowest.{lowest}
 
-module _ {A : Type 0} where
-  -- what follows a search
-  abbrev pub onUnit : UnitFound → (Literal → ℕ → A) → A → A
-  onUnit (On l c) f b = f l c
-  onUnit NoUnit f b = b
-
-  -- the lowest clause that passes, the first of them being number n
-  unfoldable pub lowest : (A → Bool) → ℕ → List A → Found
-  lowest f n [] = Nothing
-  lowest f n (x ∷ xs) = cond (f x) (At n) (lowest f (suc n) xs)
+-- what follows a search
+abbrev pub onUnit : {A : Type 0} → UnitFound → (Literal → ℕ → A) → A → A
+onUnit (On l c) f b = f l c
+onUnit NoUnit f b = b
 
 -- the first unassigned existential literal of a clause, 0 if there is none
 unfoldable pub candidate : List ℤ → Assignment → List ℤ → ℤ

@@ -4,6 +4,5 @@
 pub mod Occurrences
 pub mod Variables
 pub mod Lent
--- the tests of a clause, and what the tables say of the record
-pub mod Clauses
+-- what the tables say of the record
 pub mod Tabled

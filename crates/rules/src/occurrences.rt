@@ -1,5 +1,5 @@
 // The literals that occur in the clauses with no true literal, which are the ones that Monotone counts.
-use crate::clauses::status_at;
+use clauses::status_at;
 use formula::LITERAL_PLACES;
 use formula::place_at;
 ghost use mathlib.Core.Path.{_≡_};
@@ -10,7 +10,7 @@ ghost use Rattle.formula.specs.Formula.{clausesFrom};
 ghost use Rattle.theory.specs.Tests.{untrueOf};
 ghost use Rattle.tables.specs.Inner.ByLiteral.{statusIn};
 ghost use Rattle.rules.specs.Inner.Occurrences.{trueBy, Occurring, Marked, Counted};
-ghost use Rattle.rules.specs.Inner.Clauses.{Placed, Clauses};
+ghost use Rattle.clauses.specs.Inner.Clauses.{Placed, Clauses};
 
 // Whether a clause has a true literal.
 fn has_true(clause: &[i32], statuses: &[u8; LITERAL_PLACES]) -> bool

@@ -1,12 +1,11 @@
 // The due rule is the first that applies: conflict, Unit, Monotone, Decide, all assigned.
 use crate::by_literal;
 use crate::by_literal::LITERAL_PLACES;
-use crate::clauses;
-use crate::found::Deciding;
-use crate::found::UnitFound;
 use crate::occurrences;
 use crate::variables;
 use choice::Picked;
+use clauses::Deciding;
+use clauses::UnitFound;
 use record::Found;
 use record::PLACES;
 use record::Rule;

@@ -10,7 +10,7 @@ use lib.ListN.{length, getD, take, drop}
 use Rattle.words.specs.Words.{mem}
 use Rattle.formula.specs.Limits.{limits}
 use Rattle.formula.specs.Inner.Places.{literalPlaces, placeOf}
-use Rattle.rules.specs.Inner.Clauses.{Clauses}
+use Rattle.clauses.specs.Inner.Clauses.{Clauses}
 use Rattle.counted.specs.Fresh.{countIf}
 
 -- how many words have the place p, and how many a place before it

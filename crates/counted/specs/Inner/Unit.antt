@@ -12,7 +12,7 @@ use Rattle.formula.specs.Formula.{clausesFrom}
 use Rattle.theory.specs.Record.{Assignment}
 use Rattle.record.specs.Found.{literal}
 use Rattle.tables.specs.Inner.ByLiteral.{statusIn}
-use Rattle.rules.specs.Inner.Clauses.{levelBy, Clauses}
+use Rattle.clauses.specs.Inner.Clauses.{levelBy, Clauses}
 use Rattle.record.specs.Inner.Tables.{places}
 use Rattle.rules.specs.Laws.ClausesMean.{AllMeant}
 use Rattle.choice.specs.declared.found.Picked.{Picked}

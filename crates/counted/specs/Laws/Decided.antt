@@ -23,7 +23,8 @@ use Rattle.theory.specs.Tests.{isOpen, inConflict}
 use Rattle.theory.specs.Laws.Tested.{open-e}
 use Rattle.record.specs.Found.{literal, onFound, last}
 use Rattle.choice.specs.First.{onPicked, firstOf, firstUnassigned}
-use Rattle.rules.specs.Due.{onUnit, lowest, lowestUnit, firstMonotone, dueAssigned, dueDecide, dueMonotone, dueUnit, dueConflict, due}
+use Rattle.clauses.specs.Lowest.{lowest}
+use Rattle.rules.specs.Due.{onUnit, lowestUnit, firstMonotone, dueAssigned, dueDecide, dueMonotone, dueUnit, dueConflict, due}
 use Rattle.record.specs.Trail.{Trail, recordOf}
 use Rattle.record.specs.Search.{Search}
 use Rattle.applied.specs.Apply.{append, kindOf, chosen, apply}
@@ -42,8 +43,8 @@ use Rattle.record.specs.declared.found.Found.{Found}
 use Rattle.record.specs.declared.found.Found.the-variants.{At, Nothing}
 use Rattle.choice.specs.declared.found.Picked.{Picked}
 use Rattle.choice.specs.declared.found.Picked.the-variants.{Is, NoLiteral}
-use Rattle.rules.specs.declared.found.UnitFound.{UnitFound}
-use Rattle.rules.specs.declared.found.UnitFound.the-variants.{On, NoUnit}
+use Rattle.clauses.specs.declared.found.UnitFound.{UnitFound}
+use Rattle.clauses.specs.declared.found.UnitFound.the-variants.{On, NoUnit}
 use Rattle.search.specs.Laws.Named.{fitting}
 use Rattle.counted.specs.Inner.Free.{freeAt}
 use Rattle.counted.specs.Inner.Decided.{openAt, pickedAt, preferredAt, firstIn, Enacting}

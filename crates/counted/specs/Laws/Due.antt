@@ -21,10 +21,11 @@ use Rattle.formula.specs.Laws.Prefix.{level-few}
 use Rattle.theory.specs.Record.{Record, Assignment, among, trueIn}
 use Rattle.theory.specs.Tests.{inConflict}
 use Rattle.record.specs.Found.{literal, onFound}
-use Rattle.rules.specs.Due.{lowest, candidate, isUnit, lowestUnit, dueMonotone, dueConflict, due}
+use Rattle.clauses.specs.Lowest.{lowest}
+use Rattle.rules.specs.Due.{candidate, isUnit, lowestUnit, dueMonotone, dueConflict, due}
 use Rattle.record.specs.Trail.{trail, recordOf}
 use Rattle.tables.specs.Inner.ByLiteral.{statusIn}
-use Rattle.rules.specs.Inner.Clauses.{levelBy}
+use Rattle.clauses.specs.Inner.Clauses.{levelBy}
 use Rattle.record.specs.Inner.Ready.{Bound}
 use Rattle.rules.specs.Inner.Tabled.{Tabled}
 use Rattle.record.specs.Laws.Accepted.{kept-true, kept-written, prefix-few, accepted-bound}
@@ -35,8 +36,8 @@ use Rattle.record.specs.declared.rule.Rule.{Rule}
 use Rattle.record.specs.declared.rule.Rule.the-variants.{Unit}
 use Rattle.record.specs.declared.found.Found.{Found}
 use Rattle.record.specs.declared.found.Found.the-variants.{At, Nothing}
-use Rattle.rules.specs.declared.found.UnitFound.{UnitFound}
-use Rattle.rules.specs.declared.found.UnitFound.the-variants.{On, NoUnit}
+use Rattle.clauses.specs.declared.found.UnitFound.{UnitFound}
+use Rattle.clauses.specs.declared.found.UnitFound.the-variants.{On, NoUnit}
 use Rattle.search.specs.Laws.Named.{due-names}
 use Rattle.counted.specs.Inner.Free.{Walkable, freeRule}
 use Rattle.counted.specs.Inner.Numbers.{Least}

@@ -17,13 +17,14 @@ use Rattle.formula.specs.Formula.{clausesFrom}
 use Rattle.formula.specs.Laws.Clauses.{clauses-at, clauses-length, clauses-from}
 use Rattle.formula.specs.Laws.Ends.{clauseStart}
 use Rattle.record.specs.Found.{literal}
-use Rattle.rules.specs.Due.{lowest, candidate, isUnit, lowestUnit}
+use Rattle.clauses.specs.Lowest.{lowest}
+use Rattle.rules.specs.Due.{candidate, isUnit, lowestUnit}
 use Rattle.tables.specs.Inner.ByLiteral.{statusIn}
-use Rattle.rules.specs.Inner.Clauses.{levelBy}
+use Rattle.clauses.specs.Inner.Clauses.{levelBy}
 use Rattle.record.specs.Inner.Tables.{places}
 use Rattle.record.specs.declared.found.Found.the-variants.{At, Nothing}
 use Rattle.choice.specs.declared.found.Picked.the-variants.{Is, NoLiteral}
-use Rattle.rules.specs.declared.found.UnitFound.the-variants.{On, NoUnit}
+use Rattle.clauses.specs.declared.found.UnitFound.the-variants.{On, NoUnit}
 use Rattle.counted.specs.Inner.Numbers.{Least, keyAt}
 use Rattle.counted.specs.Inner.Unit.{above, Looking, lastOpen, unitBy}
 use Rattle.counted.specs.Laws.Numbers.{lowest-is}

@@ -15,7 +15,7 @@ use Rattle.words.specs.Laws.Lists.{next, ended}
 use Rattle.formula.specs.Formula.{existential}
 use Rattle.theory.specs.Record.{Assignment, assigned}
 use Rattle.theory.specs.Tests.{unassignedE, inConflict}
-use Rattle.rules.specs.Due.{lowest}
+use Rattle.clauses.specs.Lowest.{lowest}
 use Rattle.rules.specs.Inner.Tabled.{Sorted, as-false, as-true, as-existential, as-universal}
 use Rattle.rules.specs.Laws.ClausesMean.{status-true}
 use Rattle.record.specs.declared.found.Found.the-variants.{At, Nothing}

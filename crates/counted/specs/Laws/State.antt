@@ -19,7 +19,8 @@ use Rattle.formula.specs.Inner.Places.{placeOf}
 use Rattle.theory.specs.Record.{Assignment, assigned}
 use Rattle.theory.specs.Tests.{unassignedE, inConflict}
 use Rattle.theory.specs.Laws.Assignment.{put}
-use Rattle.rules.specs.Due.{lowest, isUnit}
+use Rattle.clauses.specs.Lowest.{lowest}
+use Rattle.rules.specs.Due.{isUnit}
 use Rattle.rules.specs.Inner.Tabled.{Sorted}
 use Rattle.record.specs.declared.found.Found.the-variants.{At, Nothing}
 use Rattle.counted.specs.Fresh.{opens, bit, trues}

@@ -17,8 +17,9 @@ use Rattle.formula.specs.Inner.Named.{Named}
 use Rattle.formula.specs.Laws.Clauses.{clauses-in}
 use Rattle.theory.specs.Record.{Assignment, among, assigned}
 use Rattle.theory.specs.Laws.Assignment.{put}
-use Rattle.rules.specs.Due.{lowest, isUnit}
-use Rattle.rules.specs.Laws.Searches.{lowest-none}
+use Rattle.clauses.specs.Lowest.{lowest}
+use Rattle.rules.specs.Due.{isUnit}
+use Rattle.clauses.specs.Laws.Lowest.{lowest-none}
 use Rattle.record.specs.declared.found.Found.the-variants.{At, Nothing}
 use Rattle.counted.specs.Inner.Entry.{Setting}
 use Rattle.counted.specs.Inner.Index.{Few, Index}

@@ -21,14 +21,15 @@ use Rattle.theory.specs.Record.{Assignment}
 use Rattle.theory.specs.Tests.{unassignedE, unassignedU, inConflict, unitOn, untrueOf}
 use Rattle.record.specs.Found.{onFound, literal}
 use Rattle.choice.specs.First.{onPicked}
-use Rattle.rules.specs.Due.{lowest, candidate, isUnit, lowestUnit}
+use Rattle.clauses.specs.Lowest.{lowest}
+use Rattle.rules.specs.Due.{candidate, isUnit, lowestUnit}
 use Rattle.rules.specs.Inner.Tabled.{Sorted, as-false, as-true, as-existential, as-universal}
 use Rattle.rules.specs.Inner.Occurrences.{trueBy}
-use Rattle.rules.specs.Inner.Clauses.{keepsBy, conflictBy, unit, neither, unitLiteral, staysUnit, sightFrom, lowestUnitBy}
+use Rattle.clauses.specs.Inner.Clauses.{keepsBy, conflictBy, unit, neither, unitLiteral, staysUnit, sightFrom, lowestUnitBy}
 use Rattle.choice.specs.declared.found.Picked.{Picked}
 use Rattle.choice.specs.declared.found.Picked.the-variants.{Is, NoLiteral}
 use Rattle.record.specs.declared.found.Found.the-variants.{At}
-use Rattle.rules.specs.declared.found.UnitFound.the-variants.{On, NoUnit}
+use Rattle.clauses.specs.declared.found.UnitFound.the-variants.{On, NoUnit}
 use Rattle.record.specs.Inner.Tables.{places}
 
 pub ltb-min : (a b c : ℕ) → ltb a (min b c) ≡ (ltb a b && ltb a c)

@@ -3,12 +3,11 @@
 use mathlib.Core.Path.{_≡_, _∙_, ap, refl}
 use mathlib.Core.Bool.{false, Bool, true, cond, not, and-false}
 use mathlib.Core.List.{List}
-use Prim.Native.Nat.{ℕ, _+_, _≤_, zero, suc, _<_, zero-le}
+use Prim.Native.Nat.{ℕ, _≤_, zero, suc, _<_, zero-le}
 use native.Mathlib.Omega.{arith}
 use lib.Dec.{eqb, ltb}
 use lib.IntN.{ℤ, natAbs, pos, negsuc, negℤ}
-use lib.ListN.{length, getD, take, drop, length-take, List·getD-eq-default}
-use lib.Seq.{getD-take, getD-drop}
+use lib.ListN.{length, getD, take, List·getD-eq-default}
 use borrow.Author.Tests.{ltb-false, ltb-true}
 use Rattle.words.specs.Laws.Bools.{clash, look, to-false}
 use Rattle.words.specs.Lists.{In}
@@ -34,18 +33,19 @@ use Rattle.formula.specs.Laws.Permuted.{all-bound, quantifier}
 use Rattle.formula.specs.Laws.Clauses.{clauses-in}
 use Rattle.theory.specs.Record.{Assignment, among, assigned, literals}
 use Rattle.record.specs.Found.{onFound}
-use Rattle.rules.specs.Due.{lowest, lowestUnit}
-use Rattle.rules.specs.Inner.Clauses.{Placed, Clauses, levelBy, conflictBy, onDeciding, lowestUnitBy, decidingBy}
+use Rattle.clauses.specs.Lowest.{lowest}
+use Rattle.rules.specs.Due.{lowestUnit}
+use Rattle.clauses.specs.Inner.Clauses.{Placed, Clauses, levelBy, conflictBy, onDeciding, lowestUnitBy, decidingBy}
 use Rattle.tables.specs.Inner.ByLiteral.{statusBy, statusIn, Statuses}
 use Rattle.rules.specs.Inner.Occurrences.{trueBy}
 use Rattle.rules.specs.Inner.Tabled.{Consistent, Tabled, Sorted, as-false, as-true, as-existential, as-universal, Sorts}
 use Rattle.tables.specs.Laws.Levels.{level-at}
 use Rattle.rules.specs.Laws.ClausesMean.{Meant, untrue-means, lowest-conflict-means, lowest-unit-means}
-use Rattle.rules.specs.declared.found.Deciding.{Deciding}
-use Rattle.rules.specs.declared.found.Deciding.the-variants.{Conflict, Quiet}
+use Rattle.clauses.specs.declared.found.Deciding.{Deciding}
+use Rattle.clauses.specs.declared.found.Deciding.the-variants.{Conflict, Quiet}
 use Rattle.record.specs.declared.found.Found.{Found}
 use Rattle.record.specs.declared.found.Found.the-variants.{At, Nothing}
-use Rattle.rules.specs.declared.found.UnitFound.{UnitFound}
+use Rattle.clauses.specs.declared.found.UnitFound.{UnitFound}
 
 module _ (p : List ℤ) (b : Bound p) (ρ : Assignment) (values : List ℕ) (vals : Values ρ values) (con : Consistent ρ) where
   -- a literal is true, or false by its opposite, or unassigned and of its variable's quantifier
@@ -96,17 +96,6 @@ once-consistent ls h (suc n) z e = to-false _ (λ f. opposite (once-in ls h (mem
   where
     opposite : pos (suc n) ≡ negsuc n → ⊥
     opposite q = let k : _≡_ {A = ℕ} 0 1 = cc in omega arith
-
--- every word of a part has a place
-pub placed-part : (ls : List ℤ) (k j : ℕ) → Placed ls → Placed (take k (drop j ls))
-placed-part ls k j p i = go (look (ltb i k))
-  where
-    go : (ltb i k ≡ true) ⊎ (ltb i k ≡ false) → natAbs (getD (take k (drop j ls)) i (pos 0)) ≤ limits .variables
-    go (inl h) = rw (getD-take k (drop j ls) i (pos 0) (ltb-true i k h), getD-drop j ls i (pos 0)) (p (j + i))
-    go (inr h) =
-        let l : k ≤ i = ltb-false i k h in
-        let m : length (take k (drop j ls)) ≤ i = simp length-take (omega arith) in
-        rw (List·getD-eq-default (take k (drop j ls)) (pos 0) m) zero-le
 
 -- ---- checked input
 module _ (p es ls : List ℤ) (ready : Ready p es ls) where

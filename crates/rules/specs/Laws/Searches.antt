@@ -1,12 +1,12 @@
 -- What each search of the due rule finds, and what it means that it finds nothing. By induction on the list that is searched.
-use Prim.Native.Nat.{ℕ, suc, _+_}
+use Prim.Native.Nat.{ℕ}
 use mathlib.Core.Path.{_≡_, refl, ap, _∙_}
-use mathlib.Core.Bool.{Bool, true, false, _||_, cond, and-false}
-use mathlib.Core.List.{List, [], _∷_}
+use mathlib.Core.Bool.{Bool, true, false, cond, and-false}
+use mathlib.Core.List.{List, []}
 use native.Mathlib.Omega.{arith}
 use lib.IntN.{ℤ, negℤ}
 use lib.ListN.{getD}
-use Rattle.words.specs.Lists.{In, here, there, any}
+use Rattle.words.specs.Lists.{In}
 use Rattle.words.specs.Laws.Lists.{all-e}
 use Rattle.words.specs.declared.Literal.{Literal}
 use Rattle.formula.specs.Formula.{existential, universal}
@@ -16,33 +16,13 @@ use Rattle.theory.specs.Laws.Assignment.{assigned-neg}
 use Rattle.record.specs.Found.{literal, onFound}
 use Rattle.choice.specs.First.{firstUnassigned}
 use Rattle.choice.specs.Laws.Searches.{first-found, none-picked, unassigned-none}
-use Rattle.rules.specs.Due.{lowest, candidate, isUnit, lowestUnit, firstMonotone}
+use Rattle.clauses.specs.Lowest.{lowest}
+use Rattle.clauses.specs.Laws.Lowest.{lowest-at}
+use Rattle.rules.specs.Due.{candidate, isUnit, lowestUnit, firstMonotone}
 use Rattle.record.specs.declared.found.Found.{Found}
 use Rattle.record.specs.declared.found.Found.the-variants.{At, Nothing}
 use Rattle.choice.specs.declared.found.Picked.the-variants.{Is, NoLiteral}
-use Rattle.rules.specs.declared.found.UnitFound.the-variants.{On, NoUnit}
-
--- ---- the lowest that passes
-module _ {A : Type 0} (f : A → Bool) where
-  pub lowest-none : (n : ℕ) (xs : List A) → lowest f n xs ≡ Nothing → any f xs ≡ false
-  unfolding lowest any
-  lowest-none n [] e = refl
-  lowest-none n (x ∷ xs) e = go (f x) (lowest-none (suc n) xs) e
-    where
-      go : (b : Bool) → (lowest f (suc n) xs ≡ Nothing → any f xs ≡ false) → cond b (At n) (lowest f (suc n) xs) ≡ Nothing → (b || any f xs) ≡ false
-      go true ih e = let z : _≡_ {A = ℕ} 0 1 = cc in absurd (omega arith)
-      go false ih e = ih e
-
-  -- it passes and stands in the list
-  pub lowest-at : (d : A) (n : ℕ) (xs : List A) (i : ℕ) → lowest f n xs ≡ At i → (j : ℕ) × (i ≡ n + j) × In (getD xs j d) xs × (f (getD xs j d) ≡ true)
-  unfolding lowest
-  lowest-at d n [] i e = let z : _≡_ {A = ℕ} 0 1 = cc in absurd (omega arith)
-  lowest-at d n (x ∷ xs) i e = go (f x) refl (lowest-at d (suc n) xs i) e
-    where
-      go : (b : Bool) → f x ≡ b → (lowest f (suc n) xs ≡ At i → (j : ℕ) × (i ≡ suc n + j) × In (getD xs j d) xs × (f (getD xs j d) ≡ true))
-          → cond b (At n) (lowest f (suc n) xs) ≡ At i → (j : ℕ) × (i ≡ n + j) × In (getD (x ∷ xs) j d) (x ∷ xs) × (f (getD (x ∷ xs) j d) ≡ true)
-      go true p ih e = let z : n ≡ i = cc in (0, omega arith, here refl, p)
-      go false p ih e = let r = ih e in (suc (r .0), omega (arith, r .1), there (r .2), r .3)
+use Rattle.clauses.specs.declared.found.UnitFound.the-variants.{On, NoUnit}
 
 -- ---- Unit: the clause stands in the matrix and decides the literal
 pub record UnitOf (p : List ℤ) (m : List (List ℤ)) (ρ : Assignment) (l : ℤ) : Type 0 where

@@ -12,19 +12,21 @@ use Rattle.theory.specs.Rules.{Conflict, Quiet, Full}
 use Rattle.theory.specs.Laws.First.{first-open}
 use Rattle.record.specs.Found.{onFound, last}
 use Rattle.choice.specs.First.{onPicked, firstUnassigned}
-use Rattle.rules.specs.Due.{onUnit, lowest, lowestUnit, firstMonotone, dueAssigned, dueDecide, dueMonotone, dueUnit, dueConflict, due}
+use Rattle.clauses.specs.Lowest.{lowest}
+use Rattle.rules.specs.Due.{onUnit, lowestUnit, firstMonotone, dueAssigned, dueDecide, dueMonotone, dueUnit, dueConflict, due}
 use Rattle.record.specs.Inner.Ready.{Binds}
 use Rattle.record.specs.Laws.Good.{bare, bare-proper}
 use Rattle.choice.specs.Laws.Searches.{unassigned-none, unassigned-found}
-use Rattle.rules.specs.Laws.Searches.{lowest-none, lowest-at, UnitOf, unit-found, monotone-found}
+use Rattle.clauses.specs.Laws.Lowest.{lowest-none, lowest-at}
+use Rattle.rules.specs.Laws.Searches.{UnitOf, unit-found, monotone-found}
 use Rattle.record.specs.declared.rule.Rule.{Rule}
 use Rattle.record.specs.declared.rule.Rule.the-variants.{BacktrackExists, Fail, Unit, Monotone, Decide, BacktrackForall, Succeed}
 use Rattle.record.specs.declared.found.Found.{Found}
 use Rattle.record.specs.declared.found.Found.the-variants.{At, Nothing}
 use Rattle.choice.specs.declared.found.Picked.{Picked}
 use Rattle.choice.specs.declared.found.Picked.the-variants.{Is, NoLiteral}
-use Rattle.rules.specs.declared.found.UnitFound.{UnitFound}
-use Rattle.rules.specs.declared.found.UnitFound.the-variants.{On, NoUnit}
+use Rattle.clauses.specs.declared.found.UnitFound.{UnitFound}
+use Rattle.clauses.specs.declared.found.UnitFound.the-variants.{On, NoUnit}
 
 pub data Reason (F : Formula) (r : Record) : Rule → Type 0 where
   backtrack-exists : (i c : ℕ) → Conflict F r → last 1 0 r ≡ At i → Reason F r (BacktrackExists i c)

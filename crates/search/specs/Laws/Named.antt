@@ -1,8 +1,8 @@
 -- The due rule names a clause of the block, so that its reason is at most C; and it has a place to write a reason to. By the cases of the searches.
-use Prim.Native.Nat.{ℕ, suc, _+_, _≤_, _<_}
+use Prim.Native.Nat.{ℕ, _+_, _≤_, _<_}
 use mathlib.Core.Path.{_≡_, refl, ap, _∙_}
-use mathlib.Core.Bool.{Bool, true, false, cond}
-use mathlib.Core.List.{List, [], _∷_}
+use mathlib.Core.Bool.{Bool, true}
+use mathlib.Core.List.{List, []}
 use native.Mathlib.Omega.{arith}
 use lib.IntN.{ℤ}
 use lib.ListN.{length, getD, drop, length-drop}
@@ -22,18 +22,19 @@ use Rattle.record.specs.declared.found.Found.{Found}
 use Rattle.record.specs.declared.found.Found.the-variants.{At, Nothing}
 use Rattle.choice.specs.declared.found.Picked.{Picked}
 use Rattle.choice.specs.declared.found.Picked.the-variants.{Is, NoLiteral}
-use Rattle.rules.specs.declared.found.UnitFound.{UnitFound}
-use Rattle.rules.specs.declared.found.UnitFound.the-variants.{On, NoUnit}
+use Rattle.clauses.specs.declared.found.UnitFound.{UnitFound}
+use Rattle.clauses.specs.declared.found.UnitFound.the-variants.{On, NoUnit}
 use Rattle.record.specs.declared.rule.State.the-variants.{Open}
 use Rattle.record.specs.Trail.{Trail, recordOf}
 use Rattle.record.specs.Search.{search}
 use Rattle.record.specs.Inner.Ready.{OnBlock}
 use Rattle.record.specs.Found.{literal, onFound, last}
 use Rattle.choice.specs.First.{onPicked, firstUnassigned}
-use Rattle.rules.specs.Due.{onUnit, lowest, candidate, isUnit, lowestUnit, firstMonotone, dueAssigned, dueDecide, dueMonotone, dueUnit, dueConflict, due}
+use Rattle.clauses.specs.Lowest.{lowest}
+use Rattle.rules.specs.Due.{onUnit, candidate, isUnit, lowestUnit, firstMonotone, dueAssigned, dueDecide, dueMonotone, dueUnit, dueConflict, due}
 use Rattle.applied.specs.Inner.Fits.{Fitting}
 use Rattle.record.specs.Laws.Accepted.{prefix-length}
-use Rattle.rules.specs.Laws.Searches.{lowest-at}
+use Rattle.clauses.specs.Laws.Lowest.{lowest-at, lowest-below}
 use Rattle.rules.specs.Laws.Steps.{due-fits}
 use Rattle.memory.specs.Memory.{Memory}
 use Rattle.memory.specs.Reasons.{reasonOf}
@@ -43,15 +44,6 @@ use Rattle.memory.specs.Inner.Reasons.{PlaceFits, Tellable, OnMemory}
 pub fitting : {L : Limits} {b : List ℤ} {t : Trail} {n : ℕ} → OnBlock L b t n → Fitting (prefixOf b) n (due (formulaOf b) (recordOf t n))
 unfolding formulaOf
 fitting {L} {b} {t} {n} o = due-fits (formulaOf b) (search t n Open) (o .kept)
-
-lowest-below : {A : Type 0} (f : A → Bool) (n : ℕ) (xs : List A) (i : ℕ) → lowest f n xs ≡ At i → i < n + length xs
-unfolding lowest
-lowest-below f n [] i e = let z : _≡_ {A = ℕ} 0 1 = cc in absurd (omega arith)
-lowest-below f n (x ∷ xs) i e = go (f x) (lowest-below f (suc n) xs i) e
-  where
-    go : (b : Bool) → (lowest f (suc n) xs ≡ At i → i < suc n + length xs) → cond b (At n) (lowest f (suc n) xs) ≡ At i → i < n + length (x ∷ xs)
-    go true ih e = let z : n ≡ i = cc in omega arith
-    go false ih e = let h = ih e in omega arith
 
 -- a clause of the formula; of a unit, one that decides its literal
 abbrev pub Names : Formula → Record → Rule → Type 0

@@ -18,11 +18,12 @@ use Rattle.record.specs.declared.found.Found.the-variants.{At, Nothing}
 use Rattle.record.specs.declared.rule.Rule.the-variants.{BacktrackExists, Fail, Unit, Monotone, Decide, BacktrackForall, Succeed}
 use Rattle.choice.specs.declared.found.Picked.{Picked}
 use Rattle.choice.specs.declared.found.Picked.the-variants.{Is, NoLiteral}
-use Rattle.rules.specs.declared.found.UnitFound.{UnitFound}
-use Rattle.rules.specs.declared.found.UnitFound.the-variants.{On, NoUnit}
+use Rattle.clauses.specs.declared.found.UnitFound.{UnitFound}
+use Rattle.clauses.specs.declared.found.UnitFound.the-variants.{On, NoUnit}
 use Rattle.choice.specs.First.{onPicked, firstUnassigned}
-use Rattle.rules.specs.Due.{onUnit, lowest, lowestUnit, firstMonotone, dueAssigned, dueDecide, dueMonotone, dueUnit, dueConflict, due}
-use Rattle.rules.specs.Laws.Searches.{lowest-at}
+use Rattle.clauses.specs.Lowest.{lowest}
+use Rattle.clauses.specs.Laws.Lowest.{lowest-at}
+use Rattle.rules.specs.Due.{onUnit, lowestUnit, firstMonotone, dueAssigned, dueDecide, dueMonotone, dueUnit, dueConflict, due}
 use Rattle.shown.specs.Inner.Conflict.{conflictOf, clauseOf}
 
 module _ (F : Formula) (r : Record) where

@@ -4,7 +4,7 @@ use native.Mathlib.Omega.{arith}
 use lib.ListN.{length}
 use borrow.Author.Needs.{needs}
 use Rattle.tables.specs.Inner.ByLiteral.{statusIn}
-use Rattle.rules.specs.Laws.ClausesReady.{placed-part}
+use Rattle.clauses.specs.Laws.Walk.{placed-part}
 use Rattle.counted.proofs.Filling.{Filling, clause-ends, clause-starts, fill-begin, fill-end, fill-turn, short-part}
 use Rattle.counted.proofs.numbers.fill_numbers.Statement.{statement}
 use Rattle.counted.proofs.numbers.fill_numbers.Tie as tie

@@ -6,7 +6,7 @@ use lib.ListN.{getD}
 use borrow.Author.Needs.{needs}
 use borrow.Author.Tests.{eq-eqb, ne-eqb}
 use Rattle.formula.specs.Laws.Limits.{variables-are}
-use Rattle.rules.specs.Inner.Clauses.{levelBy}
+use Rattle.clauses.specs.Inner.Clauses.{levelBy}
 use Rattle.counted.proofs.unit.lowered_level.Statement.{statement}
 use Rattle.counted.proofs.unit.lowered_level.Tie as tie
 

@@ -8,7 +8,7 @@ use lib.ListN.{length, getD, take, drop}
 use borrow.Author.Needs.{needs}
 use Rattle.formula.specs.Formula.{clausesFrom}
 use Rattle.formula.specs.Laws.Ends.{good-at}
-use Rattle.rules.specs.Laws.ClausesReady.{placed-part}
+use Rattle.clauses.specs.Laws.Walk.{placed-part}
 use Rattle.counted.specs.Inner.Numbers.{keyAt}
 use Rattle.counted.specs.Inner.Unit.{Looking}
 use Rattle.counted.specs.Laws.Lowest.{NoUnits, clause-taken, units-begin, units-found, units-next, units-none}

@@ -6,7 +6,7 @@ use lib.ListN.{length, getD}
 use borrow.Author.Needs.{needs}
 use Rattle.formula.specs.Laws.Limits.{variables-are}
 use Rattle.tables.specs.Inner.ByLiteral.{statusIn}
-use Rattle.rules.specs.Inner.Clauses.{levelBy}
+use Rattle.clauses.specs.Inner.Clauses.{levelBy}
 use Rattle.choice.specs.declared.found.Picked.the-variants.{Is}
 use Rattle.counted.proofs.Counting.{placed}
 use Rattle.counted.proofs.Passing.{Looked, look-begin, look-turn, unit-hit, unit-miss}

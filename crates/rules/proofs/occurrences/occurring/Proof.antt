@@ -5,8 +5,7 @@ use lib.ListN.{length}
 use borrow.Author.Needs.{needs}
 use Rattle.tables.specs.Inner.ByLiteral.{statusIn}
 use Rattle.rules.specs.Inner.Occurrences.{trueBy}
-use Rattle.rules.specs.Laws.ClausesReady.{placed-part}
-use Rattle.rules.proofs.Walk.{Turn, turn}
+use Rattle.clauses.specs.Laws.Walk.{placed-part, Turn, turn}
 use Rattle.rules.proofs.Occurring.{Counting, count-begin, count-next, count-end}
 use Rattle.rules.proofs.occurrences.occurring.Statement.{statement}
 use Rattle.rules.proofs.occurrences.occurring.Tie as tie

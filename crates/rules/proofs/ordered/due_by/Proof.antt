@@ -4,7 +4,7 @@ use denote.Ref.{now}
 use Rattle.formula.specs.Formula.{Formula, formulaOf, prefixOf}
 use Rattle.theory.specs.Record.{Record, trueIn}
 use Rattle.rules.specs.Due.{onUnit, dueConflict, dueMonotone, due}
-use Rattle.rules.specs.Inner.Clauses.{levelBy, onDeciding, decidingBy}
+use Rattle.clauses.specs.Inner.Clauses.{levelBy, onDeciding, decidingBy}
 use Rattle.tables.specs.Inner.ByLiteral.{statusIn}
 use Rattle.record.specs.Inner.Ready.{formula, Ready}
 use Rattle.tables.specs.Inner.Levels.{Levels}
@@ -12,8 +12,8 @@ use Rattle.rules.specs.Inner.Tabled.{Sorts}
 use Rattle.rules.specs.Laws.ClausesReady.{ready-clauses, deciding-ready}
 use Rattle.record.specs.Laws.Accepted.{accepted-ready, formula-is}
 use Rattle.record.specs.declared.rule.Rule.the-variants.{Unit}
-use Rattle.rules.specs.declared.found.Deciding.{Deciding}
-use Rattle.rules.specs.declared.found.Deciding.the-variants.{Quiet}
+use Rattle.clauses.specs.declared.found.Deciding.{Deciding}
+use Rattle.clauses.specs.declared.found.Deciding.the-variants.{Quiet}
 use borrow.Author.Needs.{needs}
 use Rattle.rules.proofs.ordered.due_by.Statement.{statement}
 use Rattle.rules.proofs.ordered.due_by.Tie as tie

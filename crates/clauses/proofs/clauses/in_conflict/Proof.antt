@@ -5,14 +5,14 @@ use native.Mathlib.Omega.{arith}
 use lib.ListN.{length, drop}
 use borrow.Author.Needs.{needs}
 use Rattle.tables.specs.Inner.ByLiteral.{statusIn}
-use Rattle.rules.specs.Inner.Clauses.{keepsBy, conflictBy}
+use Rattle.clauses.specs.Inner.Clauses.{keepsBy, conflictBy}
 use Rattle.words.specs.Lists.{any}
 use Rattle.words.specs.Laws.Lists.{any-found, any-past, any-ended}
 use mathlib.Core.Bool.{not}
 use lib.IntN.{pos}
-use Rattle.rules.proofs.Walk.{keeps-true, keeps-existential, keeps-not}
-use Rattle.rules.proofs.clauses.in_conflict.Statement.{statement}
-use Rattle.rules.proofs.clauses.in_conflict.Tie as tie
+use Rattle.clauses.specs.Laws.Walk.{keeps-true, keeps-existential, keeps-not}
+use Rattle.clauses.proofs.clauses.in_conflict.Statement.{statement}
+use Rattle.clauses.proofs.clauses.in_conflict.Tie as tie
 
 abbrev Inv-loop : tie.InvT-loop
 Inv-loop clause statuses i₀ i =

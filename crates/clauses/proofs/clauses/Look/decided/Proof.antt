@@ -1,9 +1,9 @@
 -- Without an existential literal the clause is in conflict; with one, the lowest conflict after it, or none, picks the case.
 use borrow.Author.Needs.{needs}
 use borrow.Author.Tests.{lt-ltb, le-ltb}
-use Rattle.rules.specs.Inner.Clauses.{decidedBy}
-use Rattle.rules.proofs.clauses.Look.decided.Statement.{statement}
-use Rattle.rules.proofs.clauses.Look.decided.Tie as tie
+use Rattle.clauses.specs.Inner.Clauses.{decidedBy}
+use Rattle.clauses.proofs.clauses.Look.decided.Statement.{statement}
+use Rattle.clauses.proofs.clauses.Look.decided.Tie as tie
 
 returns : tie.Need-returns
 unfolding decidedBy

@@ -12,8 +12,8 @@ use borrow.Author.Tests.{lt-ltb, le-ltb, ltb-true, le-leb, lt-leb, leb-true, leb
 use Rattle.words.specs.Laws.Bools.{look, and-l, and-r, or-fl, or-fr}
 use Rattle.words.specs.Laws.Lists.{next, ended}
 use Rattle.record.specs.Inner.Tables.{places}
-use Rattle.rules.specs.Inner.Clauses.{levelBy, Sight, unit, neither, staysUnit, sightFrom, sightAfter, sightWith, Shown, decidesBy, sightOf}
-use Rattle.rules.specs.declared.clauses.Look.{Look}
+use Rattle.clauses.specs.Inner.Clauses.{levelBy, Sight, unit, neither, staysUnit, sightFrom, sightAfter, sightWith, Shown, decidesBy, sightOf}
+use Rattle.clauses.specs.declared.clauses.Look.{Look}
 
 -- none of the three lower ones
 above-two : (s : ℕ) → (s ≡ 0 → ⊥) → (s ≡ 1 → ⊥) → (s ≡ 2 → ⊥) → (n : ℕ) × (s ≡ suc (suc (suc n)))

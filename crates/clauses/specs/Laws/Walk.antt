@@ -1,20 +1,23 @@
 -- The walk over the clauses of the literal words: each turn takes the clause from the end before it to its own, and what is left of the
 -- ends is still in order.
-use Prim.Native.Nat.{ℕ, _+_, _-_, _≤_, _<_}
-use mathlib.Core.Path.{_≡_, refl, sym, _∙_, ap}
-use mathlib.Core.Bool.{Bool, true, false}
+use Prim.Native.Nat.{ℕ, _+_, _-_, _≤_, _<_, zero-le}
+use mathlib.Core.Path.{_≡_, sym, _∙_, ap}
+use mathlib.Core.Logic.{_⊎_, inl, inr}
+use mathlib.Core.Bool.{true, false}
 use mathlib.Core.List.{List, [], _∷_}
-use native.Mathlib.Numerals.{add-one}
+use native.Mathlib.Omega.{arith}
+use lib.Dec.{ltb}
 use lib.IntN.{ℤ, pos, natAbs}
-use lib.ListN.{length, getD, take, drop}
-use borrow.Author.Tests.{ne-eqb}
+use lib.ListN.{length, getD, take, drop, length-take, List·getD-eq-default}
+use lib.Seq.{getD-take, getD-drop}
+use borrow.Author.Tests.{ne-eqb, ltb-true, ltb-false}
+use Rattle.words.specs.Laws.Bools.{look}
+use Rattle.formula.specs.Limits.{limits}
 use Rattle.formula.specs.Formula.{clausesFrom}
 use Rattle.formula.specs.Block.{badEnds}
 use Rattle.formula.specs.Laws.Ends.{good-end}
 use Rattle.formula.specs.Laws.Clauses.{clauses-at, clauses-ended}
-use Rattle.rules.specs.Due.{lowest}
-use Rattle.rules.specs.Inner.Clauses.{keepsBy}
-use Rattle.record.specs.declared.found.Found.the-variants.{At, Nothing}
+use Rattle.clauses.specs.Inner.Clauses.{Placed, keepsBy}
 
 -- the clause that begins at `from` and is number c, when it ends at e
 pub record Turn (es ls : List ℤ) (from c e : ℕ) : Type 0 where
@@ -49,21 +52,18 @@ module _ {A : Type 0} (f : ℕ → List (List ℤ) → A) (es ls : List ℤ) (wh
   pub walk-end : (from c : ℕ) → length es ≤ c → Walk from c → f c [] ≡ whole
   walk-end from c h w = rw (clauses-ended ls from es c h) at (w .same)
 
--- one clause more
-module _ {A : Type 0} (f : A → Bool) (c : ℕ) (x : A) (m : List A) where
-  pub lowest-hit : f x ≡ true → At c ≡ lowest f c (x ∷ m)
-  unfolding lowest
-  lowest-hit h = rw h
+-- every word of a part has a place
+pub placed-part : (ls : List ℤ) (k j : ℕ) → Placed ls → Placed (take k (drop j ls))
+placed-part ls k j p i = go (look (ltb i k))
+  where
+    go : (ltb i k ≡ true) ⊎ (ltb i k ≡ false) → natAbs (getD (take k (drop j ls)) i (pos 0)) ≤ limits .variables
+    go (inl h) = rw (getD-take k (drop j ls) i (pos 0) (ltb-true i k h), getD-drop j ls i (pos 0)) (p (j + i))
+    go (inr h) =
+        let l : k ≤ i = ltb-false i k h in
+        let m : length (take k (drop j ls)) ≤ i = simp length-take (omega arith) in
+        rw (List·getD-eq-default (take k (drop j ls)) (pos 0) m) zero-le
 
-  pub lowest-miss : f x ≡ false → lowest f (c + 1) m ≡ lowest f c (x ∷ m)
-  unfolding lowest
-  lowest-miss h = rw (add-one, h)
-
-pub lowest-none : {A : Type 0} (f : A → Bool) (c : ℕ) → Nothing ≡ lowest f c []
-unfolding lowest
-lowest-none f c = refl
-
--- and one literal more: true, unassigned existential, or neither
+-- one literal more: true, unassigned existential, or neither
 module _ (st : ℤ → ℕ) (x : ℤ) where
   pub keeps-true : st x ≡ 1 → keepsBy st x ≡ true
   unfolding keepsBy

@@ -12,13 +12,13 @@ use borrow.Author.Tests.{ne-eqb}
 use Rattle.words.specs.Lists.{any}
 use Rattle.record.specs.Found.{onFound, literal}
 use Rattle.choice.specs.First.{onPicked}
-use Rattle.rules.specs.Due.{lowest}
+use Rattle.clauses.specs.Lowest.{lowest}
 use Rattle.record.specs.Inner.Tables.{places}
-use Rattle.rules.specs.Inner.Clauses.{byStatus, keepsBy, conflictBy, Sight, conflict, unit, neither, unitLiteral, staysUnit, unitIf, sightFrom, lowestUnitBy, decidingBy, decidedBy}
-use Rattle.rules.specs.declared.found.Deciding.{Deciding}
-use Rattle.rules.specs.declared.found.Deciding.the-variants.{Conflict, Quiet}
+use Rattle.clauses.specs.Inner.Clauses.{byStatus, keepsBy, conflictBy, Sight, conflict, unit, neither, unitLiteral, staysUnit, unitIf, sightFrom, lowestUnitBy, decidingBy, decidedBy}
+use Rattle.clauses.specs.declared.found.Deciding.{Deciding}
+use Rattle.clauses.specs.declared.found.Deciding.the-variants.{Conflict, Quiet}
 use Rattle.record.specs.declared.found.Found.the-variants.{At}
-use Rattle.rules.specs.declared.found.UnitFound.the-variants.{On, NoUnit}
+use Rattle.clauses.specs.declared.found.UnitFound.the-variants.{On, NoUnit}
 
 module _ (st lev : ℤ → ℕ) where
   abbrev isConflict : Sight → Bool

@@ -11,15 +11,15 @@ use Rattle.formula.specs.Limits.{limits}
 use Rattle.formula.specs.Block.{badEnds}
 use Rattle.record.specs.Found.{onFound, literal}
 use Rattle.choice.specs.First.{onPicked}
-use Rattle.rules.specs.Due.{lowest}
+use Rattle.clauses.specs.Lowest.{lowest}
 use Rattle.record.specs.Inner.Tables.{places}
-use Rattle.rules.specs.declared.clauses.Look.{Look}
-use Rattle.rules.specs.declared.found.Deciding.{Deciding}
-use Rattle.rules.specs.declared.found.Deciding.the-variants.{Conflict, Quiet}
+use Rattle.clauses.specs.declared.clauses.Look.{Look}
+use Rattle.clauses.specs.declared.found.Deciding.{Deciding}
+use Rattle.clauses.specs.declared.found.Deciding.the-variants.{Conflict, Quiet}
 use Rattle.choice.specs.declared.found.Picked.{Picked}
 use Rattle.choice.specs.declared.found.Picked.the-variants.{Is, NoLiteral}
-use Rattle.rules.specs.declared.found.UnitFound.{UnitFound}
-use Rattle.rules.specs.declared.found.UnitFound.the-variants.{On, NoUnit}
+use Rattle.clauses.specs.declared.found.UnitFound.{UnitFound}
+use Rattle.clauses.specs.declared.found.UnitFound.the-variants.{On, NoUnit}
 
 -- every word's size is a place
 abbrev pub Placed : List ℤ → Type 0

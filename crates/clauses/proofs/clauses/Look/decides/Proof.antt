@@ -3,9 +3,9 @@ use native.Mathlib.Omega.{arith}
 use borrow.Author.Needs.{needs}
 use borrow.Author.Tests.{le-leb, lt-leb}
 use Rattle.formula.specs.Laws.Limits.{variables-are}
-use Rattle.rules.specs.Inner.Clauses.{decidesBy}
-use Rattle.rules.proofs.clauses.Look.decides.Statement.{statement}
-use Rattle.rules.proofs.clauses.Look.decides.Tie as tie
+use Rattle.clauses.specs.Inner.Clauses.{decidesBy}
+use Rattle.clauses.proofs.clauses.Look.decides.Statement.{statement}
+use Rattle.clauses.proofs.clauses.Look.decides.Tie as tie
 
 returns : tie.Need-returns
 unfolding decidesBy

@@ -5,13 +5,13 @@ use native.Mathlib.Omega.{arith}
 use lib.ListN.{length, drop}
 use borrow.Author.Needs.{needs}
 use Rattle.formula.specs.Formula.{clausesFrom}
-use Rattle.rules.specs.Due.{lowest}
+use Rattle.clauses.specs.Lowest.{lowest}
 use Rattle.tables.specs.Inner.ByLiteral.{statusIn}
-use Rattle.rules.specs.Inner.Clauses.{conflictBy}
-use Rattle.rules.specs.Laws.ClausesReady.{placed-part}
-use Rattle.rules.proofs.Walk.{Turn, turn, Walk, walk-on, walk-stop, walk-end, lowest-hit, lowest-miss, lowest-none}
-use Rattle.rules.proofs.clauses.lowest_conflict.Statement.{statement}
-use Rattle.rules.proofs.clauses.lowest_conflict.Tie as tie
+use Rattle.clauses.specs.Inner.Clauses.{conflictBy}
+use Rattle.clauses.specs.Laws.Lowest.{lowest-hit, lowest-miss, lowest-end}
+use Rattle.clauses.specs.Laws.Walk.{placed-part, Turn, turn, Walk, walk-on, walk-stop, walk-end}
+use Rattle.clauses.proofs.clauses.lowest_conflict.Statement.{statement}
+use Rattle.clauses.proofs.clauses.lowest_conflict.Tie as tie
 
 abbrev Inv-loop : tie.InvT-loop
 Inv-loop ends literals first start statuses from₀ c₀ from c =
@@ -44,7 +44,7 @@ loop-again c =
     walk-on _ _ _ _ _ _ _ (l .inv) t (lowest-miss _ _ _ _ (sym (c .before .in-conflict .ensures) ∙ c .if1 .left))
 
 returns-2 : tie.Need-returns-2 Inv-loop μ-loop
-returns-2 c = lowest-none _ _ ∙ walk-end _ _ _ _ _ _ (c .loop-test .left) (c .before .loop .inv)
+returns-2 c = lowest-end _ _ ∙ walk-end _ _ _ _ _ _ (c .loop-test .left) (c .before .loop .inv)
 
 pub lowest-conflict-spec : {M : Type 1} → statement M
 lowest-conflict-spec =

@@ -7,10 +7,10 @@ use lib.ListN.{getD}
 use borrow.Author.Needs.{needs}
 use Rattle.formula.specs.Laws.Limits.{variables-are}
 use Rattle.tables.specs.Inner.ByLiteral.{statusIn}
-use Rattle.rules.specs.Inner.Clauses.{levelBy, Shown}
-use Rattle.rules.proofs.Looks.{with-false, with-true, with-first, with-second, with-universal}
-use Rattle.rules.proofs.clauses.Look.with.Statement.{statement}
-use Rattle.rules.proofs.clauses.Look.with.Tie as tie
+use Rattle.clauses.specs.Inner.Clauses.{levelBy, Shown}
+use Rattle.clauses.proofs.Looks.{with-false, with-true, with-first, with-second, with-universal}
+use Rattle.clauses.proofs.clauses.Look.with.Statement.{statement}
+use Rattle.clauses.proofs.clauses.Look.with.Tie as tie
 
 returns : tie.Need-returns
 returns c =

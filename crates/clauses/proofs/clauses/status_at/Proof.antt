@@ -6,8 +6,8 @@ use lib.ListN.{getD}
 use Rattle.formula.specs.Laws.Limits.{variables-are}
 use Rattle.formula.specs.Laws.Places.{place-within}
 use borrow.Author.Needs.{needs}
-use Rattle.rules.proofs.clauses.status_at.Statement.{statement}
-use Rattle.rules.proofs.clauses.status_at.Tie as tie
+use Rattle.clauses.proofs.clauses.status_at.Statement.{statement}
+use Rattle.clauses.proofs.clauses.status_at.Tie as tie
 
 element-copy-out-result : tie.Need-element-copy-out-result
 element-copy-out-result c = omega (arith, variables-are, c .place-at .ensures, place-within (getD (c .before .args .ws .now) (c .before .args .i) (pos 0)) (c .before .pre))

@@ -8,16 +8,15 @@ use lib.ListN.{length, take, drop}
 use borrow.Author.Needs.{needs}
 use Rattle.formula.specs.Formula.{clausesFrom}
 use Rattle.tables.specs.Inner.ByLiteral.{statusIn}
-use Rattle.rules.specs.Inner.Clauses.{Placed, levelBy, sightFrom, sightWith, decidingBy}
-use Rattle.rules.specs.declared.found.Deciding.the-variants.{Quiet}
-use Rattle.rules.specs.declared.found.UnitFound.the-variants.{NoUnit}
-use Rattle.rules.specs.Laws.ClausesReady.{placed-part}
-use Rattle.rules.proofs.Walk.{Turn, turn, Walk, walk-on, walk-stop, walk-end}
-use Rattle.rules.proofs.Looks.{look-start, clause-decides, clause-neither, clause-next, clause-over}
-use Rattle.rules.proofs.Deciding.{deciding-next, deciding-past, deciding-none}
-use Rattle.rules.proofs.clauses.deciding.Statement.{statement}
+use Rattle.clauses.specs.Inner.Clauses.{Placed, levelBy, sightFrom, sightWith, decidingBy}
+use Rattle.clauses.specs.declared.found.Deciding.the-variants.{Quiet}
+use Rattle.clauses.specs.declared.found.UnitFound.the-variants.{NoUnit}
+use Rattle.clauses.specs.Laws.Walk.{placed-part, Turn, turn, Walk, walk-on, walk-stop, walk-end}
+use Rattle.clauses.proofs.Looks.{look-start, clause-decides, clause-neither, clause-next, clause-over}
+use Rattle.clauses.proofs.Decision.{deciding-next, deciding-past, deciding-none}
+use Rattle.clauses.proofs.clauses.deciding.Statement.{statement}
 use Rattle.record.specs.Inner.Tables.{places}
-use Rattle.rules.proofs.clauses.deciding.Tie as tie
+use Rattle.clauses.proofs.clauses.deciding.Tie as tie
 
 abbrev Inv-loop : tie.InvT-loop
 Inv-loop ends literals statuses levels found₀ from c end clause look₀ j₀ found look j =

@@ -13,14 +13,15 @@ ghost use lib.IntN.{pos, natAbs};
 ghost use lib.ListN.{length, getD, drop};
 ghost use Rattle.formula.specs.Limits.{limits};
 ghost use Rattle.formula.specs.Formula.{clausesFrom};
-ghost use Rattle.rules.specs.Due.{lowest};
+ghost use Rattle.clauses.specs.Lowest.{lowest};
 ghost use Rattle.tables.specs.Inner.ByLiteral.{statusIn};
-ghost use Rattle.rules.specs.Inner.Clauses.{Placed, Clauses, levelBy, conflictBy, Shown, decidesBy, sightOf, decidedBy, decidingBy};
+ghost use Rattle.clauses.specs.Inner.Clauses.{Placed, Clauses, levelBy, conflictBy, Shown, decidesBy, sightOf, decidedBy};
+ghost use Rattle.clauses.specs.Promises.{StatusAtPromise, DecidingPromise};
 
 // What the literal at an index is to its clause: 0 false, 1 true, 2 unassigned existential, 3 unassigned universal.
-pub(crate) fn status_at(ws: &[i32], i: usize, statuses: &[u8; LITERAL_PLACES]) -> u8
+pub fn status_at(ws: &[i32], i: usize, statuses: &[u8; LITERAL_PLACES]) -> u8
     requires { ⌜ natAbs (getD (now ws) i (pos 0)) ≤ limits .variables ⌝ }
-    ensures { λ r. ⌜ r ≡ statusIn (now (statuses .entry)) (getD (now (ws .entry)) i (pos 0)) ⌝ }
+    ensures { λ r. ⌜ StatusAtPromise (now (ws .entry)) i (now (statuses .entry)) r ⌝ }
 {
     let at = place_at(ws, i);
     statuses[at]
@@ -155,14 +156,14 @@ impl Look {
 }
 
 // The lowest clause in conflict, or with none the lowest unit clause and its literal. Each clause's literals are read once.
-pub(crate) fn deciding(
+pub fn deciding(
     ends: &[i32],
     literals: &[i32],
     statuses: &[u8; LITERAL_PLACES],
     levels: &[u16; PLACES],
 ) -> Deciding
     requires { ⌜ Clauses (now ends) (now literals) 0 ⌝ }
-    ensures { λ r. ⌜ r ≡ decidingBy (statusIn (now (statuses .entry))) (levelBy (now (levels .entry))) 0 (clausesFrom (now (literals .entry)) 0 (now (ends .entry))) ⌝ }
+    ensures { λ r. ⌜ DecidingPromise (now (ends .entry)) (now (literals .entry)) (now (statuses .entry)) (now (levels .entry)) r ⌝ }
 {
     let mut found = Deciding::Quiet(UnitFound::NoUnit);
     let mut from = 0;
