@@ -49,8 +49,7 @@ fn of_lengths(formula: &Formula, desk: &Desk, is_counted: bool) -> Option<usize>
 /// The record with every reason 0, if that makes it an accepted one.
 fn record_without_reasons(desk: &Desk, formula: &Formula) -> Option<Vec<Entry>> {
     let (literals, kinds, length) = (&desk.literals, &desk.kinds, desk.session.length);
-    let zeros = vec![0; formula.variables()];
-    record::read(formula, literals, kinds, &zeros, length).ok()
+    record::read_bare(formula, literals, kinds, length).ok()
 }
 
 fn of_entries(formula: &Formula, record: &[Entry], desk: &Desk) -> Option<usize> {

@@ -288,6 +288,8 @@ pub fn talks() -> Vec<Talk> {
         repeated_on_short_buffers(),
         small_second_opinions(),
         large_second_opinions(),
+        shown_at_ends(),
+        shown_of_any_record(),
     ]
 }
 
@@ -647,6 +649,72 @@ fn small_second_opinions() -> Talk {
     talk.say(&line("block", &n()), "block 23");
     talk.say("plain", "plain 23");
     talk.say("show", desk);
+    talk
+}
+
+/// J's counter-example, an opening that wins, and ends that show none: A's, and a Valid
+/// one behind a universal group. The desk is as it was, its output too.
+fn shown_at_ends() -> Talk {
+    let mut talk = Talk::at("J: its counter-example, and other ends", &j(), 1);
+    talk.say("open 0", "open 0 0 0 0");
+    talk.say("shown", "shown 32");
+    talk.say("run 0 9", "run 0 0 1 2 1 1");
+    talk.say("shown", "shown 0 -1");
+    talk.say("shown 1", "?");
+    talk.say("show", "show 0 1 2 lits 0 0 kinds 0 0 reasons 0 0 out 7");
+    let opening = lay_out(&[2, 1, -3, 4], &[vec![-2, 3], vec![-3, 4]]);
+    talk.say(&line("block", &opening), "block 0");
+    talk.say("shown", "shown 11");
+    talk.say("lits 9 9 9 9", "lits 4");
+    talk.say("kinds 9 9 9 9 9", "kinds 5");
+    // Row 11 doesn't ask for reasons here; an opening does.
+    talk.say("session 0 0 1", "session");
+    talk.say("shown", "shown 0 2 1");
+    talk.say("reasons 9 9 9 9", "reasons 4");
+    talk.say("open 0", "open 0 0 0 0");
+    talk.say("run 0 9 -1", "run 0 4 5 1 5 0");
+    talk.say("shown", "shown 0 -2 -1");
+    talk.say(&line("block", &A), "block 0");
+    talk.say("open 0", "open 0 0 0 0");
+    talk.say("run 0 99", "run 0 4 8 2 8 4");
+    talk.say("shown", "shown 32");
+    talk.say(&line("block", &lay_out(&[-1, 2], &[vec![2]])), "block 0");
+    talk.say("session 0 0 1", "session");
+    talk.say("shown", "shown 32");
+    talk.say(&line("block", &lay_out(&[], &[])), "block 0");
+    talk.say("shown", "shown 0");
+    talk.say("session 0 0 2", "session");
+    talk.say("shown", "shown 32");
+    talk
+}
+
+/// Records that no call has led to: an entry counts, a variable without one is held
+/// against the lowest clause in conflict, and is true with none. Row 12 comes before
+/// row 32, and looks at no reason.
+fn shown_of_any_record() -> Talk {
+    let prefix = [-2, -1, -4, 3];
+    let two = [vec![1, -2], vec![4, 2]];
+    let mut talk = Talk::at("what any record shows", &lay_out(&prefix, &two), 0);
+    talk.say("session 0 0 2", "session");
+    talk.say("shown", "shown 0 2 -1 4");
+    let turned = [vec![4, 2], vec![1, -2]];
+    talk.say(&line("block", &lay_out(&prefix, &turned)), "block 0");
+    talk.say("shown", "shown 0 -2 1 -4");
+    // The first clause has a true literal now, so the second is the lowest.
+    talk.say("lits 4 0 0 0", "lits 4");
+    talk.say("kinds 2 9 9 9", "kinds 4");
+    talk.say("session 1 0 2", "session");
+    talk.say("shown", "shown 0 2 -1 4");
+    talk.say("lits 4 -2 0 0", "lits 4");
+    talk.say("kinds 2 0 9 9", "kinds 4");
+    talk.say("session 2 0 2", "session");
+    talk.say("shown", "shown 0 -2 1 4");
+    talk.say("session 3 0 2", "session");
+    talk.say("shown", "shown 12");
+    talk.say("session 3 0 0", "session");
+    talk.say("shown", "shown 12");
+    talk.say("session 5 0 2", "session");
+    talk.say("shown", "shown 12");
     talk
 }
 

@@ -34,6 +34,8 @@
 //! - `page` neither looks at the reasons buffer nor writes to it.
 //! - `show` shows neither the numbers by clause nor the index; `numbers` shows all
 //!   places of the numbers, and nothing shows the index.
+//! - `shown` is lent an output of its own, as long as the room for the record, so
+//!   row 30 never answers it.
 
 use std::fmt::Display;
 
@@ -44,6 +46,7 @@ use crate::page::{self, Ask, Work};
 use crate::plain;
 use crate::reading::TEXT_ROOM;
 use crate::session::{self, Lent, Session, State};
+use crate::shown;
 
 pub const BLOCK_ROOM: usize = 16_384;
 pub const RECORD_ROOM: usize = 2_048;
@@ -122,6 +125,7 @@ impl Desk {
             b"run" => self.run(words),
             b"page" => self.page(words),
             b"plain" => self.plain(words),
+            b"shown" => self.shown(words),
             b"show" => self.show(words),
             b"text" => set(&mut self.text, "text", words, TEXT_ROOM),
             b"read" => self.read(words),
@@ -262,6 +266,20 @@ impl Desk {
             Ok(false) => "plain 0 2".to_string(),
             Err(number) => format!("plain {number}"),
         })
+    }
+
+    fn shown(&self, words: &[&[u8]]) -> Option<String> {
+        if !words.is_empty() {
+            return None;
+        }
+        let mut output = [0; RECORD_ROOM];
+        let (literals, kinds) = (&self.literals, &self.kinds);
+        Some(
+            match shown::shown(self.session, &self.block, literals, kinds, &mut output) {
+                Ok(count) => joined("shown 0".to_string(), &output[..count]),
+                Err(number) => format!("shown {number}"),
+            },
+        )
     }
 
     fn show(&self, words: &[&[u8]]) -> Option<String> {

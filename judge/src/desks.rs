@@ -16,6 +16,7 @@ use crate::session::State;
 use crate::shapes;
 
 mod counts;
+mod shows;
 mod texts;
 mod writes;
 
@@ -202,10 +203,9 @@ impl Play {
         if self.stuck() && self.dice.chance(1, 2) {
             self.say_open();
         }
-        match self
-            .dice
-            .weighted(&[20, 14, 12, 6, 12, 2, 14, 6, 4, 6, 5, 3, 3, 1, 3, 6, 12, 2])
-        {
+        match self.dice.weighted(&[
+            20, 14, 12, 6, 12, 2, 14, 6, 4, 6, 5, 3, 3, 1, 3, 6, 12, 2, 3, 3,
+        ]) {
             0 => self.step_with(0),
             1 => self.step_open(),
             2 => self.step_any(),
@@ -223,8 +223,11 @@ impl Play {
             14 => self.say_output(),
             15 => self.walk(),
             16 => self.counted(),
-            _ => self.counted_stale(),
+            17 => self.counted_stale(),
+            18 => self.shown(),
+            _ => self.shown_of_record(),
         }
+        self.shown_if_ended();
         if self.dice.chance(1, 5) {
             self.show();
         }
@@ -449,6 +452,9 @@ impl Play {
             let state = self.dice.pick(&[0, 0, 0, 1]);
             self.step_at(record.len(), state);
             self.run();
+            if self.dice.chance(1, 2) {
+                self.shown();
+            }
         }
         if self.dice.chance(1, 4) {
             self.show();
@@ -489,6 +495,9 @@ impl Play {
         }
         if self.dice.chance(1, 2) {
             self.plain();
+        }
+        if self.dice.chance(1, 2) {
+            self.shown();
         }
     }
 

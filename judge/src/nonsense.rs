@@ -11,7 +11,7 @@ pub fn line(dice: &mut Dice, revision: u64) -> String {
         return more_than_the_room(dice);
     }
     let bad = dice.pick(&BAD_NUMBERS);
-    match dice.below(18) {
+    match dice.below(19) {
         0 => format!("open {bad}"),
         1 => format!("step {revision} {bad}"),
         2 => format!("step {bad} 0"),
@@ -29,6 +29,7 @@ pub fn line(dice: &mut Dice, revision: u64) -> String {
         14 => format!("{} 0 {bad}", dice.pick(&["trues", "opens", "index"])),
         15 => format!("numbers {bad}"),
         16 => format!("plain {bad}"),
+        17 => format!("shown {bad}"),
         _ => dice.pick(&BAD_LINES).to_string(),
     }
 }

@@ -51,6 +51,17 @@ pub fn read(
     Ok(record)
 }
 
+/// The same where no reasons are lent: each is as if it were 0.
+pub fn read_bare(
+    formula: &Formula,
+    literals: &[i32],
+    kinds: &[u8],
+    length: u64,
+) -> Result<Vec<Entry>, u8> {
+    let zeros = vec![0; formula.variables()];
+    read(formula, literals, kinds, &zeros, length)
+}
+
 /// Row 12, of one entry's reason: [row.12.reason].
 fn reason_wrong(formula: &Formula, entry: &Entry) -> bool {
     reason_over(formula, entry) || reason_beside(entry)

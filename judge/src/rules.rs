@@ -66,6 +66,11 @@ pub fn due(formula: &Formula, record: &[Entry]) -> Rule {
     }
 }
 
+/// [conflict]: the lowest clause that is in conflict, if one is.
+pub fn lowest_conflict(formula: &Formula, record: &[Entry]) -> Option<Clause> {
+    Values::of(formula, record).conflict()
+}
+
 /// The record after the rule. "Fail and Succeed leave the record." The
 /// proposal matters at Decide only: 0, or an open literal. [reasons.unit]: an
 /// entry that Unit made has its reason, every other one 0.

@@ -7,16 +7,17 @@ use std::fmt;
 use crate::blame;
 use crate::console::Desk;
 use crate::hits::NAMES;
+use crate::witness::Witnesses;
 
 /// The commands whose answer begins with a number of the table.
-const CALLS: [&str; 10] = [
-    "block", "open", "step", "run", "page", "read", "pieces", "write", "counted", "plain",
+const CALLS: [&str; 11] = [
+    "block", "open", "step", "run", "page", "read", "pieces", "write", "counted", "plain", "shown",
 ];
 
-const COMMANDS: [&str; 23] = [
+const COMMANDS: [&str; 24] = [
     "block", "lits", "kinds", "reasons", "out", "session", "open", "step", "run", "page", "show",
     "text", "read", "pieces", "words", "write", "bytes", "trues", "opens", "index", "counted",
-    "numbers", "plain",
+    "numbers", "plain", "shown",
 ];
 
 /// The refusals of a reading, 31 with its rows.
@@ -34,15 +35,18 @@ pub struct Tally {
     numbers: BTreeMap<(String, String), u64>,
     /// Refusals that one buffer alone is to blame for, by what it was.
     blames: [u64; 6],
+    witnesses: Witnesses,
 }
 
 impl Tally {
     /// Counts a line, given without its line feed.
     pub fn note(&mut self, line: &[u8]) {
         self.lines += 1;
+        let undisturbed = self.witnesses.undisturbed(&self.desk);
         if let Some(answer) = self.desk.answer(line) {
             self.note_answer(&answer);
             self.note_blame(&answer);
+            self.witnesses.note(&answer, undisturbed, &self.desk);
         }
     }
 
@@ -112,8 +116,9 @@ fn row(f: &mut fmt::Formatter, name: &str, parts: &[(&str, u64)]) -> fmt::Result
 }
 
 /// One count to a line: `lines N`, `answers N`, `no-command N` (the answer `?`),
-/// `command NAME N`, `blame NAME N`, `accepted N`, `refusal NUMBER N` and `rule NAME N`,
-/// the last three with the share of each command behind.
+/// `command NAME N`, `blame NAME N`, `witnesses checked N`, `witnesses wrong N`,
+/// `accepted N`, `refusal NUMBER N` and `rule NAME N`, the last three with the share of
+/// each command behind.
 impl fmt::Display for Tally {
     fn fmt(&self, f: &mut fmt::Formatter) -> fmt::Result {
         writeln!(f, "lines {}", self.lines)?;
@@ -125,8 +130,10 @@ impl fmt::Display for Tally {
         for (name, count) in blame::NAMES.iter().zip(self.blames) {
             writeln!(f, "blame {name} {count}")?;
         }
+        writeln!(f, "witnesses checked {}", self.witnesses.checked)?;
+        writeln!(f, "witnesses wrong {}", self.witnesses.wrong)?;
         self.number_row(f, "accepted", "0")?;
-        let table = (1..=23).map(|number| number.to_string());
+        let table = (1..=23).chain([32]).map(|number| number.to_string());
         for number in table.chain(READINGS.map(String::from)) {
             self.number_row(f, &format!("refusal {number}"), &number)?;
         }

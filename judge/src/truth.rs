@@ -8,6 +8,12 @@ pub fn truth(formula: &Formula) -> bool {
     true_from(formula, &mut Vec::new())
 }
 
+/// The truth of the rest, when the outermost variables have these values, in prefix
+/// order.
+pub fn true_under(formula: &Formula, values: &[bool]) -> bool {
+    true_from(formula, &mut values.to_vec())
+}
+
 /// "An opening is a number from 0 to 2^k - 1"; it wins if the rest of the
 /// formula is true under its values. The winners, ascending.
 pub fn winners(formula: &Formula) -> Vec<u32> {

@@ -67,7 +67,7 @@ fn every_buffer_is_to_blame() {
     assert!(counts.iter().all(|&count| count >= 30), "{told}");
 }
 
-/// Every refusal number, 1 to 23 and 27 to 31 with its six rows, and every
+/// Every refusal number, 1 to 23, 32, and 27 to 31 with its six rows, and every
 /// rule is hit often.
 #[test]
 fn every_number_and_rule_is_hit() {
@@ -83,7 +83,7 @@ fn every_number_and_rule_is_hit() {
         let counts: Vec<u64> = counted
             .map(|line| line.split(' ').nth(2).unwrap().parse().unwrap())
             .collect();
-        assert_eq!(counts.len(), 42);
+        assert_eq!(counts.len(), 43);
         assert!(counts.iter().all(|&count| count >= 30), "{told}");
     }
 }
@@ -124,4 +124,26 @@ fn every_answer_of_a_counted_run_is_hit() {
         let counts = told.lines().find(|line| line.starts_with(&name)).unwrap();
         assert!(share(counts, "counted") >= 10, "{counts}");
     }
+}
+
+/// What is shown is refused with every number that the console can give, and often not
+/// refused, also after calls alone, where it is checked.
+#[test]
+fn every_answer_of_what_is_shown_is_hit() {
+    let mut tally = Tally::default();
+    for line in lines(5, 40_000).split(|&byte| byte == b'\n') {
+        tally.note(line);
+    }
+    let told = tally.to_string();
+    let rows = ROWS.into_iter().chain([11, 12, 32]);
+    let names = rows.map(|row| format!("refusal {row} "));
+    for name in names.chain(["accepted ".to_string()]) {
+        let counts = told.lines().find(|line| line.starts_with(&name)).unwrap();
+        assert!(share(counts, "shown") >= 10, "{counts}");
+    }
+    let checked = told
+        .lines()
+        .find_map(|line| line.strip_prefix("witnesses checked "));
+    assert!(checked.unwrap().parse::<u64>().unwrap() >= 150, "{told}");
+    assert!(told.contains("witnesses wrong 0\n"), "{told}");
 }
