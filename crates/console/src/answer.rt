@@ -2,10 +2,11 @@
 ghost use mathlib.Core.Path.{_≡_};
 ghost use Prim.Native.Nat.{_+_, _*_, _≤_, _<_};
 ghost use lib.ListN.{length};
-ghost use Rattle.console.specs.Room.{answerBytes, outputWords, answerNumbers, numberBytes, namesBytes};
+ghost use Rattle.console.specs.Room.{answerBytes, outputWords, answerNumbers, numberBytes, namesBytes, recordPlaces};
 use crate::desk::Counts;
 use crate::names::NOTHING;
 use crate::names::Name;
+use crate::names::SHOWN;
 use crate::names::list;
 use crate::names::name_at;
 use crate::reply::After;
@@ -210,6 +211,22 @@ fn sent(text: &[u8], size: usize) -> bool
     requires { ⌜ size ≤ length (now text) ⌝ }
 {
     io::write_all(STDOUT_FILENO, &text[0..size])
+}
+
+// Puts `shown N L..` with its line feed, and writes it.
+pub(crate) fn write_shown(
+    text: &mut [u8; ANSWER_BYTES],
+    n: u32,
+    values: &[i32],
+    count: usize,
+) -> bool
+    requires { ⌜ length (now values) ≤ recordPlaces ⌝ }
+{
+    let named = name(text, 0, SHOWN);
+    let from = number(text, named, false, n as u64);
+    let end = words(text, from, values, count);
+    let size = put(text, end, b"\n");
+    sent(text, size)
 }
 
 // Puts an answer with its line feed, and writes it.

@@ -70,6 +70,7 @@ pub(crate) enum Command {
     },
     Numbers,
     Plain,
+    Shown,
 }
 
 // A command, if its words fit.
@@ -201,6 +202,7 @@ fn behind(name: Name, line: &[u8], from: usize) -> Command {
         names::COUNTED => run(name, line, from),
         names::NUMBERS => only(ends(line, from), Command::Numbers),
         names::PLAIN => only(ends(line, from), Command::Plain),
+        names::SHOWN => only(ends(line, from), Command::Shown),
         _ => Command::Unknown,
     }
 }

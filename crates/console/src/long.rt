@@ -9,7 +9,7 @@ use session::Revision;
 use session::Session;
 
 // As many words as are in use. They are never more than there are; this function is not told so, and asks.
-fn most(count: usize, room: usize) -> usize
+pub(crate) fn most(count: usize, room: usize) -> usize
     ensures { λ r. ⌜ r ≤ room ⌝ }
 {
     if count < room { count } else { room }

@@ -17,6 +17,7 @@ mod pieces; // a text that is read in pieces
 mod reply; // what a line is answered
 mod room; // how large all that is
 mod set; // the words of a line, put into a buffer
+mod witness; // what an ended session shows
 
 use act::act;
 use command::asked;
@@ -77,6 +78,16 @@ fn serve_line(
         opens,
         index,
     );
+    let shown = witness::act(
+        asks,
+        before,
+        counts,
+        block,
+        literals,
+        kinds,
+        preferred,
+        answer,
+    );
     let first = act(
         asks,
         before,
@@ -120,7 +131,7 @@ fn serve_line(
     Desk {
         counts,
         session,
-        on: written & taken.ended,
+        on: shown & written & taken.ended,
     }
 }
 

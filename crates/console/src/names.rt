@@ -55,14 +55,16 @@ pub(crate) const NUMBERS: Name = 21;
 
 pub(crate) const PLAIN: Name = 22;
 
-pub(crate) const UNKNOWN: Name = 23;
+pub(crate) const SHOWN: Name = 23;
+
+pub(crate) const UNKNOWN: Name = 24;
 
 // Behind the list: a line that gets no answer has none.
-pub(crate) const NOTHING: Name = 24;
+pub(crate) const NOTHING: Name = 25;
 
 // The names in one line, each at its place.
 pub(crate) fn list() -> [u8; NAMES_BYTES] {
-    *b"block lits kinds reasons out session open step run page show text read pieces words write bytes trues opens index counted numbers plain ?"
+    *b"block lits kinds reasons out session open step run page show text read pieces words write bytes trues opens index counted numbers plain shown ?"
 }
 
 // Where a name stands in the list.

@@ -212,6 +212,8 @@ pub(crate) fn told(command: Command, session: Session, counts: Counts) -> Reply 
         Command::Index(_) => short(session, names::INDEX, 1, counts.index as u64),
         Command::Numbers => listed(session, names::NUMBERS, After::Numbers),
         Command::Nothing => short(session, names::NOTHING, 0, 0),
+        // It has been answered.
+        Command::Shown => short(session, names::NOTHING, 0, 0),
         _ => short(session, names::UNKNOWN, 0, 0),
     }
 }

@@ -6,7 +6,8 @@ use Rattle.console.proofs.serve_line.Tie as tie
 returns : tie.Need-returns
 returns c =
     let acted = c .before .before .before .before .before .before .before .before .before .before .before .before .before .before .before .before .before .before .before .before .before .before .before in
-    let set = acted .before .before .before .before .before .before .before .before .before in
+    let shown = acted .before .before .before .before .before .before .before .before .before in
+    let set = shown .before .before .before .before .before .before .before .before .before in
     set .buffers .ensures
 
 pub serve-line-spec : {M : Type 1} → statement M
@@ -14,4 +15,4 @@ serve-line-spec =
     tie.close
     (tie.spec
     (λ c. search needs) (λ c. search needs) (λ c. search needs) (λ c κs. search needs) (λ c κs. search needs)
-    (λ c κs. search needs) (λ c κs. search needs) (λ c κs. search needs) returns)
+    (λ c κs. search needs) (λ c κs. search needs) (λ c κs. search needs) (λ c κs. search needs) returns)
