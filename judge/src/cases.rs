@@ -290,6 +290,7 @@ pub fn talks() -> Vec<Talk> {
         large_second_opinions(),
         shown_at_ends(),
         shown_of_any_record(),
+        names_of_all_lines(),
     ]
 }
 
@@ -621,6 +622,17 @@ fn repeated_on_short_buffers() -> Talk {
     talk.say("page 0 1", "page 23");
     talk.say(&line("block", &b()), "block 0");
     talk.say("open 0", "open 11");
+    talk
+}
+
+/// What `help` lists, and that the desk is as it was.
+fn names_of_all_lines() -> Talk {
+    let mut talk = Talk::at("the names of all lines", &A, 1);
+    let names = "help block lits kinds reasons out session open step run page show text read pieces words write bytes trues opens index counted numbers plain shown help";
+    talk.say("help", names);
+    talk.say("help 1", "?");
+    let desk = "show 0 0 0 lits 9 9 9 9 kinds 9 9 9 9 reasons 9 9 9 9 out 7";
+    talk.say("show", desk);
     talk
 }
 

@@ -138,6 +138,7 @@ impl Desk {
             b"index" => set(&mut self.index, "index", words, INDEX_ROOM),
             b"counted" => self.counted(words),
             b"numbers" => self.numbers(words),
+            b"help" => help(words),
             _ => None,
         }
     }
@@ -346,6 +347,17 @@ fn set<T: TryFrom<i128>>(
 
 pub(crate) fn numbers<T: TryFrom<i128>>(words: &[&[u8]]) -> Option<Vec<T>> {
     words.iter().map(|word| number(word)).collect()
+}
+
+/// The names of all lines, as docs/console.md has them.
+fn help(words: &[&[u8]]) -> Option<String> {
+    if !words.is_empty() {
+        return None;
+    }
+    let desk = "block lits kinds reasons out session open step run page show";
+    let texts = "text read pieces words write bytes";
+    let others = "trues opens index counted numbers plain shown help";
+    Some(format!("help {desk} {texts} {others}"))
 }
 
 /// "numbers are decimal with an optional `-`"; `None` if the word is no number

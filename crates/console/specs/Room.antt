@@ -31,7 +31,7 @@ answerBytes = 1572864
 
 -- the list of names; a number in an answer, with its sign and the space before it; as many as an answer has before a buffer's words
 abbrev pub namesBytes : ℕ
-namesBytes = 143
+namesBytes = 148
 
 abbrev pub numberBytes : ℕ
 numberBytes = 22

@@ -15,6 +15,7 @@ use crate::room::ANSWER_BYTES;
 use crate::room::ANSWER_NUMBERS;
 use crate::room::BLOCK_WORDS;
 use crate::room::DIGITS;
+use crate::room::NAMES_BYTES;
 use crate::room::NUMBER_WORDS;
 use crate::room::OUTPUT_WORDS;
 use crate::room::REASON_WORDS;
@@ -178,6 +179,16 @@ fn both_numbers(
     counts(text, last, opens, used.opens)
 }
 
+// Puts the names of all lines. Behind the last one the list has the `?` of a line that is none.
+fn all_names(text: &mut [u8; ANSWER_BYTES], from: usize) -> usize
+    requires { ⌜ from ≤ namesBytes + numberBytes * answerNumbers ⌝ }
+    ensures { λ r. ⌜ r < answerBytes ⌝ }
+{
+    let names = list();
+    let first = put(text, from, b" ");
+    put(text, first, &names[0..NAMES_BYTES - 2])
+}
+
 // Puts the words that follow an answer's numbers.
 fn words_after(
     text: &mut [u8; ANSWER_BYTES],
@@ -203,6 +214,7 @@ fn words_after(
         After::Block => words(text, from, block, used.block),
         After::Text => bytes(text, from, written, used.text),
         After::Numbers => both_numbers(text, from, used, trues, opens),
+        After::Names => all_names(text, from),
     }
 }
 

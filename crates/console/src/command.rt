@@ -71,6 +71,7 @@ pub(crate) enum Command {
     Numbers,
     Plain,
     Shown,
+    Help,
 }
 
 // A command, if its words fit.
@@ -203,6 +204,7 @@ fn behind(name: Name, line: &[u8], from: usize) -> Command {
         names::NUMBERS => only(ends(line, from), Command::Numbers),
         names::PLAIN => only(ends(line, from), Command::Plain),
         names::SHOWN => only(ends(line, from), Command::Shown),
+        names::HELP => only(ends(line, from), Command::Help),
         _ => Command::Unknown,
     }
 }

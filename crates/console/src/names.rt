@@ -57,14 +57,16 @@ pub(crate) const PLAIN: Name = 22;
 
 pub(crate) const SHOWN: Name = 23;
 
-pub(crate) const UNKNOWN: Name = 24;
+pub(crate) const HELP: Name = 24;
+
+pub(crate) const UNKNOWN: Name = 25;
 
 // Behind the list: a line that gets no answer has none.
-pub(crate) const NOTHING: Name = 25;
+pub(crate) const NOTHING: Name = 26;
 
 // The names in one line, each at its place.
 pub(crate) fn list() -> [u8; NAMES_BYTES] {
-    *b"block lits kinds reasons out session open step run page show text read pieces words write bytes trues opens index counted numbers plain shown ?"
+    *b"block lits kinds reasons out session open step run page show text read pieces words write bytes trues opens index counted numbers plain shown help ?"
 }
 
 // Where a name stands in the list.

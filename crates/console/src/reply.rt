@@ -29,6 +29,8 @@ pub(crate) enum After {
     Text,
     // All of a counted run's numbers.
     Numbers,
+    // The names of all lines.
+    Names,
 }
 
 // The session; a name, the first few of six numbers, and the words that follow.
@@ -211,6 +213,7 @@ pub(crate) fn told(command: Command, session: Session, counts: Counts) -> Reply 
         Command::Opens(_) => short(session, names::OPENS, 1, counts.opens as u64),
         Command::Index(_) => short(session, names::INDEX, 1, counts.index as u64),
         Command::Numbers => listed(session, names::NUMBERS, After::Numbers),
+        Command::Help => listed(session, names::HELP, After::Names),
         Command::Nothing => short(session, names::NOTHING, 0, 0),
         // It has been answered.
         Command::Shown => short(session, names::NOTHING, 0, 0),

@@ -40,7 +40,7 @@ pub(crate) const DIGITS: usize = 20;
 pub(crate) const ANSWER_NUMBERS: usize = 6;
 
 // The bytes of the list of names.
-pub(crate) const NAMES_BYTES: usize = 143;
+pub(crate) const NAMES_BYTES: usize = 148;
 
 // The largest number of each place: "i32 words, u8 kinds, u64 revisions and lengths, u32 budgets, starts and outputs", a text's bytes, and
 // a session's state.
