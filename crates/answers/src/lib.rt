@@ -1,4 +1,6 @@
 // What the calls answer, for programs in other languages: a status, and numbers in the first places of a lent array.
+#![tactic(auto)]
+
 mod sessions; // sessions, and what is answered with one
 mod pages; // pages of a listing
 mod witnesses; // what ended sessions show

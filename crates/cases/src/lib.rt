@@ -1,1 +1,3 @@
 // The worked cases, as definitions and one claim: see specs/.
+#![tactic(auto)]
+

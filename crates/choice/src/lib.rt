@@ -1,4 +1,6 @@
 // What Decide may take: the first unassigned variable, and the open literals.
+#![tactic(auto)]
+
 mod found; // what a search finds
 mod variables; // the first unassigned variable
 mod open; // the open literals

@@ -1,4 +1,6 @@
 // The clauses by the tables: which is in conflict, and which is a unit clause.
+#![tactic(auto)]
+
 mod found; // what a search finds
 mod clauses; // the search
 

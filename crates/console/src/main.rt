@@ -1,4 +1,6 @@
 // The console: one desk, served line by line on standard input until that ends.
+#![tactic(auto)]
+
 ghost use Rattle.std.specs.Prelude.{◌≤◌, length};
 ghost use Rattle.console.specs.Desk.{InRoom};
 

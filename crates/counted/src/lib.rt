@@ -1,4 +1,6 @@
 // The counted run: numbers of each clause, kept from step to step, and an index of the clauses by literal.
+#![tactic(auto)]
+
 ghost use Rattle.memory.specs.Memory.{memory};
 ghost use Rattle.counted.specs.Lent.{lent};
 ghost use Rattle.counted.specs.Promises.{CountedPromise};

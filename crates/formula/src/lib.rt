@@ -1,4 +1,6 @@
 // The formula block: a checker with refusals 1 to 10 and 23.
+#![tactic(auto)]
+
 ghost use Rattle.formula.specs.Promises.{CheckPromise};
 
 mod cut; // the block's three parts

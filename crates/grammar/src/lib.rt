@@ -1,4 +1,6 @@
 // The grammar of a formula's text, and the machine that reads it byte by byte.
+#![tactic(auto)]
+
 mod bytes; // which bytes are blanks, digits, and bytes of a comment
 mod places; // what a word may begin with
 mod machine; // where a byte leads from a state

@@ -1,4 +1,6 @@
 // The block of a text, laid out from the parts that stand in the output.
+#![tactic(auto)]
+
 ghost use Rattle.std.specs.Prelude.{◌≡◌, ◌+◌};
 ghost use Rattle.std.proofs.lemmas.List.Edits.{sets};
 ghost use Rattle.laid.specs.Block.{header};

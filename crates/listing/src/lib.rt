@@ -1,4 +1,6 @@
 // The listing of openings, page by page.
+#![tactic(auto)]
+
 ghost use Rattle.listing.specs.Page.{page_memory};
 ghost use Rattle.listing.specs.Promises.{PagePromise};
 

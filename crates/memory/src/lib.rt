@@ -1,4 +1,6 @@
 // What is lent beside the block: the rows that speak of it, and what a rule leaves in the reasons.
+#![tactic(auto)]
+
 mod buffers; // row 11
 mod reasons; // why an entry was made
 mod states; // a state as a number

@@ -1,4 +1,6 @@
 // The library's calls for programs in other languages: numbers and slices in; a status, and numbers in a lent array, out.
+#![tactic(auto)]
+
 ghost use Rattle.record.specs.Trail.{trail};
 ghost use Rattle.memory.specs.Memory.{memory};
 ghost use Rattle.counted.specs.Lent as counted;

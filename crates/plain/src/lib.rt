@@ -1,4 +1,6 @@
 // A second opinion: the recursive truth itself, with no rule. It tries the outermost variable both ways and then goes on with the next.
+#![tactic(auto)]
+
 ghost use Rattle.plain.specs.Promises.{SolvePromise};
 
 mod looked; // the clauses, when nothing is left

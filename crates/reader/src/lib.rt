@@ -1,4 +1,6 @@
 // A reader's state between two bytes of a text, and what one byte does to it.
+#![tactic(auto)]
+
 use grammar::State;
 
 mod numbers; // numbers of any length in 32 bits

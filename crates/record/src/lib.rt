@@ -1,4 +1,6 @@
 // The record in its lent buffers: what is read from it, and row 12.
+#![tactic(auto)]
+
 mod rule; // the state of a search, the rules, where a rule leads
 mod found; // what a search finds
 mod literals; // literals read from a list of words

@@ -1,4 +1,6 @@
 // A search: rule after rule on checked input. It knows nothing of sessions and revisions.
+#![tactic(auto)]
+
 mod asked; // whether it has ended, and whether a rule takes a proposal
 mod searches; // the steps
 

@@ -1,5 +1,7 @@
 // A session that goes step by step, and the run with a budget. [demand.1.any] [demand.1.ends] No entrance asks anything of its input, and each of
 // them comes to an end.
+#![tactic(auto)]
+
 ghost use Rattle.std.specs.Prelude.{◌≡◌};
 ghost use Rattle.memory.specs.Memory.{memory};
 ghost use Rattle.session.specs.Outcome.{session};

@@ -1,4 +1,6 @@
 // The witness of an ended session: values of the first group that make the rest of the formula true, or false.
+#![tactic(auto)]
+
 ghost use Rattle.record.specs.Trail.{trail};
 ghost use Rattle.shown.specs.Promises.{ShownPromise};
 

@@ -1,4 +1,6 @@
 // One text on standard input: its verdict, or the openings that win. Its arguments say which (ask.rt); tools/solve is the door for people.
+#![tactic(auto)]
+
 mod ask; // what the arguments ask for
 mod intake; // the text, read into a block
 mod line; // a line of literals, byte by byte

@@ -1,4 +1,6 @@
 // The tables that a search is lent: what a step looks up by literal and by variable.
+#![tactic(auto)]
+
 mod by_literal; // what a literal is to its clause
 mod by_variable; // the level of a variable
 

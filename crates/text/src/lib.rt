@@ -1,4 +1,6 @@
 // The text of a formula, read into a block: whole or in pieces.
+#![tactic(auto)]
+
 ghost use Rattle.text.specs.Promises.{ReadPromise, BeginPromise, PiecePromise, EndPromise};
 
 use grammar::{Place, State};

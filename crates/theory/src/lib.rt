@@ -1,1 +1,3 @@
 // Definitions and proofs only: see specs/.
+#![tactic(auto)]
+

@@ -1,4 +1,6 @@
 // Signed words as literals. Every function answers for every word, the least one too.
+#![tactic(auto)]
+
 ghost use Rattle.words.specs.Promises.{NegativePromise, SizePromise, OppositePromise, SizeAtPromise, NegativeAtPromise, TakePromise, DropPromise};
 
 // A literal is +v or -v; any other word may be handed in, and is refused where it matters.

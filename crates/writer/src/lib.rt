@@ -1,4 +1,6 @@
 // The text of a block: what a reader of texts gives back word for word.
+#![tactic(auto)]
+
 ghost use Rattle.writer.specs.Promises.{WritePromise};
 
 mod writing; // the lines, byte by byte

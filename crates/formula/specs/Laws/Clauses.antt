@@ -29,6 +29,7 @@ pub clauses_in : (ls : List ℤ) (from : ℕ) (es : List ℤ) {c : List ℤ} {l 
 unfolding clauses_from
 clauses_in ls from (e ∷ es) (here q) i = in_drop from ls (in_take (nat_abs e - from) (drop from ls) (rw q at i))
 clauses_in ls from (e ∷ es) (there m) i = clauses_in ls (nat_abs e) es m i
+clauses_in ls from [] {c = c} {l = l} x'' i = elim x'' [ ]
 
 -- the clauses from the c-th on, and the c-th
 module _ (ls es : List ℤ) where

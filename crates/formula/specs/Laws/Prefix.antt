@@ -106,6 +106,7 @@ once_in (q ∷ p) h (here e) (here f) s = e ∙ sym f
 once_in (q ∷ p) h (here e) (there j) s = absurd (other q (twice_head q p h) j (ap nat_abs (sym e) ∙ s))
 once_in (q ∷ p) h (there i) (here f) s = absurd (other q (twice_head q p h) i (ap nat_abs (sym f) ∙ sym s))
 once_in (q ∷ p) h (there i) (there j) s = once_in p (twice_tail q p h) i j s
+once_in [] h {y = y} x6 _ s = elim x6 [ ]
 
 pub once_at : (p : List ℤ) → twice p ≡ false → (i j : ℕ) → i < length p → j < length p → nat_abs (get_or p i (pos 0)) ≡ nat_abs (get_or p j (pos 0)) → i ≡ j
 once_at [] h i j k l s = absurd (not-suc-le-zero k)
@@ -129,6 +130,7 @@ both_signs_lem (l ∷ C) h x (here e) (here f) = e ∙ sym f
 both_signs_lem (l ∷ C) h x (here e) (there j) = clash (mem_i (rw e at j)) (or_fl (mem (neg_ℤ l) C) (both_signs C) h)
 both_signs_lem (l ∷ C) h x (there i) (here f) = let z : x ≡ neg_ℤ l = neg_swap f in clash (mem_i (rw z at i)) (or_fl (mem (neg_ℤ l) C) (both_signs C) h)
 both_signs_lem (l ∷ C) h x (there i) (there j) = both_signs_lem C (or_fr (mem (neg_ℤ l) C) (both_signs C) h) x i j
+both_signs_lem [] h x x5 _ = elim x5 [ ]
 
 -- ---- quantifier and level of a variable: the literal's sign does not matter
 pub existential_neg : (p : List ℤ) (x : ℤ) → existential p (neg_ℤ x) ≡ existential p x
@@ -248,6 +250,7 @@ level_zero q (r ∷ p) h x i z = head (negative q) (negative r) z ∙ go i (leve
     go : In x (r ∷ p) → (In x p → change r p + level_of p (nat_abs x) ≡ 0 → negative r ≡ negative x) → negative r ≡ negative x
     go (here e) ih = rw e
     go (there j) ih = ih j (let k : level_of (r ∷ p) (nat_abs x) ≡ 0 = omega arith in rw (eqb_ne (nat_abs r) (nat_abs x) (other _ (twice_head _ _ h) j)) at k)
+level_zero q [] h x i z = elim i [ ]
 
 -- a proper prefix is so ordered. c is the number of changes before the part p
 ordered_from : (P p : List ℤ) → twice p ≡ false → ((x : ℤ) → In x p → (universal P x ≡ negative x) × (existential P x ≡ not (negative x)))

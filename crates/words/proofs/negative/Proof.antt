@@ -6,5 +6,5 @@ use Rattle.words.proofs.negative.Tie as tie
 returns : tie.Need-returns
 returns c = rw (read _ c.ranges.x) (below_zero c.args.x)
 
-pub negative-spec : {M : Type 1} → statement M
-negative-spec = tie.close (tie.spec returns)
+pub negative_spec : {M : Type 1} → statement M
+negative_spec = tie.close (tie.spec returns)

@@ -6,18 +6,18 @@ use Rattle.words.proofs.Machine.{least, not_least, negates, read_negated}
 use Rattle.words.proofs.opposite.Statement.{statement}
 use Rattle.words.proofs.opposite.Tie as tie
 
-sub-result : tie.Need-overflow-sub-result
-sub-result c = negates c.before.args.x c.before.ranges.x c.if1.false
+sub-result : tie.Need-overflow_sub-result
+sub-result c = negates c.before.args.x c.before.ranges.x c.if-x-eq-LEAST.false
 
-returns : tie.Need-returns
+returns : tie.Need-returns-then-x-eq-LEAST
 returns c =
-    let e = least c.before.args.x c.before.ranges.x c.if1.true in
+    let e = least c.before.args.x c.before.ranges.x c.if-x-eq-LEAST.true in
     sym (opposite_none c.before.args.x (omega arith))
 
-returns-2 : tie.Need-returns-2
+returns-2 : tie.Need-returns-else-x-eq-LEAST
 returns-2 c =
     let x = c.before.args.x in
-    read_negated x c.before.ranges.x c.if1.false ∙ sym (opposite_is x (not_least x c.before.ranges.x c.if1.false))
+    read_negated x c.before.ranges.x c.if-x-eq-LEAST.false ∙ sym (opposite_is x (not_least x c.before.ranges.x c.if-x-eq-LEAST.false))
 
-pub opposite-spec : {M : Type 1} → statement M
-opposite-spec = tie.close (tie.spec sub-result returns returns-2)
+pub opposite_spec : {M : Type 1} → statement M
+opposite_spec = tie.close (tie.spec sub-result returns returns-2)

@@ -7,10 +7,10 @@ use borrow.Author.Rules.{rules}
 use Rattle.words.proofs.take.Statement.{statement}
 use Rattle.words.proofs.take.Tie as tie
 
-returns : tie.Need-returns
-returns c = sym (take_all c.before.args.n c.before.args.ws.now c.if1.true)
+returns : tie.Need-returns-then-ws-n
+returns c = sym (take_all c.before.args.n c.before.args.ws.now c.if-ws-n.true)
 
-returns-2 : tie.Need-returns-2
+returns-2 : tie.Need-returns-else-ws-n
 returns-2 c = let z : c.before.before.args.n - 0 ≡ c.before.before.args.n = omega arith in rw z
 
 pub take_spec : {M : Type 1} → statement M

@@ -12,6 +12,7 @@ module _ {A : Type 0} where
   unfolding all
   all_e f (y ∷ xs) h (here e) = rw e (and_l (f y) (all f xs) h)
   all_e f (y ∷ xs) h (there i) = all_e f xs (and_r (f y) (all f xs) h) i
+  all_e f [] h x4 = elim x4 [ ]
 
   pub all_i : (f : A → Bool) (xs : List A) → ((x : A) → In x xs → f x ≡ true) → all f xs ≡ true
   unfolding all
@@ -120,6 +121,8 @@ module _ {A : Type 0} where
   pub in_take : (n : ℕ) (xs : List A) {x : A} → In x (take n xs) → In x xs
   in_take (suc n) (y ∷ xs) (here e) = here e
   in_take (suc n) (y ∷ xs) (there i) = there (in_take n xs i)
+  in_take zero xs x3 = elim x3 [ ]
+  in_take (suc n) [] x6 = elim x6 [ ]
 
 -- ---- what stands in xs ++ ys
 module _ {A : Type 0} where

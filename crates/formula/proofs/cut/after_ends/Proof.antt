@@ -10,7 +10,7 @@ use Rattle.formula.proofs.cut.after_ends.Tie as tie
 returns : tie.Need-returns
 returns c =
     let b = c.before.before.before.args.block.now in
-    c.drop.ensures ∙ rw (c.before.before.after_prefix.ensures, c.before.size-at.ensures) (drop-drop (clause_count_of b) (6 + variables_of b) b)
+    c.drop.ensures ∙ rw (c.before.before.after_prefix.ensures, c.before.size_at.ensures) (drop-drop (clause_count_of b) (6 + variables_of b) b)
 
-pub after-ends-spec : {M : Type 1} → statement M
-after-ends-spec = tie.close (tie.spec (λ c κs. search rules) (λ c κs. search rules) (λ c κs. search rules) returns)
+pub after_ends_spec : {M : Type 1} → statement M
+after_ends_spec = tie.close (tie.spec (λ c κs. search rules) (λ c κs. search rules) (λ c κs. search rules) returns)

@@ -9,7 +9,7 @@ use Rattle.formula.proofs.cut.after_prefix.Tie as tie
 returns : tie.Need-returns
 returns c =
     let b = c.before.before.before.args.block.now in
-    c.drop2.ensures ∙ rw (c.before.before.drop.ensures, c.before.size-at.ensures) (drop-drop (variables_of b) 6 b)
+    c.drop-2.ensures ∙ rw (c.before.before.drop.ensures, c.before.size_at.ensures) (drop-drop (variables_of b) 6 b)
 
-pub after-prefix-spec : {M : Type 1} → statement M
-after-prefix-spec = tie.close (tie.spec (λ c κs. search rules) (λ c κs. search rules) (λ c κs. search rules) returns)
+pub after_prefix_spec : {M : Type 1} → statement M
+after_prefix_spec = tie.close (tie.spec (λ c κs. search rules) (λ c κs. search rules) (λ c κs. search rules) returns)

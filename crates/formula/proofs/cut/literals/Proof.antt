@@ -5,7 +5,7 @@ use Rattle.formula.proofs.cut.literals.Statement.{statement}
 use Rattle.formula.proofs.cut.literals.Tie as tie
 
 returns : tie.Need-returns
-returns c = c.take.ensures ∙ rw (c.before.before.after-ends.ensures, c.before.size-at.ensures)
+returns c = c.take.ensures ∙ rw (c.before.before.after_ends.ensures, c.before.size_at.ensures)
 
-pub literals-spec : {M : Type 1} → statement M
-literals-spec = tie.close (tie.spec (λ c κs. search rules) (λ c κs. search rules) (λ c κs. search rules) returns)
+pub literals_spec : {M : Type 1} → statement M
+literals_spec = tie.close (tie.spec (λ c κs. search rules) (λ c κs. search rules) (λ c κs. search rules) returns)

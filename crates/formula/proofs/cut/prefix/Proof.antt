@@ -5,7 +5,7 @@ use Rattle.formula.proofs.cut.prefix.Statement.{statement}
 use Rattle.formula.proofs.cut.prefix.Tie as tie
 
 returns : tie.Need-returns
-returns c = c.take.ensures ∙ rw (c.before.before.drop.ensures, c.before.size-at.ensures)
+returns c = c.take.ensures ∙ rw (c.before.before.drop.ensures, c.before.size_at.ensures)
 
-pub prefix-spec : {M : Type 1} → statement M
-prefix-spec = tie.close (tie.spec (λ c κs. search rules) (λ c κs. search rules) (λ c κs. search rules) returns)
+pub prefix_spec : {M : Type 1} → statement M
+prefix_spec = tie.close (tie.spec (λ c κs. search rules) (λ c κs. search rules) (λ c κs. search rules) returns)

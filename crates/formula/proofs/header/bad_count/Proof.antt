@@ -6,13 +6,13 @@ use borrow.Author.Rules.{rules}
 use Rattle.formula.proofs.header.bad_count.Statement.{statement}
 use Rattle.formula.proofs.header.bad_count.Tie as tie
 
-returns : tie.Need-returns
-returns c = or_first _ c.before.negative-at.ensures c.if1.true
+returns : tie.Need-returns-then-negative_at
+returns c = or_first _ c.before.negative_at.ensures c.if-negative_at.true
 
-returns-2 : tie.Need-returns-2
+returns-2 : tie.Need-returns-else-negative_at
 returns-2 c =
     let start = c.before.before.before in
-    or_second _ c.before.before.negative-at.ensures c.before.if1.false (ap (ltb start.args.limit) c.size-at.ensures)
+    or_second _ c.before.before.negative_at.ensures c.before.if-negative_at.false (ap (ltb start.args.limit) c.size_at.ensures)
 
-pub bad-count-spec : {M : Type 1} → statement M
-bad-count-spec = tie.close (tie.spec (λ c κs. search rules) (λ c κs. search rules) returns returns-2)
+pub bad_count_spec : {M : Type 1} → statement M
+bad_count_spec = tie.close (tie.spec (λ c κs. search rules) (λ c κs. search rules) returns returns-2)

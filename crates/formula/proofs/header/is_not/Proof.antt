@@ -8,14 +8,14 @@ use borrow.Author.Rules.{rules}
 use Rattle.formula.proofs.header.is_not.Statement.{statement}
 use Rattle.formula.proofs.header.is_not.Tie as tie
 
-returns : tie.Need-returns
-returns c = rw not_number (or_first _ c.before.negative-at.ensures c.if1.true)
+returns : tie.Need-returns-then-negative_at
+returns c = rw not_number (or_first _ c.before.negative_at.ensures c.if-negative_at.true)
 
-returns-2 : tie.Need-returns-2
+returns-2 : tie.Need-returns-else-negative_at
 returns-2 c =
     let start = c.before.before.before in
     rw not_number
-    (or_second _ c.before.before.negative-at.ensures c.before.if1.false (ap (λ s. not (eqb s start.args.n)) c.size-at.ensures))
+    (or_second _ c.before.before.negative_at.ensures c.before.if-negative_at.false (ap (λ s. not (eqb s start.args.n)) c.size_at.ensures))
 
-pub is-not-spec : {M : Type 1} → statement M
-is-not-spec = tie.close (tie.spec (λ c κs. search rules) (λ c κs. search rules) returns returns-2)
+pub is_not_spec : {M : Type 1} → statement M
+is_not_spec = tie.close (tie.spec (λ c κs. search rules) (λ c κs. search rules) returns returns-2)

@@ -12,72 +12,72 @@ use Rattle.formula.proofs.Stamped.{Stamped, own_within, begin, hit, more, end}
 use Rattle.formula.proofs.marks.pair_in.Statement.{statement}
 use Rattle.formula.proofs.marks.pair_in.Tie as tie
 
-abbrev invariant-loop : tie.invariant-loop
+abbrev invariant-loop : tie.invariant-loop-i
 invariant-loop clause marks₀ stamp earlier found₀ i₀ marks found i = Stamped clause stamp earlier marks found i
 
-abbrev decreases-loop : tie.decreases-loop
+abbrev decreases-loop : tie.decreases-loop-i
 decreases-loop clause marks₀ stamp earlier found₀ i₀ marks found i = i
 
-loop-holds : tie.Need-loop-init invariant-loop decreases-loop
+loop-holds : tie.Need-loop-i-init invariant-loop decreases-loop
 loop-holds c = begin _ _ _ _ c.requires.1
 
 -- the literal before the i-th is within the clause, and names a variable
-literal-small : (c : tie.In-loop invariant-loop decreases-loop) → nat_abs (get_or c.before.before.args.clause.now (c.before.loop.i - 1) (pos 0)) ≤ limits.variables
-literal-small c = (c.before.before.requires.0.at (c.before.loop.i - 1) (omega (arith, c.loop-test.true, c.before.loop.invariant.at))).most
+literal-small : (c : tie.In-loop-i invariant-loop decreases-loop) → nat_abs (get_or c.before.before.args.clause.now (c.before.loop-i.i - 1) (pos 0)) ≤ limits.variables
+literal-small c = (c.before.before.requires.0.at (c.before.loop-i.i - 1) (omega (arith, c.loop-i-test.true, c.before.loop-i.invariant.at))).most
 
-place-at-requires : tie.Need-place-at-requires invariant-loop decreases-loop
+place-at-requires : tie.Need-place_at-own-requires invariant-loop decreases-loop
 place-at-requires c κs = literal-small c
 
 -- its place is within the table, and the constant is the limit
-module _ (c : tie.After-place-at invariant-loop decreases-loop) where
-  step : c.before.before.loop.i - 1 + 1 ≡ c.before.before.loop.i
-  step = omega (arith, c.before.loop-test.true)
+module _ (c : tie.After-place_at-own invariant-loop decreases-loop) where
+  step : c.before.before.loop-i.i - 1 + 1 ≡ c.before.before.loop-i.i
+  step = omega (arith, c.before.loop-i-test.true)
 
-  placed : c.place_at.result < literal_places
-  placed = own_within _ (literal-small c.before) _ c.place_at.ensures
+  placed : c.place_at-own.result < literal_places
+  placed = own_within _ (literal-small c.before) _ c.place_at-own.ensures
 
-  other-is : 2 * max_variables - c.place_at.result ≡ 2 * limits.variables - c.place_at.result
+  other-is : 2 * max_variables - c.place_at-own.result ≡ 2 * limits.variables - c.place_at-own.result
   other-is = omega (arith, variables_are)
 
-sub-other : tie.Need-overflow-sub-other invariant-loop decreases-loop
+sub-other : tie.Need-overflow_sub-other invariant-loop decreases-loop
 sub-other c = omega (arith, placed c)
 
-mul-if1 : tie.Need-overflow-mul-if1 invariant-loop decreases-loop
+mul-if1 : tie.Need-offset_bounds-marks-other invariant-loop decreases-loop
 mul-if1 c = omega (arith, placed c)
 
-element-copy-out-if1 : tie.Need-element-copy-out-if1 invariant-loop decreases-loop
-element-copy-out-if1 c = omega (arith, placed c)
+element-copy-out-if1 : tie.Need-bounds-marks-other invariant-loop decreases-loop
+element-copy-out-if1 c = omega (arith, placed c.before)
 
-returns : tie.Need-returns invariant-loop decreases-loop
+returns : tie.Need-returns-then-marks-other invariant-loop decreases-loop
 returns c =
-    let at = c.before.before in
-    let inv = at.before.before.loop.invariant in
-    (hit _ _ _ _ _ _ inv _ (step at) (literal-small at.before) _ at.place_at.ensures _ (other-is at) c.if1.true, inv.fresh)
+    let at = c.before.before.before in
+    let inv = at.before.before.loop-i.invariant in
+    (hit _ _ _ _ _ _ inv _ (step at) (literal-small at.before) _ at.place_at-own.ensures _ (other-is at) c.if-marks-other.true, inv.fresh)
 
-mul-if2 : tie.Need-overflow-mul-if2 invariant-loop decreases-loop
-mul-if2 c = omega (arith, placed c.before.before)
+mul-if2 : tie.Need-offset_bounds-marks-own invariant-loop decreases-loop
+mul-if2 c = omega (arith, placed c.before.before.before)
 
-element-copy-out-if2 : tie.Need-element-copy-out-if2 invariant-loop decreases-loop
-element-copy-out-if2 c = omega (arith, placed c.before.before)
+element-copy-out-if2 : tie.Need-bounds-marks-own invariant-loop decreases-loop
+element-copy-out-if2 c = omega (arith, placed c.before.before.before)
 
-mul-marks : tie.Need-overflow-mul-marks invariant-loop decreases-loop
-mul-marks c = omega (arith, placed c.before.before.before.before)
+mul-marks : tie.Need-offset_bounds-marks-own-in-loop-i invariant-loop decreases-loop
+mul-marks c = omega (arith, placed c.before.before.before.before.before)
 
-element-write-marks : tie.Need-element-write-marks invariant-loop decreases-loop
-element-write-marks c = placed c.before.before.before.before
+element-write-marks : tie.Need-bounds-marks-own-in-loop-i invariant-loop decreases-loop
+element-write-marks c = placed c.before.before.before.before.before.before
 
-loop-again : tie.Need-loop-preserved invariant-loop decreases-loop
+loop-again : tie.Need-loop-i-preserved invariant-loop decreases-loop
 loop-again c =
-    let passed = c.before.before in
-    let at = passed.before.before in
-    more _ _ _ _ _ _ at.before.before.loop.invariant _ (step at) (literal-small at.before) _ at.place_at.ensures _ (other-is at) passed.if1.false _
-    (⊎_elim (λ w. inl (w.0.taken, w.1)) (λ w. inr (w.0.left, w.1)) c.if2.branch)
+    let passed = c.before.before.before in
+    let at = passed.before.before.before in
+    more _ _ _ _ _ _ at.before.before.loop-i.invariant _ (step at) (literal-small at.before) _ at.place_at-own.ensures _ (other-is at) passed.if-marks-other.false _
+    (⊎_elim (λ w. inl (w.if-marks-own.true, w.found-is)) (λ w. inr (w.if-marks-own.false, w.found-is)) c.before.if-marks-own.branch-raw)
 
-returns-2 : tie.Need-returns-2 invariant-loop decreases-loop
-returns-2 c = (end _ _ _ _ _ _ c.before.loop.invariant c.loop-test.false, c.before.loop.invariant.fresh)
+returns-2 : tie.Need-returns invariant-loop decreases-loop
+returns-2 c = (end _ _ _ _ _ _ c.before.loop-i.invariant c.loop-i-test.false, c.before.loop-i.invariant.fresh)
 
-pub pair-in-spec : {M : Type 1} → statement M
-pair-in-spec =
+pub pair_in_spec : {M : Type 1} → statement M
+pair_in_spec =
     tie.close
     (tie.spec
     invariant-loop

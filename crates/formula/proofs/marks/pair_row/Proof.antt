@@ -8,61 +8,61 @@ use Rattle.formula.proofs.Looked.{Looked, begin, end, rises, fits, hit, more}
 use Rattle.formula.proofs.marks.pair_row.Statement.{statement}
 use Rattle.formula.proofs.marks.pair_row.Tie as tie
 
-abbrev invariant-loop : tie.invariant-loop
+abbrev invariant-loop : tie.invariant-loop-i
 invariant-loop literals ends marks₀ found₀ from₀ i₀ marks found from i = Looked literals ends marks found from i
 
-abbrev decreases-loop : tie.decreases-loop
+abbrev decreases-loop : tie.decreases-loop-i
 decreases-loop literals ends marks₀ found₀ from₀ i₀ marks found from i = length ends - i
 
-loop-holds : tie.Need-loop-init invariant-loop decreases-loop
+loop-holds : tie.Need-loop-i-init invariant-loop decreases-loop
 loop-holds c = begin _ _ c.requires.1
 
 -- the clause lies within the literals
-module _ (c : tie.After-size-at invariant-loop decreases-loop) where
-  start-within : c.before.before.loop.from ≤ c.size-at.result
-  start-within = rises _ _ _ _ _ _ c.before.before.loop.invariant c.before.loop-test.true _ c.size-at.ensures
+module _ (c : tie.After-size_at-end invariant-loop decreases-loop) where
+  start-within : c.before.before.loop-i.from ≤ c.size_at-end.result
+  start-within = rises _ _ _ _ _ _ c.before.before.loop-i.invariant c.before.loop-i-test.true _ c.size_at-end.ensures
 
-  end-within : c.size-at.result ≤ length c.before.before.before.args.literals.now
-  end-within = fits _ _ _ _ _ _ c.before.before.loop.invariant c.before.loop-test.true _ c.size-at.ensures
+  end-within : c.size_at-end.result ≤ length c.before.before.before.args.literals.now
+  end-within = fits _ _ _ _ _ _ c.before.before.loop-i.invariant c.before.loop-i-test.true _ c.size_at-end.ensures
 
-mul-pair-in : tie.Need-overflow-mul-pair-in invariant-loop decreases-loop
-mul-pair-in c = omega (arith, start-within c, end-within c, c.before.before.before.well-formed)
+mul-pair-in : tie.Need-offset_bounds-literals-from invariant-loop decreases-loop
+mul-pair-in c = omega (arith, start-within c, end-within c, c.before.before.before.well_formed)
 
-sub-pair-in : tie.Need-overflow-sub-pair-in invariant-loop decreases-loop
+sub-pair-in : tie.Need-slice_bounds-pair_in-count invariant-loop decreases-loop
 sub-pair-in c = start-within c
 
-part-pair-in-start : tie.Need-slice-bounds-pair-in-start invariant-loop decreases-loop
+part-pair-in-start : tie.Need-slice_bounds-pair_in-start invariant-loop decreases-loop
 part-pair-in-start c = start-within c
 
-part-pair-in-end : tie.Need-slice-bounds-pair-in-end invariant-loop decreases-loop
+part-pair-in-end : tie.Need-slice_bounds-pair_in-end invariant-loop decreases-loop
 part-pair-in-end c = end-within c
 
-pair-in-requires : tie.Need-pair-in-requires invariant-loop decreases-loop
+pair-in-requires : tie.Need-pair_in-found-requires invariant-loop decreases-loop
 pair-in-requires c κs =
     let read = c.before.before in
     let head = read.before.before in
-    (named_part limits.variables head.before.args.literals.now (read.size-at.result - head.loop.from) head.loop.from head.before.requires.0, head.loop.invariant.fresh)
+    (named_part limits.variables head.before.args.literals.now (read.size_at-end.result - head.loop-i.from) head.loop-i.from head.before.requires.0, head.loop-i.invariant.fresh)
 
-returns : tie.Need-returns invariant-loop decreases-loop
+returns : tie.Need-returns-then-found-eq10 invariant-loop decreases-loop
 returns c =
     let called = c.before in
     let read = called.before.before.before in
     let turn = read.before in
-    hit _ _ _ _ _ _ turn.before.loop.invariant turn.loop-test.true _ read.size-at.ensures _ called.pair-in.ensures.0 c.if1.true
+    hit _ _ _ _ _ _ turn.before.loop-i.invariant turn.loop-i-test.true _ read.size_at-end.ensures _ called.pair_in-found.ensures.0 c.if-found-eq10.true
 
-loop-again : tie.Need-loop-preserved invariant-loop decreases-loop
+loop-again : tie.Need-loop-i-preserved invariant-loop decreases-loop
 loop-again c =
     let called = c.before in
     let read = called.before.before.before in
     let turn = read.before in
-    more _ _ _ _ _ _ turn.before.loop.invariant turn.loop-test.true _ read.size-at.ensures _ called.pair-in.ensures.0 c.if1.false _
-    called.pair-in.ensures.1
+    more _ _ _ _ _ _ turn.before.loop-i.invariant turn.loop-i-test.true _ read.size_at-end.ensures _ called.pair_in-found.ensures.0 c.if-found-eq10.false _
+    called.pair_in-found.ensures.1
 
-returns-2 : tie.Need-returns-2 invariant-loop decreases-loop
-returns-2 c = end _ _ _ _ _ _ c.before.loop.invariant c.loop-test.false
+returns-2 : tie.Need-returns invariant-loop decreases-loop
+returns-2 c = end _ _ _ _ _ _ c.before.loop-i.invariant c.loop-i-test.false
 
-pub pair-row-spec : {M : Type 1} → statement M
-pair-row-spec =
+pub pair_row_spec : {M : Type 1} → statement M
+pair_row_spec =
     tie.close
     (tie.spec
     invariant-loop

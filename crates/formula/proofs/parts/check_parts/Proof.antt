@@ -16,62 +16,62 @@ abbrev rows : tie.Start → List Row
 rows s = part_rows s.args.prefix.now s.args.ends.now s.args.literals.now
 
 -- the prefix's words have a place each, so that the door's answer is row 6's
-twice-is : (c : tie.After-variable-twice) → c.variable-twice.result ≡ twice c.before.before.before.args.prefix.now
+twice-is : (c : tie.After-variable_twice) → c.variable_twice.result ≡ twice c.before.before.before.args.prefix.now
 twice-is c =
     let start = c.before.before.before in
-    c.variable-twice.ensures ∙ repeated_is _ _ (known_up _ _ limits.variables start.requires (sym c.before.before.some-stranger.ensures ∙ c.before.if1.false))
+    c.variable_twice.ensures ∙ repeated_is _ _ (known_up _ _ limits.variables start.requires (sym c.before.before.some_stranger.ensures ∙ c.before.if-some_stranger.false))
 
 -- what is left of the rows after each test
-past5 : (c : tie.Else1) → refusal_of (rows c.before.before) ≡ refusal_of (drop 1 (rows c.before.before))
-past5 c = rw (sym c.before.some-stranger.ensures ∙ c.if1.false)
+past5 : (c : tie.Else-some_stranger) → refusal_of (rows c.before.before) ≡ refusal_of (drop 1 (rows c.before.before))
+past5 c = rw (sym c.before.some_stranger.ensures ∙ c.if-some_stranger.false)
 
-past6 : (c : tie.Else2) → refusal_of (rows c.before.before.before.before) ≡ refusal_of (drop 2 (rows c.before.before.before.before))
-past6 c = past5 c.before.before ∙ rw (sym (twice-is c.before) ∙ c.if2.false)
+past6 : (c : tie.Else-variable_twice) → refusal_of (rows c.before.before.before.before) ≡ refusal_of (drop 2 (rows c.before.before.before.before))
+past6 c = past5 c.before.before ∙ rw (sym (twice-is c.before) ∙ c.if-variable_twice.false)
 
-past7 : (c : tie.Else3) → refusal_of (rows c.before.before.before.before.before.before) ≡ refusal_of (drop 3 (rows c.before.before.before.before.before.before))
-past7 c = past6 c.before.before ∙ rw (sym c.before.last_negative.ensures ∙ c.if3.false)
+past7 : (c : tie.Else-last_negative) → refusal_of (rows c.before.before.before.before.before.before) ≡ refusal_of (drop 3 (rows c.before.before.before.before.before.before))
+past7 c = past6 c.before.before ∙ rw (sym c.before.last_negative.ensures ∙ c.if-last_negative.false)
 
-past8 : (c : tie.Else4) → refusal_of (rows c.before.before.before.before.before.before.before.before) ≡ refusal_of (drop 4 (rows c.before.before.before.before.before.before.before.before))
-past8 c = past7 c.before.before ∙ rw (sym c.before.bad-ends.ensures ∙ c.if4.false)
+past8 : (c : tie.Else-bad_ends) → refusal_of (rows c.before.before.before.before.before.before.before.before) ≡ refusal_of (drop 4 (rows c.before.before.before.before.before.before.before.before))
+past8 c = past7 c.before.before ∙ rw (sym c.before.bad_ends.ensures ∙ c.if-bad_ends.false)
 
-past9 : (c : tie.Else5) → refusal_of (rows c.before.before.before.before.before.before.before.before.before.before) ≡ refusal_of (drop 5 (rows c.before.before.before.before.before.before.before.before.before.before))
-past9 c = past8 c.before.before ∙ rw (sym c.before.some-stranger2.ensures ∙ c.if5.false)
+past9 : (c : tie.Else-some_stranger-2) → refusal_of (rows c.before.before.before.before.before.before.before.before.before.before) ≡ refusal_of (drop 5 (rows c.before.before.before.before.before.before.before.before.before.before))
+past9 c = past8 c.before.before ∙ rw (sym c.before.some_stranger-2.ensures ∙ c.if-some_stranger-2.false)
 
-returns : tie.Need-returns
+returns : tie.Need-returns-then-some_stranger
 unfolding checked_of
-returns c = rw (sym c.before.some-stranger.ensures ∙ c.if1.true)
+returns c = rw (sym c.before.some_stranger.ensures ∙ c.if-some_stranger.true)
 
-returns-2 : tie.Need-returns-2
+returns-2 : tie.Need-returns-then-variable_twice
 unfolding checked_of
-returns-2 c = rw (past5 c.before.before, sym (twice-is c.before) ∙ c.if2.true)
+returns-2 c = rw (past5 c.before.before, sym (twice-is c.before) ∙ c.if-variable_twice.true)
 
-returns-3 : tie.Need-returns-3
+returns-3 : tie.Need-returns-then-last_negative
 unfolding checked_of
-returns-3 c = rw (past6 c.before.before, sym c.before.last_negative.ensures ∙ c.if3.true)
+returns-3 c = rw (past6 c.before.before, sym c.before.last_negative.ensures ∙ c.if-last_negative.true)
 
-returns-4 : tie.Need-returns-4
+returns-4 : tie.Need-returns-then-bad_ends
 unfolding checked_of
-returns-4 c = rw (past7 c.before.before, sym c.before.bad-ends.ensures ∙ c.if4.true)
+returns-4 c = rw (past7 c.before.before, sym c.before.bad_ends.ensures ∙ c.if-bad_ends.true)
 
-returns-5 : tie.Need-returns-5
+returns-5 : tie.Need-returns-then-some_stranger-2
 unfolding checked_of
-returns-5 c = rw (past8 c.before.before, sym c.before.some-stranger2.ensures ∙ c.if5.true)
+returns-5 c = rw (past8 c.before.before, sym c.before.some_stranger-2.ensures ∙ c.if-some_stranger-2.true)
 
-pair-row-requires : tie.Need-pair-row-requires
+pair-row-requires : tie.Need-pair_row-row-requires
 pair-row-requires c κs =
     let ends = c.before.before in
     let start = ends.before.before.before.before.before.before.before.before in
-    (named_up _ _ limits.variables start.requires (all_named _ _ (sym c.before.some-stranger2.ensures ∙ c.if5.false)), sym ends.before.bad-ends.ensures ∙ ends.if4.false)
+    (named_up _ _ limits.variables start.requires (all_named _ _ (sym c.before.some_stranger-2.ensures ∙ c.if-some_stranger-2.false)), sym ends.before.bad_ends.ensures ∙ ends.if-bad_ends.false)
 
-returns-6 : tie.Need-returns-6
-returns-6 c = checked_number _ c.if6.true ∙ ap checked_of (c.before.pair_row.ensures ∙ sym (past9 c.before.before))
+returns-6 : tie.Need-returns-then-row-ne0
+returns-6 c = checked_number _ c.if-row-ne0.true ∙ ap checked_of (c.before.pair_row-row.ensures ∙ sym (past9 c.before.before))
 
-returns-7 : tie.Need-returns-7
+returns-7 : tie.Need-returns
 unfolding checked_of
-returns-7 c = rw (past9 c.before.before, sym c.before.pair_row.ensures ∙ c.if6.false)
+returns-7 c = rw (past9 c.before.before, sym c.before.pair_row-row.ensures ∙ c.if-row-ne0.false)
 
-pub check-parts-spec : {M : Type 1} → statement M
-check-parts-spec =
+pub check_parts_spec : {M : Type 1} → statement M
+check_parts_spec =
     tie.close
     (tie.spec
     (λ c κs. tt)

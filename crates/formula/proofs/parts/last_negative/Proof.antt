@@ -10,11 +10,11 @@ use borrow.Author.Rules.{rules}
 use Rattle.formula.proofs.parts.last_negative.Statement.{statement}
 use Rattle.formula.proofs.parts.last_negative.Tie as tie
 
-returns-2 : tie.Need-returns-2
+returns-2 : tie.Need-returns-else-prefix-gt0
 returns-2 c =
     let p = c.before.args.prefix.now in
     let empty : length p ≤ length p - 1 = omega arith in
-    le-ltb 0 (length p) c.if1.false ∙ sym (ap negative (get_or-eq_default p (pos 0) empty))
+    le-ltb 0 (length p) c.if-prefix-gt0.false ∙ sym (ap negative (get_or-eq_default p (pos 0) empty))
 
-pub last-negative-spec : {M : Type 1} → statement M
-last-negative-spec = tie.close (tie.spec (λ c. search rules) (λ c κs. search rules) (λ c. search rules) returns-2)
+pub last_negative_spec : {M : Type 1} → statement M
+last_negative_spec = tie.close (tie.spec (λ c. search rules) (λ c κs. search rules) (λ c. search rules) returns-2)

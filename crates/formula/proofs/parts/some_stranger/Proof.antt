@@ -11,46 +11,47 @@ use Rattle.words.specs.Laws.Lists.{any_found, any_past, any_ended}
 use Rattle.formula.specs.Block.{no_variable}
 use Rattle.formula.proofs.Rows.{zero_is_none, over_is_none, is_one}
 use borrow.Author.Rules.{rules}
+use borrow.Author.Tests.{lt-ltb, le-ltb}
 use Rattle.formula.proofs.parts.some_stranger.Statement.{statement}
 use Rattle.formula.proofs.parts.some_stranger.Tie as tie
 
-abbrev invariant-loop : tie.invariant-loop
+abbrev invariant-loop : tie.invariant-loop-i
 invariant-loop ws n i₀ i = (i ≤ length ws) × (any (no_variable n) (drop i ws) ≡ any (no_variable n) ws)
 
-abbrev decreases-loop : tie.decreases-loop
+abbrev decreases-loop : tie.decreases-loop-i
 decreases-loop ws n i₀ i = length ws - i
 
-loop-holds : tie.Need-loop-init invariant-loop decreases-loop
+loop-holds : tie.Need-loop-i-init invariant-loop decreases-loop
 loop-holds c = (omega arith, refl)
 
-returns : tie.Need-returns invariant-loop decreases-loop
+returns : tie.Need-returns-then-v-eq0 invariant-loop decreases-loop
 returns c =
     let read = c.before in
     let turn = read.before in
     let start = turn.before.before in
     let n = start.args.n in
-    let w = get_or start.args.ws.now turn.before.loop.i (pos 0) in
+    let w = get_or start.args.ws.now turn.before.loop-i.i (pos 0) in
     let none : no_variable n w ≡ true =
-    ⊎_elim (λ t. zero_is_none n w _ read.size-at.ensures t.taken) (λ t. over_is_none n w _ read.size-at.ensures t.1.taken) c.if1.branch in
-    sym (any_found (no_variable n) start.args.ws.now turn.before.loop.i (pos 0) turn.loop-test.true none) ∙ turn.before.loop.invariant.1
+    ⊎_elim (λ t. zero_is_none n w _ read.size_at-v.ensures t.if-v-eq0.true) (λ t. over_is_none n w _ read.size_at-v.ensures (lt-ltb _ _ t.if-n-v.true)) c.then-v-eq0.branch-raw in
+    sym (any_found (no_variable n) start.args.ws.now turn.before.loop-i.i (pos 0) turn.loop-i-test.true none) ∙ turn.before.loop-i.invariant.1
 
-loop-again : tie.Need-loop-preserved invariant-loop decreases-loop
+loop-again : tie.Need-loop-i-preserved invariant-loop decreases-loop
 loop-again c =
     let read = c.before.before in
     let turn = read.before in
     let start = turn.before.before in
     let n = start.args.n in
-    let w = get_or start.args.ws.now turn.before.loop.i (pos 0) in
-    let one = is_one n w _ read.size-at.ensures c.before.if1.false c.if2.false in
-    (omega arith, any_past (no_variable n) start.args.ws.now turn.before.loop.i (pos 0) turn.loop-test.true one ∙ turn.before.loop.invariant.1)
+    let w = get_or start.args.ws.now turn.before.loop-i.i (pos 0) in
+    let one = is_one n w _ read.size_at-v.ensures c.before.if-v-eq0.false (le-ltb _ _ c.if-n-v.false) in
+    (omega arith, any_past (no_variable n) start.args.ws.now turn.before.loop-i.i (pos 0) turn.loop-i-test.true one ∙ turn.before.loop-i.invariant.1)
 
-returns-2 : tie.Need-returns-2 invariant-loop decreases-loop
+returns-2 : tie.Need-returns invariant-loop decreases-loop
 returns-2 c =
     let head = c.before in
-    sym (any_ended (no_variable head.before.args.n) head.before.args.ws.now head.loop.i c.loop-test.false) ∙ head.loop.invariant.1
+    sym (any_ended (no_variable head.before.args.n) head.before.args.ws.now head.loop-i.i c.loop-i-test.false) ∙ head.loop-i.invariant.1
 
-pub some-stranger-spec : {M : Type 1} → statement M
-some-stranger-spec =
+pub some_stranger_spec : {M : Type 1} → statement M
+some_stranger_spec =
     tie.close
     (tie.spec
     invariant-loop

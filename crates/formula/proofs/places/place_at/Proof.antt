@@ -9,31 +9,31 @@ use Rattle.formula.proofs.Raised.{place_none, word_fits, sum_fits, sum_cast, sum
 use Rattle.formula.proofs.places.place_at.Statement.{statement}
 use Rattle.formula.proofs.places.place_at.Tie as tie
 
-returns : tie.Need-returns
-returns c = place_none c.before.args.ws.now _ max_variables (sym variables_are) c.if1.true
+returns : tie.Need-returns-then-ws-i
+returns c = place_none c.before.args.ws.now _ max_variables (sym variables_are) c.if-ws-i.true
 
-cast-word : tie.Need-overflow-cast-word
+cast-word : tie.Need-overflow_cast-word
 cast-word c =
     let start = c.before.before in
-    word_fits (get_or start.args.ws.now start.args.i (pos 0)) (sfits_of c.word.given)
+    word_fits (get_or start.args.ws.now start.args.i (pos 0)) (sfits_of c.word-1.given)
 
-add-result : tie.Need-overflow-add-result
+add-result : tie.Need-overflow_add-result
 add-result c =
     let start = c.before.before in
-    sum_fits (get_or start.args.ws.now start.args.i (pos 0)) (sfits_of c.word.given) start.requires max_variables (sym variables_are)
+    sum_fits (get_or start.args.ws.now start.args.i (pos 0)) (sfits_of c.word-1.given) start.requires max_variables (sym variables_are)
 
-cast-result : tie.Need-overflow-cast-result
+cast-result : tie.Need-overflow_cast-result
 cast-result c =
     let start = c.before.before in
-    sum_cast (get_or start.args.ws.now start.args.i (pos 0)) (sfits_of c.word.given) start.requires max_variables (sym variables_are)
+    sum_cast (get_or start.args.ws.now start.args.i (pos 0)) (sfits_of c.word-1.given) start.requires max_variables (sym variables_are)
 
-returns-2 : tie.Need-returns-2
+returns-2 : tie.Need-returns
 returns-2 c =
     let start = c.before.before in
-    sum_place (get_or start.args.ws.now start.args.i (pos 0)) (sfits_of c.word.given) start.requires max_variables (sym variables_are)
+    sum_place (get_or start.args.ws.now start.args.i (pos 0)) (sfits_of c.word-1.given) start.requires max_variables (sym variables_are)
 
-pub place-at-spec : {M : Type 1} → statement M
-place-at-spec =
+pub place_at_spec : {M : Type 1} → statement M
+place_at_spec =
     tie.close
     (tie.spec
     returns
