@@ -2,7 +2,7 @@
 use words::Literal;
 
 // A literal.
-#[derive(Drop)]
+#[derive(Clone, Copy)]
 pub enum Picked {
     Is(Literal),
     NoLiteral,

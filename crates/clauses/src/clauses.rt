@@ -65,7 +65,7 @@ fn lowest_conflict(
 }
 
 // What the literals of a clause have shown so far.
-#[derive(Drop)]
+#[derive(Clone, Copy)]
 struct Look {
     place: usize, // of its unassigned existential literal, or the clause's length while it has none
     above: u16, // the lowest level of its unassigned universal literals, or NO_LEVEL while it has none

@@ -2,14 +2,14 @@
 use words::Literal;
 
 // A unit clause, and its literal.
-#[derive(Drop)]
+#[derive(Clone, Copy)]
 pub enum UnitFound {
     On { literal: Literal, clause: usize },
     NoUnit,
 }
 
 // What the clauses make due: the lowest one in conflict, or with none in conflict the lowest unit clause, if there is one.
-#[derive(Drop)]
+#[derive(Clone, Copy)]
 pub enum Deciding {
     Conflict(usize),
     Quiet(UnitFound),

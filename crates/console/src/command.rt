@@ -14,7 +14,7 @@ use session::{Revision, Session};
 use words::Literal;
 
 // Words for a buffer are left in the line: the command says where they begin.
-#[derive(Drop)]
+#[derive(Clone, Copy)]
 pub(crate) enum Command {
     // "Empty lines and lines that begin with `#`."
     Nothing,

@@ -5,7 +5,7 @@ use record::State;
 use session::{Revision, Session};
 
 // How many words of each buffer are in use.
-#[derive(Drop)]
+#[derive(Clone, Copy)]
 pub(crate) struct Counts {
     pub(crate) block: usize,
     pub(crate) literals: usize,
@@ -20,7 +20,7 @@ pub(crate) struct Counts {
 }
 
 // The desk, and whether it goes on to the next line: the answer could be written, and the input has not ended.
-#[derive(Drop)]
+#[derive(Clone, Copy)]
 pub(crate) struct Desk {
     pub(crate) counts: Counts,
     pub(crate) session: Session,

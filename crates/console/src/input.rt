@@ -8,7 +8,7 @@ use crate::room::{LINE_BYTES, PART_BYTES};
 use libc::STDIN_FILENO;
 
 // What of the part that was read last is still to be taken in, from one place up to another.
-#[derive(Drop)]
+#[derive(Clone, Copy)]
 pub(crate) struct Left {
     pub(crate) at: usize,
     pub(crate) size: usize,
@@ -16,7 +16,7 @@ pub(crate) struct Left {
 
 // A line that was taken in: how many of its bytes are kept, whether there were more than it has room for, whether its line feed has come,
 // and what is left of the part.
-#[derive(Drop)]
+#[derive(Clone, Copy)]
 pub(crate) struct Taken {
     pub(crate) count: usize,
     pub(crate) long: bool,

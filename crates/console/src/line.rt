@@ -7,7 +7,7 @@ use crate::room::{LINE_BYTES, PART_BYTES};
 
 // How far a line has come in: where the input goes on, how many bytes of the line are kept, whether there were more than it has room for,
 // and whether its line feed has come.
-#[derive(Drop)]
+#[derive(Clone, Copy)]
 pub(crate) struct Gathered {
     pub(crate) next: usize,
     pub(crate) count: usize,
@@ -16,7 +16,7 @@ pub(crate) struct Gathered {
 }
 
 // A word of a line, from start up to end. Where there is none left, the two are equal.
-#[derive(Drop)]
+#[derive(Clone, Copy)]
 pub(crate) struct Word {
     pub(crate) start: usize,
     pub(crate) end: usize,

@@ -7,21 +7,21 @@ use crate::line::next_word;
 use crate::room::LONG_MOST;
 
 // What digits stand for. A number over 64 bits fits no place, so it is as good as none.
-#[derive(Drop)]
+#[derive(Clone, Copy)]
 enum Natural {
     Value(u64),
     NoNatural,
 }
 
 // Digits behind a minus, or without one.
-#[derive(Drop)]
+#[derive(Clone, Copy)]
 struct Number {
     negative: bool,
     natural: Natural,
 }
 
 // The next number of a line, and where the line goes on behind it.
-#[derive(Drop)]
+#[derive(Clone, Copy)]
 pub(crate) struct Next {
     pub(crate) negative: bool,
     pub(crate) size: u64,

@@ -14,7 +14,7 @@ use text::Answer as Reading;
 use writer::Written;
 
 // The words that follow an answer's numbers.
-#[derive(Drop)]
+#[derive(Clone, Copy)]
 pub(crate) enum After {
     Nothing,
     // The first words of the output.
@@ -32,7 +32,7 @@ pub(crate) enum After {
 }
 
 // The session; a name, the first few of six numbers, and the words that follow.
-#[derive(Drop)]
+#[derive(Clone, Copy)]
 pub(crate) struct Reply {
     pub(crate) session: Session,
     pub(crate) name: Name,

@@ -16,7 +16,7 @@ use formula::LITERAL_PLACES;
 use record::{PLACES, Rule};
 
 // The due rule, and the bounds as the looks leave them.
-#[derive(Drop)]
+#[derive(Clone, Copy)]
 pub(crate) struct Looked {
     pub(crate) rule: Rule,
     pub(crate) bounds: Bounds,

@@ -9,7 +9,7 @@ ghost use Rattle.counted.specs.Inner.Numbers.{numbers_of, Fillable, Filled, Leas
 
 use formula::{LITERAL_PLACES, place_at};
 
-#[derive(Drop)]
+#[derive(Clone, Copy)]
 struct Numbers {
     trues: u32, // its true literals
     opens: u32, // its unassigned existential ones

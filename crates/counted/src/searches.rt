@@ -18,7 +18,7 @@ use record::{PLACES, Reached, Rule, State};
 use search::Searched;
 
 // Where one step leads, its reason, and the bounds after it.
-#[derive(Drop)]
+#[derive(Clone, Copy)]
 pub(crate) struct Next {
     reached: Reached,
     reason: u32,

@@ -5,7 +5,7 @@ ghost use Rattle.counted.specs.Inner.Walk.{Lowered, Enterable, CountedIn, Leavab
 use crate::numbers::wide;
 
 // No clause below `conflict` is in conflict, and none below `unit` is a unit clause.
-#[derive(Drop)]
+#[derive(Clone, Copy)]
 pub(crate) struct Bounds {
     pub(crate) conflict: usize,
     pub(crate) unit: usize,

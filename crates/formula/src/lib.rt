@@ -17,7 +17,7 @@ pub use parts::some_stranger;
 pub use places::{LITERAL_PLACES, MIDDLE, place_at};
 
 // What the check answers: a refused block has the number of the first row that applies to it.
-#[derive(Drop)]
+#[derive(Clone, Copy)]
 pub enum Checked {
     Accepted,
     Refused(u32),

@@ -10,7 +10,7 @@ pub use machine::step;
 pub use states::{is_alive, is_fresh, is_inside};
 
 // Where the next word stands.
-#[derive(Drop)]
+#[derive(Clone, Copy)]
 pub enum Place {
     // the first of a line before the problem line; `cnf`; its two numbers
     AtHead,
@@ -28,7 +28,7 @@ pub enum Place {
 }
 
 // Which number it is that is being read; a literal is negative or not.
-#[derive(Drop)]
+#[derive(Clone, Copy)]
 pub enum Slot {
     OfVariables,
     OfCount,
@@ -36,7 +36,7 @@ pub enum Slot {
     OfClause(bool),
 }
 
-#[derive(Drop)]
+#[derive(Clone, Copy)]
 pub enum State {
     // no text goes on so
     Dead,
@@ -55,7 +55,7 @@ pub enum State {
 }
 
 // What a byte says: nothing; that the number 0 stands, or the one whose digits were read; a quantifier; a clause's end.
-#[derive(Drop)]
+#[derive(Clone, Copy)]
 pub enum Says {
     Nothing,
     Zero(Slot),
@@ -65,7 +65,7 @@ pub enum Says {
     Ends,
 }
 
-#[derive(Drop)]
+#[derive(Clone, Copy)]
 pub struct Move {
     pub to: State,
     pub says: Says,

@@ -11,7 +11,7 @@ mod sheets; // the openings of a page, one after the other
 pub use openings::first_group;
 
 // What a page answers: where the next one begins, the entries written, and whether a search didn't end within the budget.
-#[derive(Drop)]
+#[derive(Clone, Copy)]
 pub enum Paged {
     Page {
         next: u32,

@@ -11,7 +11,7 @@ use formula::Checked;
 // [row.22] The most variables that it takes. specs/Solve has the same number.
 const MOST: usize = 24;
 
-#[derive(Drop)]
+#[derive(Clone, Copy)]
 pub enum Opinion {
     Valid,
     Unsat,

@@ -10,7 +10,7 @@ mod bytewise; // one byte
 pub use bytewise::take;
 
 // What is kept of a text so far, beside the words that stand in the output. Counts go up to 2^31 + 1 and no further.
-#[derive(Drop)]
+#[derive(Clone, Copy)]
 pub struct Kept {
     // the announced counts
     pub variables: u32,
@@ -27,7 +27,7 @@ pub struct Kept {
 }
 
 // The reader's state between two bytes. Any words may be handed in.
-#[derive(Drop)]
+#[derive(Clone, Copy)]
 pub struct Reader {
     pub state: State,
     // the value of the digits so far, up to 2^31 + 1

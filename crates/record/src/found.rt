@@ -1,7 +1,7 @@
 // What a search finds.
 
 // A place or a clause.
-#[derive(Drop)]
+#[derive(Clone, Copy)]
 pub enum Found {
     At(usize),
     Nothing,

@@ -2,7 +2,7 @@
 use words::Literal;
 
 // The state of a search.
-#[derive(Drop)]
+#[derive(Clone, Copy)]
 pub enum State {
     Open,
     Valid,
@@ -10,7 +10,7 @@ pub enum State {
 }
 
 // The due rule, with the place and the clause that decide it. Places and clauses count from 0.
-#[derive(Drop)]
+#[derive(Clone, Copy)]
 pub enum Rule {
     BacktrackExists { at: usize, clause: usize },
     Fail { clause: usize },
@@ -23,7 +23,7 @@ pub enum Rule {
 }
 
 // Where a rule leaves a search: the record's length, and the state.
-#[derive(Drop)]
+#[derive(Clone, Copy)]
 pub struct Reached {
     pub count: usize,
     pub state: State,

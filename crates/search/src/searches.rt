@@ -24,7 +24,7 @@ use record::{PLACES, Reached, Rule, State};
 use words::Literal;
 
 // Where a number of steps lead, how many they are, and the reason of the last one, 0 if there is none.
-#[derive(Drop)]
+#[derive(Clone, Copy)]
 pub struct Searched {
     pub reached: Reached,
     pub steps: u32,
@@ -32,7 +32,7 @@ pub struct Searched {
 }
 
 // Where one step leads, and its reason.
-#[derive(Drop)]
+#[derive(Clone, Copy)]
 pub(crate) struct Advanced {
     reached: Reached,
     reason: u32,

@@ -15,14 +15,14 @@ use record::{Reached, State};
 use words::Literal;
 
 // [session.types] A revision and a literal are numbers of different types: neither can stand for the other.
-#[derive(Drop)]
+#[derive(Clone, Copy)]
 pub struct Revision(pub u64);
 
 // 2^64 - 1: no step goes past it.
 const LAST_REVISION: u64 = 18446744073709551615;
 
 // [session] Record length, revision, and open, Valid or Unsat. Any words may be handed in.
-#[derive(Drop)]
+#[derive(Clone, Copy)]
 pub struct Session {
     pub length: usize,
     pub revision: Revision,
@@ -30,21 +30,21 @@ pub struct Session {
 }
 
 // What opening answers.
-#[derive(Drop)]
+#[derive(Clone, Copy)]
 pub enum Answer {
     To(Session),
     Refused(u32),
 }
 
 // What a step answers: the session, and the reason of its rule.
-#[derive(Drop)]
+#[derive(Clone, Copy)]
 pub enum Stepped {
     Next { session: Session, reason: u32 },
     Not(u32),
 }
 
 // What a run answers: the session, the count of accepted steps, and the reason of the last one. A run has paused if its session is still open.
-#[derive(Drop)]
+#[derive(Clone, Copy)]
 pub enum Ran {
     Until {
         session: Session,

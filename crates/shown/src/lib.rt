@@ -11,7 +11,7 @@ mod values; // the values of the first group
 use session::Session;
 
 // What the call answers: how many values it wrote, or the number of the first row that applies.
-#[derive(Drop)]
+#[derive(Clone, Copy)]
 pub enum Told {
     Values(usize),
     Refused(u32),

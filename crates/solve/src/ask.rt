@@ -1,5 +1,5 @@
 // What the arguments ask for: `solve`, `plain`, `list` or `count`, known by the first letter; a budget; and, with any third word, progress.
-#[derive(Drop)]
+#[derive(Clone, Copy)]
 pub(crate) enum Mode {
     Solve,
     Plain,
@@ -8,7 +8,7 @@ pub(crate) enum Mode {
     Unknown,
 }
 
-#[derive(Drop)]
+#[derive(Clone, Copy)]
 pub(crate) struct Request {
     pub(crate) mode: Mode,
     pub(crate) budget: u64,

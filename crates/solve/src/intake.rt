@@ -5,7 +5,7 @@ use reader::Reader;
 use text::Answer;
 
 // What one read brings, and whether it brought any byte. Where nothing comes the input has ended, or can't be read.
-#[derive(Drop)]
+#[derive(Clone, Copy)]
 struct Taken {
     reader: Reader,
     some: bool,

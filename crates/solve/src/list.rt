@@ -15,7 +15,7 @@ fn budget_of(budget: u64) -> u32 {
 }
 
 // How far the pages have come: how many openings have won, where the next page begins, and whether there is one.
-#[derive(Drop)]
+#[derive(Clone, Copy)]
 struct Listed {
     count: u64,
     next: u32,

@@ -8,7 +8,7 @@ use crate::room::LINE_BYTES;
 use formula::MAX_GROUP;
 
 // A literal, as it is written: a minus or none, and the variable.
-#[derive(Drop)]
+#[derive(Clone, Copy)]
 struct Value {
     negative: bool,
     variable: usize,

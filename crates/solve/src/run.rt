@@ -10,7 +10,7 @@ use session::{Answer, Ran, Revision, Session};
 const SLICE: u64 = 65536;
 
 // How far the slices have come, and the number of the refusal that stopped them, or 0.
-#[derive(Drop)]
+#[derive(Clone, Copy)]
 struct Reached {
     session: Session,
     refused: u32,

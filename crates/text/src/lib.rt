@@ -9,7 +9,7 @@ use reader::{Kept, Reader};
 mod ending; // the answer at a text's end
 
 // What reading answers: the block's length; 27 with a byte's place; 28, 29 or 30; 31 with the row.
-#[derive(Drop)]
+#[derive(Clone, Copy)]
 pub enum Answer {
     Accepted(usize),
     Misfit(u64),

@@ -4,7 +4,7 @@
 ghost use Rattle.words.specs.Promises.{NegativePromise, SizePromise, OppositePromise, SizeAtPromise, NegativeAtPromise, TakePromise, DropPromise};
 
 // A literal is +v or -v; any other word may be handed in, and is refused where it matters.
-#[derive(Drop)]
+#[derive(Clone, Copy)]
 pub struct Literal(pub i32);
 
 // Whether a word is below zero.

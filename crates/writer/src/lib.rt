@@ -6,7 +6,7 @@ ghost use Rattle.writer.specs.Promises.{WritePromise};
 mod writing; // the lines, byte by byte
 
 // What writing answers: the text's length, or the number of the first row that applies.
-#[derive(Drop)]
+#[derive(Clone, Copy)]
 pub enum Written {
     Text(usize),
     Refused(u32),

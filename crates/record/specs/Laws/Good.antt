@@ -58,6 +58,7 @@ literals_in : (r : Record) {x : ℤ} → In x (literals r) → (e : Entry) × In
 unfolding literals
 literals_in (e ∷ r) (here z) = (e, here refl, z)
 literals_in (e ∷ r) (there i) = let t = literals_in r i in (t.0, there t.1, t.2)
+literals_in [] x3 = elim x3 [ ]
 
 module _ (F : Formula) (t : Trail) (n : ℕ) where
   -- what a guarded call has shown of the record is what the theory asks of it

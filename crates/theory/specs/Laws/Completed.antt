@@ -67,6 +67,7 @@ literal_stands : (p : List ℤ) (r : Record) → all_suit p r ≡ true → (x : 
 unfolding literals all_suit all
 literal_stands p (e ∷ r) h x (here z) = rw z (suits_stands p e.kind e.literal (and_l (suits p e.kind e.literal) (all_suit p r) h))
 literal_stands p (e ∷ r) h x (there i) = literal_stands p r (and_r (suits p e.kind e.literal) (all_suit p r) h) x i
+literal_stands p [] h x x4 = elim x4 [ ]
 
 given_low : (P vs : List ℤ) → ((x : ℤ) → In x vs → level P x ≡ 0) → below P 1 (given vs) ≡ given vs
 unfolding below given

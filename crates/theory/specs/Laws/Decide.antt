@@ -31,6 +31,7 @@ pub record Above (P : List ℤ) (l : ℤ) (ρ : Assignment) (q y : ℤ) : Type 0
 word_sign : {P p : List ℤ} {w : ℤ} → Ordered P p → In w p → universal P w ≡ negative w
 word_sign (more f u e s o) (here z) = rw z u
 word_sign (more f u e s o) (there i) = word_sign o i
+word_sign {P = P} {w = w} Rattle.formula.specs.Laws.Prefix.none x3 = elim x3 [ ]
 
 -- the value is some g of the values with l and with its opposite, if a fact outlives the literals above l, lets g through their questions,
 -- and makes l's own question g

@@ -37,6 +37,9 @@ level_low s q e (w ∷ p) h x i = rw e (go s (negative w) refl i (λ z. level_lo
     go true true z (there i) ih = let k = deep (in_take (run true p) p i) in let j = ih z i in omega arith
     go false false z (here y) ih = let k = top y in omega arith
     go false false z (there i) ih = let k = deep (in_take (run false p) p i) in let j = ih z i in omega arith
+    go false true z y ih = elim y [ ]
+    go true false z y ih = elim y [ ]
+level_low s q e [] h x i = elim i [ ]
 
 level_high : (s : Bool) (q : ℤ) → negative q ≡ s → (p : List ℤ) → twice p ≡ false → (x : ℤ) → In x (drop (run s p) p) → 0 < change q p + level_of p (nat_abs x)
 unfolding run change level_of
@@ -51,11 +54,13 @@ level_high s q e (w ∷ p) h x i = rw e (go s (negative w) refl i (λ z. level_h
     go true false z i ih = omega arith
     go false true z i ih = omega arith
     go false false z i ih = let k = deep (in_drop (run false p) p i) in let j = ih z i in omega arith
+level_high s q e [] h x i = elim i [ ]
 
 -- of the whole prefix: as if its first word stood before it
 pub group_level : (p : List ℤ) → twice p ≡ false → (x : ℤ) → In x (take (first_group p) p) → level p x ≡ 0
 unfolding first_group level
 group_level (q ∷ p) h x i = let k = level_low (negative q) q refl (q ∷ p) h x i in omega arith
+group_level [] h x i = elim i [ ]
 
 pub rest_level : (p : List ℤ) → twice p ≡ false → (x : ℤ) → In x (drop (first_group p) p) → 0 < level p x
 unfolding first_group level change
@@ -64,6 +69,7 @@ rest_level (q ∷ p) h x i = let k = level_high (negative q) q refl (q ∷ p) h 
     same : (b : Bool) → cond (beq b b) 0 1 ≤ 0
     same true = omega arith
     same false = omega arith
+rest_level [] h x i = elim i [ ]
 
 -- ---- values of the group leave what stands after it
 -- where no variable stands twice, one of the rest does not stand before it
@@ -116,3 +122,4 @@ pub signed_e : (s : ℤ → Bool) (g : List ℤ) {x : ℤ} → In x (signed s g)
 unfolding signed
 signed_e s (q ∷ g) (here e) = (q, here refl, e)
 signed_e s (q ∷ g) (there i) = let (w, j, e) = signed_e s g i in (w, there j, e)
+signed_e s [] x3 = elim x3 [ ]

@@ -108,11 +108,13 @@ rest_e (q ∷ p) ρ {x} i = elim (look (assigned ρ q)) [ inl a ↦ let (j, u) =
     go : assigned ρ q ≡ false → In x (q ∷ rest p ρ) → (In x (rest p ρ) → In x p × (assigned ρ x ≡ false)) → In x (q ∷ p) × (assigned ρ x ≡ false)
     go a (here e) ih = (here e, rw e a)
     go a (there i) ih = let (j, u) = ih i in (there j, u)
+rest_e [] ρ {x = x} i = elim i [ ]
 
 pub rest_i : (p : List ℤ) (ρ : Assignment) {x : ℤ} → In x p → assigned ρ x ≡ false → In x (rest p ρ)
 unfolding rest
 rest_i (q ∷ p) ρ (here e) u = rw (rw e at u) (here e)
 rest_i (q ∷ p) ρ (there i) u = elim (look (assigned ρ q)) [ inl a ↦ rw a (rest_i p ρ i u) | inr a ↦ rw a (there (rest_i p ρ i u)) ]
+rest_i [] ρ x4 u = elim x4 [ ]
 
 -- ---- a formula under a record
 -- the value under a record is the truth of the rest

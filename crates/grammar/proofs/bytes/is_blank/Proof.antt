@@ -4,13 +4,13 @@ use Rattle.grammar.specs.Machine.{blank}
 use Rattle.grammar.proofs.bytes.is_blank.Statement.{statement}
 use Rattle.grammar.proofs.bytes.is_blank.Tie as tie
 
-returns : tie.Need-returns
+returns : tie.Need-returns-then-b-eq32
 unfolding blank
-returns c = simp (eq-eqb _ _ c.if1.true)
+returns c = simp (eq-eqb _ _ c.if-b-eq32.true)
 
-returns-2 : tie.Need-returns-2
+returns-2 : tie.Need-returns
 unfolding blank
-returns-2 c = simp (ne_eqb _ _ c.if1.false)
+returns-2 c = simp (ne_eqb _ _ c.if-b-eq32.false)
 
-pub is-blank-spec : {M : Type 1} → statement M
-is-blank-spec = tie.close (tie.spec returns returns-2)
+pub is_blank_spec : {M : Type 1} → statement M
+is_blank_spec = tie.close (tie.spec returns returns-2)

@@ -4,13 +4,13 @@ use Rattle.grammar.specs.Machine.{move}
 use Rattle.grammar.proofs.machine.after_cn.Statement.{statement}
 use Rattle.grammar.proofs.machine.after_cn.Tie as tie
 
-returns : tie.Need-returns
+returns : tie.Need-returns-then-b-eq102
 unfolding move
-returns c = simp (eq-eqb _ _ c.if1.true)
+returns c = simp (eq-eqb _ _ c.if-b-eq102.true)
 
-returns-2 : tie.Need-returns-2
+returns-2 : tie.Need-returns
 unfolding move
-returns-2 c = simp (ne_eqb _ _ c.if1.false)
+returns-2 c = simp (ne_eqb _ _ c.if-b-eq102.false)
 
-pub after-cn-spec : {M : Type 1} → statement M
-after-cn-spec = tie.close (tie.spec returns returns-2)
+pub after_cn_spec : {M : Type 1} → statement M
+after_cn_spec = tie.close (tie.spec returns returns-2)

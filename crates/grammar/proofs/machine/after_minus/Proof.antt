@@ -4,13 +4,13 @@ use Rattle.grammar.specs.Machine.{move}
 use Rattle.grammar.proofs.machine.after_minus.Statement.{statement}
 use Rattle.grammar.proofs.machine.after_minus.Tie as tie
 
-returns : tie.Need-returns
+returns : tie.Need-returns-then-is_nonzero
 unfolding move
-returns c = simp (sym c.before.is_nonzero.ensures ∙ c.if1.true)
+returns c = simp (sym c.before.is_nonzero.ensures ∙ c.if-is_nonzero.true)
 
-returns-2 : tie.Need-returns-2
+returns-2 : tie.Need-returns
 unfolding move
-returns-2 c = simp (sym c.before.is_nonzero.ensures ∙ c.if1.false)
+returns-2 c = simp (sym c.before.is_nonzero.ensures ∙ c.if-is_nonzero.false)
 
-pub after-minus-spec : {M : Type 1} → statement M
-after-minus-spec = tie.close (tie.spec (λ c κs. tt) returns returns-2)
+pub after_minus_spec : {M : Type 1} → statement M
+after_minus_spec = tie.close (tie.spec (λ c κs. tt) returns returns-2)

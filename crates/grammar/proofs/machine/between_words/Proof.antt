@@ -4,13 +4,13 @@ use Rattle.grammar.specs.Machine.{between}
 use Rattle.grammar.proofs.machine.between_words.Statement.{statement}
 use Rattle.grammar.proofs.machine.between_words.Tie as tie
 
-returns : tie.Need-returns
+returns : tie.Need-returns-then-is_blank
 unfolding between
-returns c = simp (sym c.before.is-blank.ensures ∙ c.if1.true)
+returns c = simp (sym c.before.is_blank.ensures ∙ c.if-is_blank.true)
 
-returns-2 : tie.Need-returns-2
+returns-2 : tie.Need-returns
 unfolding between
-returns-2 c = rw (sym c.before.before.is-blank.ensures ∙ c.before.if1.false) c.choose-at.ensures
+returns-2 c = rw (sym c.before.before.is_blank.ensures ∙ c.before.if-is_blank.false) c.choose_at.ensures
 
-pub between-words-spec : {M : Type 1} → statement M
-between-words-spec = tie.close (tie.spec (λ c κs. tt) returns (λ c κs. tt) returns-2)
+pub between_words_spec : {M : Type 1} → statement M
+between_words_spec = tie.close (tie.spec (λ c κs. tt) returns (λ c κs. tt) returns-2)

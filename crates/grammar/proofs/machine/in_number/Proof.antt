@@ -5,13 +5,13 @@ use Rattle.grammar.specs.declared.Says.TheVariants.{Value}
 use Rattle.grammar.proofs.machine.in_number.Statement.{statement}
 use Rattle.grammar.proofs.machine.in_number.Tie as tie
 
-returns : tie.Need-returns
+returns : tie.Need-returns-then-is_digit
 unfolding move
-returns c = simp (sym c.before.is_digit.ensures ∙ c.if1.true)
+returns c = simp (sym c.before.is_digit.ensures ∙ c.if-is_digit.true)
 
-returns-2 : tie.Need-returns-2
+returns-2 : tie.Need-returns
 unfolding move
-returns-2 c = rw (sym c.before.before.is_digit.ensures ∙ c.before.if1.false) (ap (λ s. saying (Value c.before.before.before.args.slot) s) c.past-number.ensures)
+returns-2 c = rw (sym c.before.before.is_digit.ensures ∙ c.before.if-is_digit.false) (ap (λ s. saying (Value c.before.before.before.args.slot) s) c.past_number-to.ensures)
 
-pub in-number-spec : {M : Type 1} → statement M
-in-number-spec = tie.close (tie.spec (λ c κs. tt) returns (λ c κs. tt) returns-2)
+pub in_number_spec : {M : Type 1} → statement M
+in_number_spec = tie.close (tie.spec (λ c κs. tt) returns (λ c κs. tt) returns-2)

@@ -5,17 +5,17 @@ use Rattle.grammar.specs.Machine.{move}
 use Rattle.grammar.proofs.machine.in_remark.Statement.{statement}
 use Rattle.grammar.proofs.machine.in_remark.Tie as tie
 
-returns : tie.Need-returns
+returns : tie.Need-returns-then-is_printable
 unfolding move
-returns c = simp (sym c.before.is-printable.ensures ∙ c.if1.true)
+returns c = simp (sym c.before.is_printable.ensures ∙ c.if-is_printable.true)
 
-returns-2 : tie.Need-returns-2
+returns-2 : tie.Need-returns-then-b-eq10
 unfolding move
-returns-2 c = simp (sym c.before.before.is-printable.ensures ∙ c.before.if1.false, eq-eqb _ _ c.if2.true)
+returns-2 c = simp (sym c.before.before.is_printable.ensures ∙ c.before.if-is_printable.false, eq-eqb _ _ c.if-b-eq10.true)
 
-returns-3 : tie.Need-returns-3
+returns-3 : tie.Need-returns
 unfolding move
-returns-3 c = simp (sym c.before.before.is-printable.ensures ∙ c.before.if1.false, ne_eqb _ _ c.if2.false)
+returns-3 c = simp (sym c.before.before.is_printable.ensures ∙ c.before.if-is_printable.false, ne_eqb _ _ c.if-b-eq10.false)
 
-pub in-remark-spec : {M : Type 1} → statement M
-in-remark-spec = tie.close (tie.spec (λ c κs. tt) returns returns-2 returns-3)
+pub in_remark_spec : {M : Type 1} → statement M
+in_remark_spec = tie.close (tie.spec (λ c κs. tt) returns returns-2 returns-3)

@@ -4,13 +4,13 @@ use Rattle.grammar.specs.Machine.{parted}
 use Rattle.grammar.proofs.machine.parted_by.Statement.{statement}
 use Rattle.grammar.proofs.machine.parted_by.Tie as tie
 
-returns : tie.Need-returns
+returns : tie.Need-returns-then-is_blank
 unfolding parted
-returns c = simp (sym c.before.is-blank.ensures ∙ c.if1.true)
+returns c = simp (sym c.before.is_blank.ensures ∙ c.if-is_blank.true)
 
-returns-2 : tie.Need-returns-2
+returns-2 : tie.Need-returns
 unfolding parted
-returns-2 c = simp (sym c.before.is-blank.ensures ∙ c.if1.false)
+returns-2 c = simp (sym c.before.is_blank.ensures ∙ c.if-is_blank.false)
 
-pub parted-by-spec : {M : Type 1} → statement M
-parted-by-spec = tie.close (tie.spec (λ c κs. tt) returns returns-2)
+pub parted_by_spec : {M : Type 1} → statement M
+parted_by_spec = tie.close (tie.spec (λ c κs. tt) returns returns-2)

@@ -5,24 +5,24 @@ use borrow.Author.Rules.{rules}
 use Rattle.grammar.proofs.machine.past_number.Statement.{statement}
 use Rattle.grammar.proofs.machine.past_number.Tie as tie
 
-returns : tie.Need-returns
+returns : tie.Need-returns-in-OfVariables
 unfolding past
-returns c = rw c.before.enum_told.given.1 c.parted-by.ensures
+returns c = rw c.before.in-OfVariables.is c.parted_by.ensures
 
-returns-2 : tie.Need-returns-2
+returns-2 : tie.Need-returns-in-OfCount
 unfolding past
-returns-2 c = rw c.before.enum-told2.given.1 (ap (λ m. m.to) c.between-words.ensures)
+returns-2 c = rw c.before.in-OfCount.is (ap (λ m. m.to) c.between_words-m.ensures)
 
-returns-3 : tie.Need-returns-3
+returns-3 : tie.Need-returns-in-OfGroup
 unfolding past
-returns-3 c = rw c.before.enum-told3.given.1 c.parted-by2.ensures
+returns-3 c = rw c.before.in-OfGroup.is c.parted_by-in-OfGroup.ensures
 
-returns-4 : tie.Need-returns-4
+returns-4 : tie.Need-returns-in-OfClause
 unfolding past
-returns-4 c = rw c.before.enum-told4.given.1 c.parted-by3.ensures
+returns-4 c = rw c.before.in-OfClause.is c.parted_by-in-OfClause.ensures
 
-pub past-number-spec : {M : Type 1} → statement M
-past-number-spec =
+pub past_number_spec : {M : Type 1} → statement M
+past_number_spec =
     tie.close
     (tie.spec
     (λ c. search rules)

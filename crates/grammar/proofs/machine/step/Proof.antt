@@ -5,41 +5,41 @@ use borrow.Author.Rules.{rules}
 use Rattle.grammar.proofs.machine.step.Statement.{statement}
 use Rattle.grammar.proofs.machine.step.Tie as tie
 
-returns : tie.Need-returns
+returns : tie.Need-returns-in-Dead
 unfolding move
-returns c = rw c.before.enum_told.given.1 c.silent.ensures
+returns c = rw c.before.in-Dead.is c.silent.ensures
 
-returns-2 : tie.Need-returns-2
+returns-2 : tie.Need-returns-in-Fresh
 unfolding move
-returns-2 c = rw c.before.before.state.given.1 c.between-words.ensures
+returns-2 c = rw c.before.in-Fresh.is c.between_words.ensures
 
-returns-3 : tie.Need-returns-3
+returns-3 : tie.Need-returns-in-Before
 unfolding move
-returns-3 c = rw c.before.before.state2.given.1 c.between-words2.ensures
+returns-3 c = rw c.before.in-Before.is c.between_words-in-Before.ensures
 
-returns-4 : tie.Need-returns-4
+returns-4 : tie.Need-returns-in-Parted
 unfolding move
-returns-4 c = rw c.before.before.before.state3.given.1 (c.silent2.ensures ∙ ap (λ s. silent s) c.before.parted-by.ensures)
+returns-4 c = rw c.before.before.in-Parted.is (c.silent-in-Parted.ensures ∙ ap (λ s. silent s) c.before.parted_by.ensures)
 
-returns-5 : tie.Need-returns-5
+returns-5 : tie.Need-returns-in-InNumber
 unfolding move
-returns-5 c = rw c.before.before.state4.given.1 c.in-number.ensures
+returns-5 c = rw c.before.in-InNumber.is c.in_number.ensures
 
-returns-6 : tie.Need-returns-6
+returns-6 : tie.Need-returns-in-Remark
 unfolding move
-returns-6 c = rw c.before.before.enum-told2.given.1 (c.silent3.ensures ∙ ap (λ s. silent s) c.before.in-remark.ensures)
+returns-6 c = rw c.before.before.in-Remark.is (c.silent-in-Remark.ensures ∙ ap (λ s. silent s) c.before.in_remark.ensures)
 
-returns-7 : tie.Need-returns-7
+returns-7 : tie.Need-returns-in-AfterC
 unfolding move
-returns-7 c = rw c.before.before.enum-told3.given.1 (c.silent4.ensures ∙ ap (λ s. silent s) c.before.after-c.ensures)
+returns-7 c = rw c.before.before.in-AfterC.is (c.silent-in-AfterC.ensures ∙ ap (λ s. silent s) c.before.after_c.ensures)
 
-returns-8 : tie.Need-returns-8
+returns-8 : tie.Need-returns-in-AfterCn
 unfolding move
-returns-8 c = rw c.before.before.enum-told4.given.1 (c.silent5.ensures ∙ ap (λ s. silent s) c.before.after-cn.ensures)
+returns-8 c = rw c.before.before.in-AfterCn.is (c.silent-in-AfterCn.ensures ∙ ap (λ s. silent s) c.before.after_cn.ensures)
 
-returns-9 : tie.Need-returns-9
+returns-9 : tie.Need-returns-in-AfterMinus
 unfolding move
-returns-9 c = rw c.before.before.enum-told5.given.1 (c.silent6.ensures ∙ ap (λ s. silent s) c.before.after_minus.ensures)
+returns-9 c = rw c.before.before.in-AfterMinus.is (c.silent-in-AfterMinus.ensures ∙ ap (λ s. silent s) c.before.after_minus.ensures)
 
 pub step_spec : {M : Type 1} → statement M
 step_spec =

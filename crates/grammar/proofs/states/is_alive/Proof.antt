@@ -24,12 +24,12 @@ rest AfterC o = refl
 rest AfterCn o = refl
 rest AfterMinus o = refl
 
-returns : tie.Need-returns
+returns : tie.Need-returns-in-Dead
 unfolding alive
 returns c = search rules
 
-returns-2 : tie.Need-returns-2
-returns-2 c = rest c.before.args.state c.match.keys2
+returns-2 : tie.Need-returns-in_default
+returns-2 c = rest c.before.args.state c.in_default.in_default-own.keys2
 
-pub is-alive-spec : {M : Type 1} → statement M
-is-alive-spec = tie.close (tie.spec (λ c. search rules) returns returns-2)
+pub is_alive_spec : {M : Type 1} → statement M
+is_alive_spec = tie.close (tie.spec (λ c. search rules) returns returns-2)

@@ -23,8 +23,8 @@ rest AfterC o = refl
 rest AfterCn o = refl
 rest AfterMinus o = refl
 
-returns-2 : tie.Need-returns-2
-returns-2 c = rest c.before.args.state c.match.keys2
+returns-2 : tie.Need-returns-in_default
+returns-2 c = rest c.before.args.state c.in_default.in_default-own.keys2
 
-pub is-inside-spec : {M : Type 1} → statement M
-is-inside-spec = tie.close (tie.spec (λ c. search rules) (λ c. search rules) returns-2)
+pub is_inside_spec : {M : Type 1} → statement M
+is_inside_spec = tie.close (tie.spec (λ c. search rules) (λ c. search rules) returns-2)

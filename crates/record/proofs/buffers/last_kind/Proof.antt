@@ -8,26 +8,26 @@ use Rattle.record.proofs.Places.{last_here, last_past, last_end}
 use Rattle.record.proofs.buffers.last_kind.Statement.{statement}
 use Rattle.record.proofs.buffers.last_kind.Tie as tie
 
-abbrev invariant-loop : tie.invariant-loop
+abbrev invariant-loop : tie.invariant-loop-i
 invariant-loop kinds count kind i₀ i = (i ≤ count) × (last_kind kinds kind i ≡ last_kind kinds kind count)
 
-abbrev decreases-loop : tie.decreases-loop
+abbrev decreases-loop : tie.decreases-loop-i
 decreases-loop kinds count kind i₀ i = i
 
-returns : tie.Need-returns invariant-loop decreases-loop
+returns : tie.Need-returns-then-kinds-i invariant-loop decreases-loop
 returns c =
     let turn = c.before.before in
-    sym (last_here _ _ _ turn.loop-test.true c.if1.true) ∙ turn.before.loop.invariant.1
+    sym (last_here _ _ _ turn.loop-i-test.true c.if-kinds-i.true) ∙ turn.before.loop-i.invariant.1
 
-loop-again : tie.Need-loop-preserved invariant-loop decreases-loop
+loop-again : tie.Need-loop-i-preserved invariant-loop decreases-loop
 loop-again c =
     let turn = c.before.before in
-    (omega arith, last_past _ _ _ turn.loop-test.true c.if1.false ∙ turn.before.loop.invariant.1)
+    (omega arith, last_past _ _ _ turn.loop-i-test.true c.if-kinds-i.false ∙ turn.before.loop-i.invariant.1)
 
-returns-2 : tie.Need-returns-2 invariant-loop decreases-loop
-returns-2 c = sym (last_end _ _ _ c.loop-test.false) ∙ c.before.loop.invariant.1
+returns-2 : tie.Need-returns invariant-loop decreases-loop
+returns-2 c = sym (last_end _ _ _ c.loop-i-test.false) ∙ c.before.loop-i.invariant.1
 
-pub last-kind-spec : {M : Type 1} → statement M
-last-kind-spec =
+pub last_kind_spec : {M : Type 1} → statement M
+last_kind_spec =
     tie.close
     (tie.spec invariant-loop decreases-loop (λ c. search rules) (λ c. omega arith) (λ c. omega arith) returns (λ c. omega arith) loop-again returns-2)

@@ -7,23 +7,23 @@ use Rattle.record.proofs.Places.{Wiping, wiping_begin, wiping_more, wiping_end, 
 use Rattle.record.proofs.buffers.wipe_lits.Statement.{statement}
 use Rattle.record.proofs.buffers.wipe_lits.Tie as tie
 
-abbrev invariant-loop : tie.invariant-loop
+abbrev invariant-loop : tie.invariant-loop-i
 invariant-loop lits₀ from to i₀ lits i = Wiping (pos 0) from to lits₀ i lits
 
-abbrev decreases-loop : tie.decreases-loop
+abbrev decreases-loop : tie.decreases-loop-i
 decreases-loop lits₀ from to i₀ lits i = to - i
 
-returns : tie.Need-returns invariant-loop decreases-loop
-returns c = wiping_past c.before.before.loop.invariant c.if1.true
+returns : tie.Need-returns-then-lits-i invariant-loop decreases-loop
+returns c = wiping_past c.before.before.loop-i.invariant c.if-lits-i.true
 
-loop-again : tie.Need-loop-preserved invariant-loop decreases-loop
-loop-again c = wiping_more c.before.before.loop.invariant c.before.loop-test.true
+loop-again : tie.Need-loop-i-preserved invariant-loop decreases-loop
+loop-again c = wiping_more c.before.before.loop-i.invariant c.before.loop-i-test.true
 
-returns-2 : tie.Need-returns-2 invariant-loop decreases-loop
-returns-2 c = wiping_end c.before.loop.invariant c.loop-test.false
+returns-2 : tie.Need-returns invariant-loop decreases-loop
+returns-2 c = wiping_end c.before.loop-i.invariant c.loop-i-test.false
 
-pub wipe-lits-spec : {M : Type 1} → statement M
-wipe-lits-spec =
+pub wipe_lits_spec : {M : Type 1} → statement M
+wipe_lits_spec =
     tie.close
     (tie.spec invariant-loop decreases-loop (λ c. wiping_begin) (λ c. search rules) returns (λ c. omega arith) (λ c. omega arith) (λ c. omega arith)
     (λ c. omega arith) loop-again (λ c. search rules) returns-2)

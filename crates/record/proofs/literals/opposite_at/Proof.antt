@@ -14,13 +14,13 @@ use Rattle.record.proofs.literals.opposite_at.Tie as tie
 
 returns : tie.Need-returns
 returns c =
-    let l = c.before.before.literal-at.result.0 in
-    let back : to_z w32 (of_z w32 l) ≡ l = to_z-of_z w32 l (record { sfits = c.before.struct_told.given.0.1 }) in
+    let l = c.before.before.literal_at-l.result.0 in
+    let back : to_z w32 (of_z w32 l) ≡ l = to_z-of_z w32 l (record { sfits = c.before.struct_told-1.given.0.1 }) in
     ap literal
-    (to_z-of_z w32 c.opposite.result (sfits_of c.opposite.type-inv)
-    ∙ c.opposite.ensures
-    ∙ ap opposite (back ∙ ap (λ z. z.0) c.before.before.literal-at.ensures)
+    (to_z-of_z w32 c.opposite-word.result (sfits_of c.opposite-word.type-inv)
+    ∙ c.opposite-word.ensures
+    ∙ ap opposite (back ∙ ap (λ z. z.0) c.before.before.literal_at-l.ensures)
     ∙ opposite_is _ (le_trans c.before.before.before.requires variables_small))
 
-pub opposite-at-spec : {M : Type 1} → statement M
-opposite-at-spec = tie.close (tie.spec (λ c κs. search rules) (λ c κs. search rules) returns)
+pub opposite_at_spec : {M : Type 1} → statement M
+opposite_at_spec = tie.close (tie.spec (λ c κs. search rules) (λ c κs. search rules) returns)
