@@ -13,10 +13,10 @@ unfolding laid_in
 returns c =
     let d = c.before.before.before.before in
     let a = d.before.before.args in
-    c.before.write-header.ensures ∙ ap (λ (o : List ℤ). sets o 0 (header a.v a.c a.t)) d.complete.ensures
+    c.before.write_header.ensures ∙ ap (λ (o : List ℤ). sets o 0 (header a.v a.c a.t)) d.complete.ensures
 
-pub lay-spec : {M : Type 1} → statement M
-lay-spec =
+pub lay_spec : {M : Type 1} → statement M
+lay_spec =
     tie.close
     (tie.spec
     (λ c. search rules)

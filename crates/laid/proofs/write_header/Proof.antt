@@ -18,8 +18,8 @@ returns c =
     let n = s.args.c in
     c.before.copy.ensures ∙ rw (word v (omega (arith, h.offsets)), word n (omega (arith, h.offsets)), word s.args.t h.literals, word (6 + v) (omega (arith, h.offsets)), word (6 + v + n) h.offsets)
 
-pub write-header-spec : {M : Type 1} → statement M
-write-header-spec =
+pub write_header_spec : {M : Type 1} → statement M
+write_header_spec =
     tie.close
     (tie.spec
     (λ c. search rules)

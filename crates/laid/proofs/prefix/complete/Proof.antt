@@ -30,14 +30,14 @@ start1 c = c.before.before.before.before
 table1 : (c : tie.After-mark) → c.mark.new.1.0 ≡ marked (replicate (max_variables + 1) false) (lines (start1 c).requires)
 table1 c = let b = (start1 c).args.bound in let e : 6 + b - 6 ≡ b = omega arith in rw e at c.mark.ensures
 
-abbrev start2 : tie.After-mark2 → tie.Start
+abbrev start2 : tie.After-mark-2 → tie.Start
 start2 c = start1 c.before.before.before.before
 
-table2 : (c : tie.After-mark2) → c.mark2.new.1.0 ≡ marked (replicate (max_variables + 1) false) (named (start2 c).requires)
+table2 : (c : tie.After-mark-2) → c.mark-2.new.1.0 ≡ marked (replicate (max_variables + 1) false) (named (start2 c).requires)
 table2 c =
     let a = (start2 c).args in
     let e : a.from + a.t - a.from ≡ a.t = omega arith in
-    rw e at c.mark2.ensures
+    rw e at c.mark-2.ensures
 
 copy-requires : tie.Need-copy-requires
 copy-requires c κs =
@@ -76,14 +76,14 @@ idle-here c =
     let s = start3 c in
     ap₂ (λ (a b : List Bool). those (picked a b false) 1 s.args.v) (table1 m.before.before.before.before) (table2 m) ∙ picked_idle (max_variables + 1) s.args.v (room s) (lines s.pre) (named s.pre)
 
-part-write-prefix-end : tie.Need-slice-bounds-write-prefix-end
+part-write-prefix-end : tie.Need-slice_bounds-write_prefix-end
 part-write-prefix-end c =
     let k = c.before.before.before.before.before in
     let s = start3 k in
     let e : length k.copy.new.1.0 ≡ max_variables = ap length (table3 k) ∙ length-sets (replicate max_variables (pos 0)) 0 (lines s.pre) ∙ length-replicate max_variables (pos 0) in
     omega (arith, e, s.pre.few, s.pre.words, variables_are)
 
-write-prefix-requires : tie.Need-write-prefix-requires
+write-prefix-requires : tie.Need-write_prefix-requires
 write-prefix-requires c κs =
     let k = c.before.before.before.before.before.before in
     let r = (start3 k).requires in
@@ -94,10 +94,10 @@ unfolding completed
 returns c =
     let k = c.before.before.before.before.before.before.before.before in
     let join = ap₂ (λ (xs ys : List ℤ). xs ++ ys) (ap₂ (λ (xs ys : List ℤ). xs ++ ys) (free-here k) (copied k)) (idle-here k) in
-    c.before.write-prefix.ensures ∙ ap (λ (ws : List ℤ). sets (start3 k).args.output.now 6 ws) join
+    c.before.write_prefix.ensures ∙ ap (λ (ws : List ℤ). sets (start3 k).args.output.now 6 ws) join
 
-pub complete-spec : {M : Type 1} → statement M
-complete-spec =
+pub complete_spec : {M : Type 1} → statement M
+complete_spec =
     tie.close
     (tie.spec
     (λ c. search rules)

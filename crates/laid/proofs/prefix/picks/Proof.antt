@@ -5,29 +5,29 @@ use Rattle.laid.specs.Inner.Marks.{picked}
 use Rattle.laid.proofs.prefix.picks.Statement.{statement}
 use Rattle.laid.proofs.prefix.picks.Tie as tie
 
-element-copy-out-if1 : tie.Need-element-copy-out-if1
+element-copy-out-if1 : tie.Need-bounds-bound-v
 element-copy-out-if1 c = omega (arith, variables_are)
 
-returns : tie.Need-returns
+returns : tie.Need-returns-then-bound-v
 unfolding picked
-returns c = rw c.if1.true
+returns c = rw c.if-bound-v.true
 
-element-copy-out-result : tie.Need-element-copy-out-result
-element-copy-out-result c = omega (arith, variables_are, c.before.before.before.requires)
+element-copy-out-result : tie.Need-bounds-named-v
+element-copy-out-result c = omega (arith, variables_are, c.before.before.before.before.before.requires)
 
-returns-2 : tie.Need-returns-2
+returns-2 : tie.Need-returns-then-wanted
 unfolding picked
-returns-2 c = rw (c.before.before.if1.false, c.before.if2.true)
+returns-2 c = rw (c.before.before.before.if-bound-v.false, c.before.before.if-wanted.true)
 
-element-copy-out-result-2 : tie.Need-element-copy-out-result-2
-element-copy-out-result-2 c = omega (arith, variables_are, c.before.before.before.requires)
+element-copy-out-result-2 : tie.Need-bounds-named-v-2
+element-copy-out-result-2 c = omega (arith, variables_are, c.before.before.before.before.before.requires)
 
-returns-3 : tie.Need-returns-3
+returns-3 : tie.Need-returns
 unfolding picked
-returns-3 c = rw (c.before.before.if1.false, c.before.if2.false)
+returns-3 c = rw (c.before.before.before.if-bound-v.false, c.before.before.if-wanted.false)
 
-pub picks-spec : {M : Type 1} → statement M
-picks-spec =
+pub picks_spec : {M : Type 1} → statement M
+picks_spec =
     tie.close
     (tie.spec
     element-copy-out-if1

@@ -19,15 +19,15 @@ use Rattle.laid.proofs.prefix.write_prefix.Tie as tie
 abbrev run : Bool → tie.Start → List ℤ
 run wanted s = those (picked s.args.bound.now s.args.named.now wanted) 1 s.args.v
 
-write-those-requires : tie.Need-write-those-requires
+write-those-requires : tie.Need-write_those-first-requires
 write-those-requires c κs = (c.before.requires.0, omega (arith, c.before.requires.1))
 
 -- after the free ones
-past-free : (c : tie.After-write-those) → c.write-those.result ≡ 6 + length (run true c.before.before)
-past-free c = ap (λ (u : Outcome (List ℤ) ℕ). u.answer) c.write-those.ensures
+past-free : (c : tie.After-write_those-first) → c.write_those-first.result ≡ 6 + length (run true c.before.before)
+past-free c = ap (λ (u : Outcome (List ℤ) ℕ). u.answer) c.write_those-first.ensures
 
-with-free : (c : tie.After-write-those) → let s = c.before.before in c.write-those.new.0 ≡ sets s.args.output.now 6 (run true s)
-with-free c = ap (λ (u : Outcome (List ℤ) ℕ). u.memory) c.write-those.ensures
+with-free : (c : tie.After-write_those-first) → let s = c.before.before in c.write_those-first.new.0 ≡ sets s.args.output.now 6 (run true s)
+with-free c = ap (λ (u : Outcome (List ℤ) ℕ). u.memory) c.write_those-first.ensures
 
 copy-requires : tie.Need-copy-requires
 copy-requires c κs =
@@ -41,12 +41,12 @@ with-words c =
     let w = c.before.before.before in
     c.copy.ensures ∙ ap₂ (λ (o : List ℤ) (n : ℕ). sets o n w.before.before.args.lines.now) (with-free w) (past-free w)
 
-add-write-those : tie.Need-overflow-add-write-those
+add-write-those : tie.Need-overflow_add-first
 add-write-those c =
     let w = c.before.before.before.before.before in
-    omega (arith, past-free w, w.before.before.requires.1, w.before.before.well-formed)
+    omega (arith, past-free w, w.before.before.requires.1, w.before.before.well_formed)
 
-write-those-requires-2 : tie.Need-write-those-requires-2
+write-those-requires-2 : tie.Need-write_those-last-requires
 write-those-requires-2 c κs =
     let k = c.before.before in
     let w = k.before.before.before in
@@ -60,12 +60,12 @@ returns c =
     let k = c.before.before.before.before in
     let w = k.before.before.before in
     let s = w.before.before in
-    let e = ap (λ (u : Outcome (List ℤ) ℕ). u.memory) c.before.write-those2.ensures in
-    let n : w.write-those.result + length s.args.lines.now ≡ 6 + length (run true s) + length s.args.lines.now = omega (arith, past-free w) in
+    let e = ap (λ (u : Outcome (List ℤ) ℕ). u.memory) c.before.write_those-last.ensures in
+    let n : w.write_those-first.result + length s.args.lines.now ≡ 6 + length (run true s) + length s.args.lines.now = omega (arith, past-free w) in
     e ∙ ap₂ (λ (o : List ℤ) (i : ℕ). sets o i (run false s)) (with-words k) n ∙ three_runs (run true s) s.args.lines.now (run false s) s.args.output.now 6
 
-pub write-prefix-spec : {M : Type 1} → statement M
-write-prefix-spec =
+pub write_prefix_spec : {M : Type 1} → statement M
+write_prefix_spec =
     tie.close
     (tie.spec
     write-those-requires

@@ -10,7 +10,7 @@ unfolding byte_of shift
 returns c =
     let n = c.before in
     let k = n.before.before in
-    rw (← k.before.before.step.ensures, ← k.keep.ensures, ← n.next-number.ensures, ← c.next_place.ensures)
+    rw (← k.before.before.step-went.ensures, ← k.keep-keeps.ensures, ← n.next_number-next.ensures, ← c.next_place-place.ensures)
 
 pub take_spec : {M : Type 1} → statement M
 take_spec =

@@ -5,10 +5,10 @@ use Rattle.reader.proofs.keep.announce.Tie as tie
 
 returns : tie.Need-returns
 unfolding keep
-returns c = rw (c.either.ensures, c.before.is-beyond.ensures, c.before.before.cap.ensures)
+returns c = rw (c.either.ensures, c.before.is_beyond.ensures, c.before.before.cap-v.ensures)
 
-pub announce-spec : {M : Type 1} → statement M
-announce-spec =
+pub announce_spec : {M : Type 1} → statement M
+announce_spec =
     tie.close
     (tie.spec
     (λ c κs. tt)

@@ -21,18 +21,18 @@ small false n h = h
 small true zero h = refl
 small true (suc n) h = let k = ltb-false 2147483647 (suc n) h in le-ltb 2147483647 n (omega arith)
 
-stored-word-requires : tie.Need-stored-word-requires
-stored-word-requires c κs h = let d = c.before.before in small d.before.before.args.kept.universal d.before.cap.result (sym d.is-beyond.ensures ∙ h)
+stored-word-requires : tie.Need-stored_word-requires
+stored-word-requires c κs h = let d = c.before.before in small d.before.before.args.kept.universal d.before.cap-m.result (sym d.is_beyond-beyond.ensures ∙ h)
 
 returns : tie.Need-returns
 unfolding keep
 returns c =
     let p = c.before.before.before.before.before in
     let b = p.before.before.before.before in
-    rw (p.put.ensures, to_z-of_z w32 p.before.stored-word.result (sfits_of p.before.stored-word.type-inv), p.before.stored-word.ensures, c.either2.ensures, c.before.is-strange.ensures, c.before.before.either.ensures, c.before.before.before.cap2.ensures, add-one, b.is-beyond.ensures, b.before.cap.ensures)
+    rw (p.put.ensures, to_z-of_z w32 p.before.stored_word.result (sfits_of p.before.stored_word.type_inv), p.before.stored_word.ensures, c.either-2.ensures, c.before.is_strange.ensures, c.before.before.either.ensures, c.before.before.before.cap.ensures, add-one, b.is_beyond-beyond.ensures, b.before.cap-m.ensures)
 
-pub bind-spec : {M : Type 1} → statement M
-bind-spec =
+pub bind_spec : {M : Type 1} → statement M
+bind_spec =
     tie.close
     (tie.spec
     (λ c κs. tt)

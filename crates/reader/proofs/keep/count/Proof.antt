@@ -5,7 +5,7 @@ use Rattle.reader.proofs.keep.count.Tie as tie
 
 returns : tie.Need-returns
 unfolding keep
-returns c = rw (c.either.ensures, c.before.is-beyond.ensures, c.before.before.cap.ensures)
+returns c = rw (c.either.ensures, c.before.is_beyond.ensures, c.before.before.cap-c.ensures)
 
 pub count_spec : {M : Type 1} → statement M
 count_spec =

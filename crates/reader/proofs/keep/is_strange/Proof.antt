@@ -3,14 +3,14 @@ use borrow.Author.Tests.{eq-eqb, ne_eqb}
 use Rattle.reader.proofs.keep.is_strange.Statement.{statement}
 use Rattle.reader.proofs.keep.is_strange.Tie as tie
 
-returns : tie.Need-returns
-returns c = rw (eq-eqb c.before.args.n 0 c.if1.true)
+returns : tie.Need-returns-then-n-eq0
+returns c = rw (eq-eqb c.before.args.n 0 c.if-n-eq0.true)
 
-returns-2 : tie.Need-returns-2
-returns-2 c = rw (ne_eqb c.before.args.n 0 c.if1.false)
+returns-2 : tie.Need-returns-else-n-eq0
+returns-2 c = rw (ne_eqb c.before.args.n 0 c.if-n-eq0.false)
 
-pub is-strange-spec : {M : Type 1} → statement M
-is-strange-spec =
+pub is_strange_spec : {M : Type 1} → statement M
+is_strange_spec =
     tie.close
     (tie.spec
     returns

@@ -4,22 +4,22 @@ use borrow.Author.Rules.{rules}
 use Rattle.reader.proofs.keep.number.Statement.{statement}
 use Rattle.reader.proofs.keep.number.Tie as tie
 
-returns : tie.Need-returns
+returns : tie.Need-returns-in-OfVariables
 unfolding keep
-returns c = rw (c.before.enum_told.given.1, c.announce.ensures)
+returns c = rw (c.before.in-OfVariables.is, c.announce.ensures)
 
-returns-2 : tie.Need-returns-2
+returns-2 : tie.Need-returns-in-OfCount
 unfolding keep
-returns-2 c = rw (c.before.enum-told2.given.1, c.count.ensures)
+returns-2 c = rw (c.before.in-OfCount.is, c.count.ensures)
 
-returns-3 : tie.Need-returns-3
-returns-3 c = rw c.before.before.before.enum-told3.given.1 c.before.bind.ensures
+returns-3 : tie.Need-returns-in-OfGroup
+returns-3 c = rw c.before.before.before.in-OfGroup.is c.before.bind.ensures
 
-returns-4 : tie.Need-returns-4
-returns-4 c = rw c.before.before.before.before.slot.given.1 c.before.hold.ensures
+returns-4 : tie.Need-returns-in-OfClause
+returns-4 c = rw c.before.before.before.in-OfClause.is c.before.hold.ensures
 
-pub number-spec : {M : Type 1} → statement M
-number-spec =
+pub number_spec : {M : Type 1} → statement M
+number_spec =
     tie.close
     (tie.spec
     (λ c. search rules)

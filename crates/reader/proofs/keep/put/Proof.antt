@@ -7,11 +7,11 @@ use borrow.Author.Rules.{rules}
 use Rattle.reader.proofs.keep.put.Statement.{statement}
 use Rattle.reader.proofs.keep.put.Tie as tie
 
-returns : tie.Need-returns
+returns : tie.Need-returns-then-at-output
 returns c = rw (to_z-of_z w32 c.before.args.word c.before.ranges.word)
 
-returns-2 : tie.Need-returns-2
-returns-2 c = sym (set_out c.before.args.output.now c.before.args.at c.before.args.word c.if1.false)
+returns-2 : tie.Need-returns-else-at-output
+returns-2 c = sym (set_out c.before.args.output.now c.before.args.at c.before.args.word c.if-at-output.false)
 
 pub put_spec : {M : Type 1} → statement M
 put_spec =

@@ -20,12 +20,12 @@ below (suc n) = elim (dec_le n 2147483647) [
   | no h ↦ rw (lt-ltb 2147483647 n (omega arith)) (lt-ltb 2147483648 (suc n) (omega arith))
 ]
 
-returns : tie.Need-returns
-returns c = rw c.if1.true (below c.before.args.n)
+returns : tie.Need-returns-then-negative
+returns c = rw c.if-negative.true (below c.before.args.n)
 
-returns-2 : tie.Need-returns-2
+returns-2 : tie.Need-returns
 unfolding beyond
-returns-2 c = rw c.if1.false
+returns-2 c = rw c.if-negative.false
 
-pub is-beyond-spec : {M : Type 1} → statement M
-is-beyond-spec = tie.close (tie.spec (λ c. search rules) returns returns-2)
+pub is_beyond_spec : {M : Type 1} → statement M
+is_beyond_spec = tie.close (tie.spec (λ c. search rules) returns returns-2)

@@ -5,14 +5,14 @@ use borrow.Author.Rules.{rules}
 use Rattle.reader.proofs.numbers.next_place.Statement.{statement}
 use Rattle.reader.proofs.numbers.next_place.Tie as tie
 
-returns : tie.Need-returns
-returns c = rw (sym c.before.before.is-alive.ensures ∙ c.before.if1.true) (omega arith)
+returns : tie.Need-returns-then-at-lt-LAST_PLACE
+returns c = rw (sym c.before.before.is_alive.ensures ∙ c.before.if-is_alive.true) (omega arith)
 
-returns-2 : tie.Need-returns-2
-returns-2 c = rw (sym c.before.before.is-alive.ensures ∙ c.before.if1.true) (omega arith)
+returns-2 : tie.Need-returns-then-is_alive
+returns-2 c = rw (sym c.before.before.is_alive.ensures ∙ c.before.if-is_alive.true) (omega arith)
 
-returns-3 : tie.Need-returns-3
-returns-3 c = rw (sym c.before.is-alive.ensures ∙ c.if1.false)
+returns-3 : tie.Need-returns
+returns-3 c = rw (sym c.before.is_alive.ensures ∙ c.if-is_alive.false)
 
-pub next-place-spec : {M : Type 1} → statement M
-next-place-spec = tie.close (tie.spec (λ c κs. tt) (λ c. search rules) returns returns-2 returns-3)
+pub next_place_spec : {M : Type 1} → statement M
+next_place_spec = tie.close (tie.spec (λ c κs. tt) (λ c. search rules) returns returns-2 returns-3)

@@ -30,38 +30,38 @@ negation_fits : (n : ℕ) → n ≤ 2147483647 → SFits w32 (neg_ℤ (pos n))
 negation_fits zero h = record { sfits = lit< tt }
 negation_fits (suc n) h = record { sfits = omega arith }
 
-returns : tie.Need-returns
+returns : tie.Need-returns-then-large
 unfolding stored
-returns c = rw c.if1.true
+returns c = rw c.if-large.true
 
-returns-2 : tie.Need-returns-2
+returns-2 : tie.Need-returns-then-n
 unfolding stored
-returns-2 c = rw (c.before.before.if1.false, c.before.if2.true, c.if3.true)
+returns-2 c = rw (c.before.before.if-large.false, c.before.if-negative.true, c.if-n.true)
 
 -- the number, after each test
-below : (c : tie.Else3) → c.before.before.before.args.n ≤ 2147483647
-below c = let d = c.before.before in let k = minus d.before.args.n (rw c.before.if2.true at (d.before.requires d.if1.false)) in omega (arith, c.if3.false)
+below : (c : tie.Else-n) → c.before.before.before.args.n ≤ 2147483647
+below c = let d = c.before.before in let k = minus d.before.args.n (rw c.before.if-negative.true at (d.before.requires d.if-large.false)) in omega (arith, c.if-n.false)
 
-above : (c : tie.Else2) → c.before.before.args.n ≤ 2147483647
-above c = let d = c.before in plain d.before.args.n (rw c.if2.false at (d.before.requires d.if1.false))
+above : (c : tie.Else-negative) → c.before.before.args.n ≤ 2147483647
+above c = let d = c.before in plain d.before.args.n (rw c.if-negative.false at (d.before.requires d.if-large.false))
 
-cast-opposite : tie.Need-overflow-cast-opposite
+cast-opposite : tie.Need-overflow_cast-n
 cast-opposite c = record { sfits = omega (arith, below c) }
 
-returns-3 : tie.Need-returns-3
+returns-3 : tie.Need-returns-then-negative
 unfolding stored
 returns-3 c =
     let d = c.before.before.before in
     let n = d.before.args.n in
     let e : c.opposite.result ≡ neg_ℤ (pos n) = c.opposite.ensures ∙ ap opposite (to_z-of_z w32 (pos n) (cast-opposite c.before)) ∙ opposite_is (pos n) (below c.before) in
-    rw (d.if1.false, c.before.before.if2.true, e) (to_z-of_z w32 (neg_ℤ (pos n)) (negation_fits n (below c.before)))
+    rw (d.if-large.false, c.before.before.if-negative.true, e) (to_z-of_z w32 (neg_ℤ (pos n)) (negation_fits n (below c.before)))
 
-cast-result : tie.Need-overflow-cast-result
+cast-result : tie.Need-overflow_cast-result
 cast-result c = record { sfits = omega (arith, above c) }
 
-returns-4 : tie.Need-returns-4
+returns-4 : tie.Need-returns
 unfolding stored
-returns-4 c = rw (c.before.if1.false, c.if2.false) (to_z-of_z w32 (pos c.before.before.args.n) (cast-result c))
+returns-4 c = rw (c.before.if-large.false, c.if-negative.false) (to_z-of_z w32 (pos c.before.before.args.n) (cast-result c))
 
-pub stored-word-spec : {M : Type 1} → statement M
-stored-word-spec = tie.close (tie.spec returns (λ c. search rules) returns-2 cast-opposite (λ c κs. tt) returns-3 cast-result returns-4)
+pub stored_word_spec : {M : Type 1} → statement M
+stored_word_spec = tie.close (tie.spec returns (λ c. search rules) returns-2 cast-opposite (λ c κs. tt) returns-3 cast-result returns-4)

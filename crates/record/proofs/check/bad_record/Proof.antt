@@ -20,17 +20,17 @@ module _ (c : tie.After-prefix-prefix) where
   start = c.before.before
 
   bound : Bound c.prefix-prefix.result.now
-  bound = rw c.prefix-prefix.ensures (accepted_bound _ start.pre.block)
+  bound = rw c.prefix-prefix.ensures (accepted_bound _ start.requires.block)
 
   room : Room (length c.prefix-prefix.result.now) (trail start.args.lits.now start.args.kinds.now)
-  room = buffers_room _ _ start.pre c.prefix-prefix.ensures
+  room = buffers_room _ _ start.requires c.prefix-prefix.ensures
 
 -- what the two doors say of the record's words
 module _ (c : tie.After-some_stranger) where
   abbrev cut : tie.After-prefix-prefix
   cut = c.before.before.before
 
-  unnamed : any (no_variable (length cut.prefix.result.now)) (take (start cut).args.count (start cut).args.lits.now) ≡ c.some_stranger.result
+  unnamed : any (no_variable (length cut.prefix-prefix.result.now)) (take (start cut).args.count (start cut).args.lits.now) ≡ c.some_stranger.result
   unnamed = sym (rw (← c.before.take-written.ensures) c.some_stranger.ensures)
 
 repeats : (c : tie.After-variable_twice) → twice (take (start (cut c.before.before)).args.count (start (cut c.before.before)).args.lits.now) ≡ c.variable_twice.result

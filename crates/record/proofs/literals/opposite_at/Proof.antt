@@ -17,7 +17,7 @@ returns c =
     let l = c.before.before.literal_at-l.result.0 in
     let back : to_z w32 (of_z w32 l) ≡ l = to_z-of_z w32 l (record { sfits = c.before.struct_told-1.given.0.1 }) in
     ap literal
-    (to_z-of_z w32 c.opposite-word.result (sfits_of c.opposite-word.type-inv)
+    (to_z-of_z w32 c.opposite-word.result (sfits_of c.opposite-word.type_inv)
     ∙ c.opposite-word.ensures
     ∙ ap opposite (back ∙ ap (λ z. z.0) c.before.before.literal_at-l.ensures)
     ∙ opposite_is _ (le_trans c.before.before.before.requires variables_small))
