@@ -11,17 +11,17 @@ use Rattle.applied.proofs.applied.chosen.Tie as tie
 sized : (c : tie.After-size) → c.size.result ≡ nat_abs c.before.before.args.proposal.0
 sized c =
     c.size.ensures
-    ∙ ap nat_abs (to_z-of_z w32 c.before.before.args.proposal.0 (sfits_of c.before.struct_told.given.0.1))
+    ∙ ap nat_abs (to_z-of_z w32 c.before.before.args.proposal.0 (sfits_of c.before.struct_told-1.given.0.1))
 
-returns : tie.Need-returns
+returns : tie.Need-returns-then-size-eq0
 returns c =
     let start = c.before.before.before in
-    first_chosen start.args.proposal.0 start.args.first (sym (sized c.before) ∙ c.if1.true)
+    first_chosen start.args.proposal.0 start.args.first (sym (sized c.before) ∙ c.if-size-eq0.true)
 
-returns-2 : tie.Need-returns-2
+returns-2 : tie.Need-returns-else-size-eq0
 returns-2 c =
     let start = c.before.before.before in
-    proposal_chosen start.args.proposal start.args.first (λ e. c.if1.false (sized c.before ∙ e))
+    proposal_chosen start.args.proposal start.args.first (λ e. c.if-size-eq0.false (sized c.before ∙ e))
 
-pub chosen-spec : {M : Type 1} → statement M
-chosen-spec = tie.close (tie.spec (λ c κs. search rules) returns returns-2)
+pub chosen_spec : {M : Type 1} → statement M
+chosen_spec = tie.close (tie.spec (λ c κs. search rules) returns returns-2)

@@ -16,14 +16,14 @@ returns c =
     let called = c.before.before.before.before.before.before in
     let start = called.before.before.before in
     let l = get_or start.args.lits.now start.args.at (pos 0) in
-    let read = to_z-of_z w32 l (sfits_of called.before.opposite-arg.given) in
+    let read = to_z-of_z w32 l (sfits_of called.before.opposite-arg-1.given) in
     flipped
     start.requires
     c.before.before.before.wipe.ensures
-    (to_z-of_z w32 called.opposite.result (sfits_of called.opposite.type-inv) ∙ called.opposite.ensures ∙ ap opposite read)
+    (to_z-of_z w32 called.opposite-opposite.result (sfits_of called.opposite-opposite.type_inv) ∙ called.opposite-opposite.ensures ∙ ap opposite read)
 
-pub flip-spec : {M : Type 1} → statement M
-flip-spec =
+pub flip_spec : {M : Type 1} → statement M
+flip_spec =
     tie.close
     (tie.spec (λ c. omega arith) (λ c. omega arith) (λ c κs. search rules) (λ c. omega arith) (λ c κs. search rules) (λ c. omega arith)
     (λ c. omega arith) (λ c. omega arith) (λ c. omega arith) (λ c. search rules) (λ c. search rules) returns)

@@ -25,15 +25,15 @@ mark-requires-2 c κs = omega (arith, variables_are)
 
 -- the two tables
 abbrev start1 : tie.After-mark → tie.Start
-start1 c = c.before.before.before.before
+start1 c = c.before.before.before
 
-table1 : (c : tie.After-mark) → c.mark.new.1.0 ≡ marked (replicate (max_variables + 1) false) (lines (start1 c).requires)
+table1 : (c : tie.After-mark) → c.mark.new.table ≡ marked (replicate (max_variables + 1) false) (lines (start1 c).requires)
 table1 c = let b = (start1 c).args.bound in let e : 6 + b - 6 ≡ b = omega arith in rw e at c.mark.ensures
 
 abbrev start2 : tie.After-mark-2 → tie.Start
-start2 c = start1 c.before.before.before.before
+start2 c = start1 c.before.before.before
 
-table2 : (c : tie.After-mark-2) → c.mark-2.new.1.0 ≡ marked (replicate (max_variables + 1) false) (named (start2 c).requires)
+table2 : (c : tie.After-mark-2) → c.mark-2.new.table ≡ marked (replicate (max_variables + 1) false) (named (start2 c).requires)
 table2 c =
     let a = (start2 c).args in
     let e : a.from + a.t - a.from ≡ a.t = omega arith in
@@ -48,12 +48,12 @@ copy-requires c κs =
 
 -- the words, out of the way
 abbrev start3 : tie.After-copy → tie.Start
-start3 c = start2 c.before.before.before.before
+start3 c = start2 c.before.before.before
 
-table3 : (c : tie.After-copy) → c.copy.new.1.0 ≡ sets (replicate max_variables (pos 0)) 0 (lines (start3 c).requires)
+table3 : (c : tie.After-copy) → c.copy.new.to ≡ sets (replicate max_variables (pos 0)) 0 (lines (start3 c).requires)
 table3 c = let b = (start3 c).args.bound in let e : 6 + b - 6 ≡ b = omega arith in rw e at c.copy.ensures
 
-copied : (c : tie.After-copy) → take ((start3 c).args.bound - 0) c.copy.new.1.0 ≡ lines (start3 c).requires
+copied : (c : tie.After-copy) → take ((start3 c).args.bound - 0) c.copy.new.to ≡ lines (start3 c).requires
 copied c =
     let s = start3 c in
     let e : s.args.bound - 0 ≡ s.args.bound = omega arith in
@@ -64,35 +64,35 @@ copied c =
 room : (s : tie.Start) → s.args.v < max_variables + 1
 room s = omega (arith, s.requires.few, variables_are)
 
-free-here : (c : tie.After-copy) → let m = c.before.before.before.before in those (picked m.before.before.before.before.mark.new.1.0 m.mark2.new.1.0 true) 1 (start3 c).args.v ≡ first (start3 c).requires
+free-here : (c : tie.After-copy) → let m = c.before.before.before.before in those (picked m.before.before.before.mark.new.table m.mark2.new.table true) 1 (start3 c).args.v ≡ first (start3 c).requires
 free-here c =
-    let m = c.before.before.before.before in
+    let m = c.before.before.before in
     let s = start3 c in
-    ap₂ (λ (a b : List Bool). those (picked a b true) 1 s.args.v) (table1 m.before.before.before.before) (table2 m) ∙ picked_free (max_variables + 1) s.args.v (room s) (lines s.pre) (named s.pre)
+    ap₂ (λ (a b : List Bool). those (picked a b true) 1 s.args.v) (table1 m.before.before.before) (table2 m) ∙ picked_free (max_variables + 1) s.args.v (room s) (lines s.pre) (named s.pre)
 
-idle-here : (c : tie.After-copy) → let m = c.before.before.before.before in those (picked m.before.before.before.before.mark.new.1.0 m.mark2.new.1.0 false) 1 (start3 c).args.v ≡ last (start3 c).requires
+idle-here : (c : tie.After-copy) → let m = c.before.before.before.before in those (picked m.before.before.before.mark.new.table m.mark2.new.table false) 1 (start3 c).args.v ≡ last (start3 c).requires
 idle-here c =
-    let m = c.before.before.before.before in
+    let m = c.before.before.before in
     let s = start3 c in
-    ap₂ (λ (a b : List Bool). those (picked a b false) 1 s.args.v) (table1 m.before.before.before.before) (table2 m) ∙ picked_idle (max_variables + 1) s.args.v (room s) (lines s.pre) (named s.pre)
+    ap₂ (λ (a b : List Bool). those (picked a b false) 1 s.args.v) (table1 m.before.before.before) (table2 m) ∙ picked_idle (max_variables + 1) s.args.v (room s) (lines s.pre) (named s.pre)
 
 part-write-prefix-end : tie.Need-slice_bounds-write_prefix-end
 part-write-prefix-end c =
-    let k = c.before.before.before.before.before in
+    let k = c.before.before.before.before in
     let s = start3 k in
-    let e : length k.copy.new.1.0 ≡ max_variables = ap length (table3 k) ∙ length-sets (replicate max_variables (pos 0)) 0 (lines s.pre) ∙ length-replicate max_variables (pos 0) in
+    let e : length k.copy.new.to ≡ max_variables = ap length (table3 k) ∙ length-sets (replicate max_variables (pos 0)) 0 (lines s.pre) ∙ length-replicate max_variables (pos 0) in
     omega (arith, e, s.pre.few, s.pre.words, variables_are)
 
 write-prefix-requires : tie.Need-write_prefix-requires
 write-prefix-requires c κs =
-    let k = c.before.before.before.before.before.before in
+    let k = c.before.before.before.before.before in
     let r = (start3 k).requires in
     (r.few, omega (arith, ap length (free-here k), ap length (copied k), ap length (idle-here k), lines_length r, all_length r, r.prefix))
 
 returns : tie.Need-returns
 unfolding completed
 returns c =
-    let k = c.before.before.before.before.before.before.before.before in
+    let k = c.before.before.before.before.before.before.before in
     let join = ap₂ (λ (xs ys : List ℤ). xs ++ ys) (ap₂ (λ (xs ys : List ℤ). xs ++ ys) (free-here k) (copied k)) (idle-here k) in
     c.before.write_prefix.ensures ∙ ap (λ (ws : List ℤ). sets (start3 k).args.output.now 6 ws) join
 

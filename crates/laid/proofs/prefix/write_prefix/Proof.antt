@@ -26,7 +26,7 @@ write-those-requires c κs = (c.before.requires.0, omega (arith, c.before.requir
 past-free : (c : tie.After-write_those-first) → c.write_those-first.result ≡ 6 + length (run true c.before.before)
 past-free c = ap (λ (u : Outcome (List ℤ) ℕ). u.answer) c.write_those-first.ensures
 
-with-free : (c : tie.After-write_those-first) → let s = c.before.before in c.write_those-first.new.0 ≡ sets s.args.output.now 6 (run true s)
+with-free : (c : tie.After-write_those-first) → let s = c.before.before in c.write_those-first.new.output ≡ sets s.args.output.now 6 (run true s)
 with-free c = ap (λ (u : Outcome (List ℤ) ℕ). u.memory) c.write_those-first.ensures
 
 copy-requires : tie.Need-copy-requires
@@ -36,7 +36,7 @@ copy-requires c κs =
     omega (arith, past-free w, ap length (with-free w) ∙ length-sets s.args.output.now 6 (run true s), s.requires.1)
 
 -- after the words
-with-words : (c : tie.After-copy) → let s = c.before.before.before.before.before in c.copy.new.1.0 ≡ sets (sets s.args.output.now 6 (run true s)) (6 + length (run true s)) s.args.lines.now
+with-words : (c : tie.After-copy) → let s = c.before.before.before.before.before in c.copy.new.to ≡ sets (sets s.args.output.now 6 (run true s)) (6 + length (run true s)) s.args.lines.now
 with-words c =
     let w = c.before.before.before in
     c.copy.ensures ∙ ap₂ (λ (o : List ℤ) (n : ℕ). sets o n w.before.before.args.lines.now) (with-free w) (past-free w)
