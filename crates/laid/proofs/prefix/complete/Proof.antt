@@ -41,10 +41,10 @@ table2 c =
 
 copy-requires : tie.Need-copy-requires
 copy-requires c κs =
-    let s = start2 c.before.before.before in
+    let s = start2 c.before.before in
     let b = s.args.bound in
     let e : 6 + b - 6 ≡ b = omega arith in
-    rw e (omega (arith, lines_length s.pre, s.pre.few, s.pre.words, variables_are))
+    rw e (omega (arith, lines_length s.requires, s.requires.few, s.requires.words, variables_are))
 
 -- the words, out of the way
 abbrev start3 : tie.After-copy → tie.Start
@@ -57,31 +57,31 @@ copied : (c : tie.After-copy) → take ((start3 c).args.bound - 0) c.copy.new.to
 copied c =
     let s = start3 c in
     let e : s.args.bound - 0 ≡ s.args.bound = omega arith in
-    let fits : 0 + length (lines s.pre) ≤ length (replicate max_variables (pos 0)) = rw (length-replicate max_variables (pos 0)) (omega (arith, lines_length s.pre, s.pre.few, s.pre.words, variables_are)) in
-    rw (e, table3 c) (rw (lines_length s.pre) at (take_run (lines s.pre) (replicate max_variables (pos 0)) 0 fits))
+    let fits : 0 + length (lines s.requires) ≤ length (replicate max_variables (pos 0)) = rw (length-replicate max_variables (pos 0)) (omega (arith, lines_length s.requires, s.requires.few, s.requires.words, variables_are)) in
+    rw (e, table3 c) (rw (lines_length s.requires) at (take_run (lines s.requires) (replicate max_variables (pos 0)) 0 fits))
 
 -- what is picked
 room : (s : tie.Start) → s.args.v < max_variables + 1
 room s = omega (arith, s.requires.few, variables_are)
 
-free-here : (c : tie.After-copy) → let m = c.before.before.before.before in those (picked m.before.before.before.mark.new.table m.mark2.new.table true) 1 (start3 c).args.v ≡ first (start3 c).requires
+free-here : (c : tie.After-copy) → let m = c.before.before.before in those (picked m.before.before.before.mark.new.table m.mark-2.new.table true) 1 (start3 c).args.v ≡ first (start3 c).requires
 free-here c =
     let m = c.before.before.before in
     let s = start3 c in
-    ap₂ (λ (a b : List Bool). those (picked a b true) 1 s.args.v) (table1 m.before.before.before) (table2 m) ∙ picked_free (max_variables + 1) s.args.v (room s) (lines s.pre) (named s.pre)
+    ap₂ (λ (a b : List Bool). those (picked a b true) 1 s.args.v) (table1 m.before.before.before) (table2 m) ∙ picked_free (max_variables + 1) s.args.v (room s) (lines s.requires) (named s.requires)
 
-idle-here : (c : tie.After-copy) → let m = c.before.before.before.before in those (picked m.before.before.before.mark.new.table m.mark2.new.table false) 1 (start3 c).args.v ≡ last (start3 c).requires
+idle-here : (c : tie.After-copy) → let m = c.before.before.before in those (picked m.before.before.before.mark.new.table m.mark-2.new.table false) 1 (start3 c).args.v ≡ last (start3 c).requires
 idle-here c =
     let m = c.before.before.before in
     let s = start3 c in
-    ap₂ (λ (a b : List Bool). those (picked a b false) 1 s.args.v) (table1 m.before.before.before) (table2 m) ∙ picked_idle (max_variables + 1) s.args.v (room s) (lines s.pre) (named s.pre)
+    ap₂ (λ (a b : List Bool). those (picked a b false) 1 s.args.v) (table1 m.before.before.before) (table2 m) ∙ picked_idle (max_variables + 1) s.args.v (room s) (lines s.requires) (named s.requires)
 
 part-write-prefix-end : tie.Need-slice_bounds-write_prefix-end
 part-write-prefix-end c =
     let k = c.before.before.before.before in
     let s = start3 k in
-    let e : length k.copy.new.to ≡ max_variables = ap length (table3 k) ∙ length-sets (replicate max_variables (pos 0)) 0 (lines s.pre) ∙ length-replicate max_variables (pos 0) in
-    omega (arith, e, s.pre.few, s.pre.words, variables_are)
+    let e : length k.copy.new.to ≡ max_variables = ap length (table3 k) ∙ length-sets (replicate max_variables (pos 0)) 0 (lines s.requires) ∙ length-replicate max_variables (pos 0) in
+    omega (arith, e, s.requires.few, s.requires.words, variables_are)
 
 write-prefix-requires : tie.Need-write_prefix-requires
 write-prefix-requires c κs =
