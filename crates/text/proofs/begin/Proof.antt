@@ -8,8 +8,8 @@ returns : tie.Need-returns
 unfolding begun
 returns c = refl
 
-pub begin-spec : {M : Type 1} → statement M
-begin-spec =
+pub begin_spec : {M : Type 1} → statement M
+begin_spec =
     tie.close
     (tie.spec
     returns)

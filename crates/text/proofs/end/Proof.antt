@@ -10,19 +10,19 @@ use borrow.Author.Rules.{rules}
 use Rattle.text.proofs.end.Statement.{statement}
 use Rattle.text.proofs.end.Tie as tie
 
-returns : tie.Need-returns
+returns : tie.Need-returns-then-is_fresh
 unfolding end_of
-returns c = let t = c.before.before.before in rw (sym t.before.is-fresh.ensures ∙ t.if1.true) c.before.settle.ensures
+returns c = let t = c.before.before.before in rw (sym t.before.is_fresh.ensures ∙ t.if-is_fresh.true) c.before.settle.ensures
 
-returns-2 : tie.Need-returns-2
+returns-2 : tie.Need-returns
 unfolding end_of
 returns-2 c =
     let e = c.before.before.before in
     let a = e.before.before.before.args in
-    rw (sym e.before.is-fresh.ensures ∙ e.if1.false) (ap (λ (o : List ℤ). outcome (Misfit a.reader.at) o) (c.before.wipe.ensures ∙ wiped_all a.output.now))
+    rw (sym e.before.is_fresh.ensures ∙ e.if-is_fresh.false) (ap (λ (o : List ℤ). outcome (Misfit a.reader.at) o) (c.before.wipe.ensures ∙ wiped_all a.output.now))
 
-pub end-spec : {M : Type 1} → statement M
-end-spec =
+pub end_spec : {M : Type 1} → statement M
+end_spec =
     tie.close
     (tie.spec
     (λ c κs. tt)

@@ -9,32 +9,32 @@ use borrow.Author.Rules.{rules}
 use Rattle.text.proofs.piece.Statement.{statement}
 use Rattle.text.proofs.piece.Tie as tie
 
-abbrev invariant-loop : tie.invariant-loop
+abbrev invariant-loop : tie.invariant-loop-i
 invariant-loop bytes output₀ at₀ i₀ output at i = (i ≤ length bytes) × (length output ≡ length output₀) × (piece_of (drop i bytes) at output ≡ piece_of bytes at₀ output₀)
 
-abbrev decreases-loop : tie.decreases-loop
+abbrev decreases-loop : tie.decreases-loop-i
 decreases-loop bytes output₀ at₀ i₀ output at i = length bytes - i
 
-loop-holds : tie.Need-loop-init invariant-loop decreases-loop
+loop-holds : tie.Need-loop-i-init invariant-loop decreases-loop
 loop-holds c = (omega arith, refl, refl)
 
-loop-less : tie.Need-loop-smaller invariant-loop decreases-loop
-loop-less c = omega (arith, c.before.before.before.before.loop-test.true)
+loop-less : tie.Need-loop-i-smaller invariant-loop decreases-loop
+loop-less c = omega (arith, c.before.before.before.before.loop-i-test.true)
 
-loop-again : tie.Need-loop-preserved invariant-loop decreases-loop
+loop-again : tie.Need-loop-i-preserved invariant-loop decreases-loop
 loop-again c =
     let l = c.before.before.before.before in
-    let inv = l.before.loop.invariant in
-    (omega (arith, l.loop-test.true), c.before.take.auto.1.1.0 ∙ inv.1, piece_turn _ _ _ _ l.loop-test.true c.before.take.ensures ∙ inv.2)
+    let inv = l.before.loop-i.invariant in
+    (omega (arith, l.loop-i-test.true), c.before.take-at.auto.output ∙ inv.1, piece_turn _ _ _ _ l.loop-i-test.true c.before.take-at.ensures ∙ inv.2)
 
-same_length : tie.Need-same-length invariant-loop decreases-loop
-same_length c = c.before.loop.invariant.1
+same_length : tie.Need-shape_of-output invariant-loop decreases-loop
+same_length c = c.before.loop-i.invariant.1
 
 returns : tie.Need-returns invariant-loop decreases-loop
-returns c = sym (piece_ended _ _ _ _ c.loop-test.false) ∙ c.before.loop.invariant.2
+returns c = sym (piece_ended _ _ _ _ c.loop-i-test.false) ∙ c.before.loop-i.invariant.2
 
-pub piece-spec : {M : Type 1} → statement M
-piece-spec =
+pub piece_spec : {M : Type 1} → statement M
+piece_spec =
     tie.close
     (tie.spec
     invariant-loop

@@ -13,30 +13,30 @@ use Rattle.choice.proofs.First.{preferred_here, preferred_past}
 use Rattle.choice.proofs.open.first_in.Statement.{statement}
 use Rattle.choice.proofs.open.first_in.Tie as tie
 
-abbrev invariant-loop : tie.invariant-loop
+abbrev invariant-loop : tie.invariant-loop-i
 invariant-loop list n values levels lowest i₀ i = Left (preferred_in n values levels lowest) list i
 
-abbrev decreases-loop : tie.decreases-loop
+abbrev decreases-loop : tie.decreases-loop-i
 decreases-loop list n values levels lowest i₀ i = length list - i
 
-returns : tie.Need-returns invariant-loop decreases-loop
+returns : tie.Need-returns-then-open_variable invariant-loop decreases-loop
 returns c =
     let test = c.before.before in
     let turn = test.before.before in
-    c.literal-at.ensures
-    ∙ ap (λ o. literal (on_picked o (λ l. l.0) (pos 0))) (left_here turn.before.loop.invariant turn.loop-test.true (preferred_here _ _ _ _ _ _ test.before.size-at.ensures (sym test.open-variable.ensures ∙ c.before.if1.true)))
+    c.literal_at.ensures
+    ∙ ap (λ o. literal (on_picked o (λ l. l.0) (pos 0))) (left_here turn.before.loop-i.invariant turn.loop-i-test.true (preferred_here _ _ _ _ _ _ test.before.size_at-v.ensures (sym test.open_variable.ensures ∙ c.before.if-open_variable.true)))
 
-loop-again : tie.Need-loop-preserved invariant-loop decreases-loop
+loop-again : tie.Need-loop-i-preserved invariant-loop decreases-loop
 loop-again c =
     let test = c.before in
     let turn = test.before.before in
-    left_past turn.before.loop.invariant turn.loop-test.true (preferred_past _ _ _ _ _ _ test.before.size-at.ensures (sym test.open-variable.ensures ∙ c.if1.false))
+    left_past turn.before.loop-i.invariant turn.loop-i-test.true (preferred_past _ _ _ _ _ _ test.before.size_at-v.ensures (sym test.open_variable.ensures ∙ c.if-open_variable.false))
 
-returns-2 : tie.Need-returns-2 invariant-loop decreases-loop
-returns-2 c = ap (λ o. literal (on_picked o (λ l. l.0) (pos 0))) (left_end c.before.loop.invariant c.loop-test.false)
+returns-2 : tie.Need-returns invariant-loop decreases-loop
+returns-2 c = ap (λ o. literal (on_picked o (λ l. l.0) (pos 0))) (left_end c.before.loop-i.invariant c.loop-i-test.false)
 
-pub first-in-spec : {M : Type 1} → statement M
-first-in-spec =
+pub first_in_spec : {M : Type 1} → statement M
+first_in_spec =
     tie.close
     (tie.spec invariant-loop decreases-loop (λ c. left_begin) (λ c κs. search rules) (λ c κs. search rules) (λ c κs. search rules) returns (λ c. omega arith)
     (λ c. omega arith) loop-again returns-2)

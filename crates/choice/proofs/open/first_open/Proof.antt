@@ -8,10 +8,10 @@ use Rattle.choice.specs.Laws.VariablesMean.{lowest_means, preferred_means}
 use Rattle.choice.proofs.open.first_open.Statement.{statement}
 use Rattle.choice.proofs.open.first_open.Tie as tie
 
-bound : (c : tie.After-prefix) → Bound c.prefix.result.now
-bound c = rw c.prefix.ensures (accepted_bound _ c.before.requires.0.block)
+bound : (c : tie.After-prefix-prefix) → Bound c.prefix-prefix.result.now
+bound c = rw c.prefix-prefix.ensures (accepted_bound _ c.before.requires.0.block)
 
-first-in-requires : tie.Need-first-in-requires
+first-in-requires : tie.Need-first_in-requires
 first-in-requires c κs = (bound c.before.before.before.before).room
 
 returns : tie.Need-returns
@@ -19,12 +19,12 @@ returns c =
     let low = c.before.before in
     let valued = low.before.before in
     let b = bound valued.before in
-    rw (← valued.before.prefix.ensures)
-    (c.first-in.ensures ∙ ap literal (preferred_means _ b _ _ valued.values_of.ensures valued.before.before.args.levels.now (rw valued.before.prefix.ensures valued.before.before.requires.1) _
-    (rw low.lowest-level.ensures (lowest_means _ b _ _ valued.values_of.ensures valued.before.before.args.levels.now (rw valued.before.prefix.ensures valued.before.before.requires.1))) _))
+    rw (← valued.before.prefix-prefix.ensures)
+    (c.first_in.ensures ∙ ap literal (preferred_means _ b _ _ valued.values_of-values.ensures valued.before.before.args.levels.now (rw valued.before.prefix-prefix.ensures valued.before.before.requires.1) _
+    (rw low.lowest_level-lowest.ensures (lowest_means _ b _ _ valued.values_of-values.ensures valued.before.before.args.levels.now (rw valued.before.prefix-prefix.ensures valued.before.before.requires.1))) _))
 
-pub first-open-spec : {M : Type 1} → statement M
-first-open-spec =
+pub first_open_spec : {M : Type 1} → statement M
+first_open_spec =
     tie.close
     (tie.spec (λ c κs. search rules) (λ c κs. search rules) (λ c κs. bound c.before.before)
     first-in-requires returns)

@@ -18,13 +18,13 @@ use Rattle.clauses.proofs.clauses.deciding.Statement.{statement}
 use Rattle.record.specs.Inner.Tables.{places}
 use Rattle.clauses.proofs.clauses.deciding.Tie as tie
 
-abbrev invariant-loop : tie.invariant-loop
+abbrev invariant-loop : tie.invariant-loop-found
 invariant-loop ends literals statuses levels found₀ from c end clause look₀ j₀ found look j =
     (found ≡ found₀)
     × (look.over ≡ false)
     × (sight_with (status_in statuses) (level_by levels) clause look (drop j clause) ≡ sight_from (status_in statuses) (level_by levels) places clause)
 
-abbrev decreases-loop : tie.decreases-loop
+abbrev decreases-loop : tie.decreases-loop-found
 decreases-loop ends literals statuses levels found₀ from c end clause look₀ j₀ found look j = length clause - j
 
 abbrev invariant-search : tie.invariant-search
@@ -36,65 +36,65 @@ abbrev decreases-search : tie.decreases-search
 decreases-search ends literals statuses levels found₀ from₀ c₀ found from c = length ends - c
 
 -- the clause of this turn
-module _ (c : tie.After-size-at invariant-loop decreases-loop invariant-search decreases-search) where
-  this : Turn c.before.before.before.args.ends.now c.before.before.before.args.literals.now c.before.before.search.from c.before.before.search.c c.size-at.result
-  this = turn _ _ _ _ _ c.before.search-test.true c.size-at.ensures c.before.before.search.invariant.1.ends
+module _ (c : tie.After-size_at-end invariant-loop decreases-loop invariant-search decreases-search) where
+  this : Turn c.before.before.before.args.ends.now c.before.before.before.args.literals.now c.before.before.search.from c.before.before.search.c c.size_at-end.result
+  this = turn _ _ _ _ _ c.before.search-test.true c.size_at-end.ensures c.before.before.search.invariant.1.ends
 
 -- its literals have a place
-module _ (c : tie.After-clause invariant-loop decreases-loop invariant-search decreases-search) where
+module _ (c : tie.After-clause-1 invariant-loop decreases-loop invariant-search decreases-search) where
   abbrev start : tie.Start invariant-loop decreases-loop invariant-search decreases-search
   start = c.before.before.before.before
 
-  placed : Placed (take (c.before.size-at.result - c.before.before.before.search.from) (drop c.before.before.before.search.from start.args.literals.now))
-  placed = placed_part start.args.literals.now (c.before.size-at.result - c.before.before.before.search.from) c.before.before.before.search.from start.pre.placed
+  placed : Placed (take (c.before.size_at-end.result - c.before.before.before.search.from) (drop c.before.before.before.search.from start.args.literals.now))
+  placed = placed_part start.args.literals.now (c.before.size_at-end.result - c.before.before.before.search.from) c.before.before.before.search.from start.requires.placed
 
-decided-requires : tie.Need-decided-requires invariant-loop decreases-loop invariant-search decreases-search
+decided-requires : tie.Need-decided-found-requires invariant-loop decreases-loop invariant-search decreases-search
 decided-requires c κs =
     let read = c.before.before.before.before in
     (read.before.search-test.true, record { ends = (this read).ends; placed = read.before.before.before.requires.placed })
 
-with-requires : tie.Need-with-requires invariant-loop decreases-loop invariant-search decreases-search
-with-requires c κs = (placed c.before.before.before.before, c.if2.false)
+with-requires : tie.Need-with-look-requires invariant-loop decreases-loop invariant-search decreases-search
+with-requires c κs = (placed c.before.before.before.before, c.if-clause-j.false)
 
-loop-again : tie.Need-loop-preserved invariant-loop decreases-loop invariant-search decreases-search
+loop-again : tie.Need-loop-found-preserved invariant-loop decreases-loop invariant-search decreases-search
 loop-again c =
-    let l = c.before.before.before.before.before.loop in
-    (l.invariant.0, c.if3.false, clause_next _ _ _ l.j l.look _ c.before.before.if2.false c.before.with.ensures l.invariant.2)
+    let l = c.before.before.before.before.before.loop-found in
+    (l.invariant.0, c.if-look.false, clause_next _ _ _ l.j l.look _ c.before.before.if-clause-j.false c.before.with-look.ensures l.invariant.2)
 
-add-c : tie.Need-overflow-add-c invariant-loop decreases-loop invariant-search decreases-search
-add-c c = omega (arith, c.before.before.before.before.before.before.search-test.true, c.before.before.before.before.before.before.before.before.well-formed)
+add-c : tie.Need-overflow_add-c invariant-loop decreases-loop invariant-search decreases-search
+add-c c = omega (arith, c.before.before.before.before.before.before.search-test.true, c.before.before.before.before.before.before.before.before.well_formed)
 
 search-less : tie.Need-search-smaller invariant-loop decreases-loop invariant-search decreases-search
 search-less c = omega (arith, c.before.before.before.before.before.before.search-test.true)
 
 search-again : tie.Need-search-preserved invariant-loop decreases-loop invariant-search decreases-search
 search-again c =
-    let l = c.before.before.before.loop in
+    let l = c.before.before.before.loop-found in
     let read = c.before.before.before.before.before in
     let s = read.before.before.search in (
       l.invariant.0 ∙ s.invariant.0,
       walk_on _ _ _ _ _ _ _ s.invariant.1 (this read) (deciding_past _ _ _ _ _
           (⊎_elim
-          (λ w. clause_neither _ _ _ l.j l.look l.invariant.1 l.invariant.2 c.before.before.decides.ensures w.taken c.before.if1.false)
-          (λ w. clause_over _ _ _ l.j l.look _ w.0.left w.1.ensures l.invariant.2 w.2.taken)
-          c.if2.branch)),
+          (λ w. clause_neither _ _ _ l.j l.look l.invariant.1 l.invariant.2 c.before.before.decides.ensures w.if-clause-j.true c.before.if-decides.false)
+          (λ w. clause_over _ _ _ l.j l.look _ w.if-clause-j.false w.with-look.ensures l.invariant.2 w.if-look.true)
+          c.if-clause-j.branch-raw)),
     )
 
-returns : tie.Need-returns invariant-loop decreases-loop invariant-search decreases-search
+returns : tie.Need-returns-after-search invariant-loop decreases-loop invariant-search decreases-search
 returns c = c.before.search.invariant.0 ∙ deciding_none _ _ _ ∙ walk_end _ _ _ _ _ _ c.search-test.false c.before.search.invariant.1
 
-returns-2 : tie.Need-returns-2 invariant-loop decreases-loop invariant-search decreases-search
+returns-2 : tie.Need-returns-then-decides invariant-loop decreases-loop invariant-search decreases-search
 returns-2 c =
-    let l = c.before.before.before.loop in
+    let l = c.before.before.before.loop-found in
     let read = c.before.before.before.before.before in
     let s = read.before.before.search in
     walk_stop _ _ _ _ _ _ _ s.invariant.1 (this read)
-    (deciding_next _ _ _ _ _ (clause_decides _ _ _ l.j l.look l.invariant.1 l.invariant.2 c.before.before.decides.ensures c.before.if1.true) (c.decided.ensures _))
+    (deciding_next _ _ _ _ _ (clause_decides _ _ _ l.j l.look l.invariant.1 l.invariant.2 c.before.before.decides.ensures c.before.if-decides.true) (c.decided-found.ensures _))
 
-pub deciding-spec : {M : Type 1} → statement M
-deciding-spec =
+pub deciding_spec : {M : Type 1} → statement M
+deciding_spec =
     tie.close
     (tie.spec invariant-loop decreases-loop invariant-search decreases-search (λ c. (refl, record { ends = c.requires.ends; same = refl })) (λ c κs. search rules)
     (λ c. let t = this c in omega arith) (λ c. (this c).starts) (λ c. (this c).starts) (λ c. (this c).stops) (λ c. (refl, refl, look_start _ _ _))
-    (λ c κs. placed c.before) decided-requires with-requires (λ c. search rules) (λ c. omega (arith, c.before.before.if2.false)) loop-again add-c
+    (λ c κs. placed c.before) decided-requires with-requires (λ c. search rules) (λ c. omega (arith, c.before.before.if-clause-j.false)) loop-again add-c
     search-less search-again returns returns-2)

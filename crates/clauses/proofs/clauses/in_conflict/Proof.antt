@@ -14,37 +14,37 @@ use Rattle.clauses.specs.Laws.Walk.{keeps_true, keeps_existential, keeps_not}
 use Rattle.clauses.proofs.clauses.in_conflict.Statement.{statement}
 use Rattle.clauses.proofs.clauses.in_conflict.Tie as tie
 
-abbrev invariant-loop : tie.invariant-loop
+abbrev invariant-loop : tie.invariant-loop-i
 invariant-loop clause statuses i₀ i =
     (i ≤ length clause) × (any (keeps_by (status_in statuses)) (drop i clause) ≡ any (keeps_by (status_in statuses)) clause)
 
-abbrev decreases-loop : tie.decreases-loop
+abbrev decreases-loop : tie.decreases-loop-i
 decreases-loop clause statuses i₀ i = length clause - i
 
-returns : tie.Need-returns invariant-loop decreases-loop
+returns : tie.Need-returns-then-status-eq1 invariant-loop decreases-loop
 unfolding conflict_by
 returns c =
-    let l = c.before.before.before.loop in
-    ap not (sym (any_found _ _ l.i (pos 0) c.before.before.loop-test.true (keeps_true _ _ (sym c.before.status-at.ensures ∙ c.if1.true))) ∙ l.invariant.1)
+    let l = c.before.before.before.loop-i in
+    ap not (sym (any_found _ _ l.i (pos 0) c.before.before.loop-i-test.true (keeps_true _ _ (sym c.before.status_at-status.ensures ∙ c.if-status-eq1.true))) ∙ l.invariant.1)
 
-returns-2 : tie.Need-returns-2 invariant-loop decreases-loop
+returns-2 : tie.Need-returns-then-status-eq2 invariant-loop decreases-loop
 unfolding conflict_by
 returns-2 c =
-    let l = c.before.before.before.before.loop in
-    ap not (sym (any_found _ _ l.i (pos 0) c.before.before.before.loop-test.true (keeps_existential _ _ (sym c.before.before.status-at.ensures ∙ c.if2.true))) ∙ l.invariant.1)
+    let l = c.before.before.before.before.loop-i in
+    ap not (sym (any_found _ _ l.i (pos 0) c.before.before.before.loop-i-test.true (keeps_existential _ _ (sym c.before.before.status_at-status.ensures ∙ c.if-status-eq2.true))) ∙ l.invariant.1)
 
-loop-again : tie.Need-loop-preserved invariant-loop decreases-loop
+loop-again : tie.Need-loop-i-preserved invariant-loop decreases-loop
 loop-again c =
-    let l = c.before.before.before.before.loop in
-    let e = c.before.before.status-at.ensures in
-    (omega arith, any_past _ _ l.i (pos 0) c.before.before.before.loop-test.true (keeps_not _ _ (λ z. c.before.if1.false (e ∙ z)) (λ z. c.if2.false (e ∙ z))) ∙ l.invariant.1)
+    let l = c.before.before.before.before.loop-i in
+    let e = c.before.before.status_at-status.ensures in
+    (omega arith, any_past _ _ l.i (pos 0) c.before.before.before.loop-i-test.true (keeps_not _ _ (λ z. c.before.if-status-eq1.false (e ∙ z)) (λ z. c.if-status-eq2.false (e ∙ z))) ∙ l.invariant.1)
 
-returns-3 : tie.Need-returns-3 invariant-loop decreases-loop
+returns-3 : tie.Need-returns invariant-loop decreases-loop
 unfolding conflict_by
-returns-3 c = ap not (sym (any_ended _ _ c.before.loop.i c.loop-test.false) ∙ c.before.loop.invariant.1)
+returns-3 c = ap not (sym (any_ended _ _ c.before.loop-i.i c.loop-i-test.false) ∙ c.before.loop-i.invariant.1)
 
-pub in-conflict-spec : {M : Type 1} → statement M
-in-conflict-spec =
+pub in_conflict_spec : {M : Type 1} → statement M
+in_conflict_spec =
     tie.close
-    (tie.spec invariant-loop decreases-loop (λ c. (omega arith, refl)) (λ c κs. c.before.before.requires c.before.loop.i) returns returns-2
+    (tie.spec invariant-loop decreases-loop (λ c. (omega arith, refl)) (λ c κs. c.before.before.requires c.before.loop-i.i) returns returns-2
     (λ c. search rules) (λ c. search rules) loop-again returns-3)

@@ -13,41 +13,41 @@ use Rattle.clauses.specs.Laws.Walk.{placed_part, Turn, turn, Walk, walk_on, walk
 use Rattle.clauses.proofs.clauses.lowest_conflict.Statement.{statement}
 use Rattle.clauses.proofs.clauses.lowest_conflict.Tie as tie
 
-abbrev invariant-loop : tie.invariant-loop
+abbrev invariant-loop : tie.invariant-loop-c
 invariant-loop ends literals first start statuses from₀ c₀ from c =
     Walk (lowest (conflict_by (status_in statuses))) ends literals (lowest (conflict_by (status_in statuses)) first (clauses_from literals start (drop first ends))) from c
 
-abbrev decreases-loop : tie.decreases-loop
+abbrev decreases-loop : tie.decreases-loop-c
 decreases-loop ends literals first start statuses from₀ c₀ from c = length ends - c
 
 -- the clause of this turn
-module _ (c : tie.After-size-at invariant-loop decreases-loop) where
-  this : Turn c.before.before.before.args.ends.now c.before.before.before.args.literals.now c.before.before.loop.from c.before.before.loop.c c.size-at.result
-  this = turn _ _ _ _ _ c.before.loop-test.true c.size-at.ensures c.before.before.loop.invariant.ends
+module _ (c : tie.After-size_at-end invariant-loop decreases-loop) where
+  this : Turn c.before.before.before.args.ends.now c.before.before.before.args.literals.now c.before.before.loop-c.from c.before.before.loop-c.c c.size_at-end.result
+  this = turn _ _ _ _ _ c.before.loop-c-test.true c.size_at-end.ensures c.before.before.loop-c.invariant.ends
 
-in-conflict-requires : tie.Need-in-conflict-requires invariant-loop decreases-loop
+in-conflict-requires : tie.Need-in_conflict-requires invariant-loop decreases-loop
 in-conflict-requires c κs =
     let start = c.before.before.before.before in
-    let l = c.before.before.before.loop in
-    placed_part start.args.literals.now (c.before.size-at.result - l.from) l.from start.requires.placed
+    let l = c.before.before.before.loop-c in
+    placed_part start.args.literals.now (c.before.size_at-end.result - l.from) l.from start.requires.placed
 
-returns : tie.Need-returns invariant-loop decreases-loop
+returns : tie.Need-returns-then-in_conflict invariant-loop decreases-loop
 returns c =
     let t = this c.before.before.before in
-    let l = c.before.before.before.before.before.loop in
-    walk_stop _ _ _ _ _ _ _ l.invariant t (lowest_hit _ _ _ _ (sym c.before.in-conflict.ensures ∙ c.if1.true))
+    let l = c.before.before.before.before.before.loop-c in
+    walk_stop _ _ _ _ _ _ _ l.invariant t (lowest_hit _ _ _ _ (sym c.before.in_conflict.ensures ∙ c.if-in_conflict.true))
 
-loop-again : tie.Need-loop-preserved invariant-loop decreases-loop
+loop-again : tie.Need-loop-c-preserved invariant-loop decreases-loop
 loop-again c =
     let t = this c.before.before.before in
-    let l = c.before.before.before.before.before.loop in
-    walk_on _ _ _ _ _ _ _ l.invariant t (lowest_miss _ _ _ _ (sym c.before.in-conflict.ensures ∙ c.if1.false))
+    let l = c.before.before.before.before.before.loop-c in
+    walk_on _ _ _ _ _ _ _ l.invariant t (lowest_miss _ _ _ _ (sym c.before.in_conflict.ensures ∙ c.if-in_conflict.false))
 
-returns-2 : tie.Need-returns-2 invariant-loop decreases-loop
-returns-2 c = lowest_end _ _ ∙ walk_end _ _ _ _ _ _ c.loop-test.false c.before.loop.invariant
+returns-2 : tie.Need-returns invariant-loop decreases-loop
+returns-2 c = lowest_end _ _ ∙ walk_end _ _ _ _ _ _ c.loop-c-test.false c.before.loop-c.invariant
 
-pub lowest-conflict-spec : {M : Type 1} → statement M
-lowest-conflict-spec =
+pub lowest_conflict_spec : {M : Type 1} → statement M
+lowest_conflict_spec =
     tie.close
     (tie.spec invariant-loop decreases-loop (λ c. record { ends = c.requires.ends; same = refl }) (λ c κs. search rules) (λ c. let t = this c in omega arith) (λ c. (this c).starts)
     (λ c. (this c).starts) (λ c. (this c).stops) in-conflict-requires returns (λ c. search rules) (λ c. search rules) loop-again returns-2)

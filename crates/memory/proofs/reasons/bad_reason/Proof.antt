@@ -3,14 +3,14 @@ use Rattle.memory.proofs.Noted.{wrong_none, wrong_beside, wrong_over}
 use Rattle.memory.proofs.reasons.bad_reason.Statement.{statement}
 use Rattle.memory.proofs.reasons.bad_reason.Tie as tie
 
-returns : tie.Need-returns
-returns c = let a = c.before.args in wrong_none a.clauses a.kind a.reason c.if1.true
+returns : tie.Need-returns-then-reason-eq0
+returns c = let a = c.before.args in wrong_none a.clauses a.kind a.reason c.if-reason-eq0.true
 
-returns-2 : tie.Need-returns-2
-returns-2 c = let a = c.before.before.args in wrong_beside a.clauses a.kind a.reason c.before.if1.false c.if2.true
+returns-2 : tie.Need-returns-then-kind-ne0
+returns-2 c = let a = c.before.before.args in wrong_beside a.clauses a.kind a.reason c.before.if-reason-eq0.false c.if-kind-ne0.true
 
-returns-3 : tie.Need-returns-3
-returns-3 c = let a = c.before.before.args in wrong_over a.clauses a.kind a.reason c.if2.false
+returns-3 : tie.Need-returns
+returns-3 c = let a = c.before.before.args in wrong_over a.clauses a.kind a.reason c.if-kind-ne0.false
 
-pub bad-reason-spec : {M : Type 1} → statement M
-bad-reason-spec = tie.close (tie.spec returns returns-2 returns-3)
+pub bad_reason_spec : {M : Type 1} → statement M
+bad_reason_spec = tie.close (tie.spec returns returns-2 returns-3)

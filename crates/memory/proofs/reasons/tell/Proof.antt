@@ -7,69 +7,69 @@ use Rattle.memory.proofs.reasons.tell.Tie as tie
 
 named-requires : tie.Need-named-requires
 named-requires c κs =
-    let r = c.before.before.before.before.before in
-    omega (arith, (asked_of r.before.before.before.requires r.rule.given.1).small)
+    let r = c.before.before.before.before in
+    omega (arith, (asked_of r.before.before.requires r.in-BacktrackExists.is).small)
 
-named-requires-2 : tie.Need-named-requires-2
-named-requires-2 c κs = let r = c.before in omega (arith, (asked_of r.before.before.before.requires r.rule2.given.1).small)
+named-requires-2 : tie.Need-named-requires-in-Fail
+named-requires-2 c κs = let r = c in omega (arith, (asked_of r.before.before.requires r.in-Fail.is).small)
 
-named-requires-3 : tie.Need-named-requires-3
-named-requires-3 c κs = let r = c.before in omega (arith, (asked_of r.before.before.before.requires r.rule3.given.1).small)
+named-requires-3 : tie.Need-named-reason-requires
+named-requires-3 c κs = let r = c in omega (arith, (asked_of r.before.before.requires r.in-Unit.is).small)
 
-mul-reasons : tie.Need-overflow-mul-reasons
+mul-reasons : tie.Need-offset_bounds-reasons-count
 mul-reasons c =
-    let r = c.before.before in
-    let start = r.before.before.before in
-    omega (arith, (asked_of start.requires r.rule3.given.1).fits, start.well-formed)
+    let r = c.before in
+    let start = r.before.before in
+    omega (arith, (asked_of start.requires r.in-Unit.is).fits, start.well_formed)
 
-slice-write-reasons : tie.Need-slice-write-reasons
-slice-write-reasons c = let r = c.before.before in (asked_of r.before.before.before.requires r.rule3.given.1).fits
+slice-write-reasons : tie.Need-bounds-reasons-count
+slice-write-reasons c = let r = c.before in (asked_of r.before.before.requires r.in-Unit.is).fits
 
-mul-reasons-2 : tie.Need-overflow-mul-reasons-2
+mul-reasons-2 : tie.Need-offset_bounds-reasons-count-in-Monotone
 mul-reasons-2 c =
-    let start = c.before.before.before in
-    omega (arith, (asked_of start.requires c.enum_told.given.1).fits, start.well-formed)
+    let start = c.before.before in
+    omega (arith, (asked_of start.requires c.in-Monotone.is).fits, start.well_formed)
 
-slice-write-reasons-2 : tie.Need-slice-write-reasons-2
-slice-write-reasons-2 c = (asked_of c.before.before.before.requires c.enum_told.given.1).fits
+slice-write-reasons-2 : tie.Need-bounds-reasons-count-in-Monotone
+slice-write-reasons-2 c = (asked_of c.before.before.requires c.in-Monotone.is).fits
 
-mul-reasons-3 : tie.Need-overflow-mul-reasons-3
+mul-reasons-3 : tie.Need-offset_bounds-reasons-count-in-Decide
 mul-reasons-3 c =
-    let start = c.before.before.before in
-    omega (arith, (asked_of start.requires c.enum-told2.given.1).fits, start.well-formed)
+    let start = c.before.before in
+    omega (arith, (asked_of start.requires c.in-Decide.is).fits, start.well_formed)
 
-slice-write-reasons-3 : tie.Need-slice-write-reasons-3
-slice-write-reasons-3 c = (asked_of c.before.before.before.requires c.enum-told2.given.1).fits
+slice-write-reasons-3 : tie.Need-bounds-reasons-count-in-Decide
+slice-write-reasons-3 c = (asked_of c.before.before.requires c.in-Decide.is).fits
 
-returns : tie.Need-returns
+returns : tie.Need-returns-in-BacktrackExists
 returns c =
     let w = c.before.before.before in
-    let r = w.before.before.before in
-    told_exists _ _ r.rule.given.1 w.wipe.ensures c.named.ensures
+    let r = w.before.before in
+    told_exists _ _ r.in-BacktrackExists.is w.wipe.ensures c.named.ensures
 
-returns-2 : tie.Need-returns-2
-returns-2 c = told_fail _ _ c.before.before.rule2.given.1 c.named2.ensures
+returns-2 : tie.Need-returns-in-Fail
+returns-2 c = told_fail _ _ c.before.in-Fail.is c.named-in-Fail.ensures
 
-returns-3 : tie.Need-returns-3
-returns-3 c = told_unit _ _ c.before.before.rule3.given.1 c.named3.ensures
+returns-3 : tie.Need-returns-in-Unit
+returns-3 c = told_unit _ _ c.before.in-Unit.is c.named-reason.ensures
 
-returns-4 : tie.Need-returns-4
-returns-4 c = rw c.enum_told.given.1
+returns-4 : tie.Need-returns-in-Monotone
+returns-4 c = rw c.in-Monotone.is
 
-returns-5 : tie.Need-returns-5
-returns-5 c = rw c.enum-told2.given.1
+returns-5 : tie.Need-returns-in-Decide
+returns-5 c = rw c.in-Decide.is
 
-returns-6 : tie.Need-returns-6
+returns-6 : tie.Need-returns-in-BacktrackForall
 returns-6 c =
     let w = c.before.before in
-    let r = w.before.before.before in
-    told_forall _ _ r.rule4.given.1 w.wipe2.ensures
+    let r = w.before.before in
+    told_forall _ _ r.in-BacktrackForall.is w.wipe-in-BacktrackForall.ensures
 
-returns-7 : tie.Need-returns-7
-returns-7 c = rw c.enum-told3.given.1
+returns-7 : tie.Need-returns-in-Succeed
+returns-7 c = rw c.in-Succeed.is
 
-pub tell-spec : {M : Type 1} → statement M
-tell-spec =
+pub tell_spec : {M : Type 1} → statement M
+tell_spec =
     tie.close
     (tie.spec
     (λ c. search rules)

@@ -9,25 +9,25 @@ use Rattle.record.specs.Laws.Wiped.{wiped_next, wiped_none, wiped_past}
 use Rattle.memory.proofs.reasons.wipe.Statement.{statement}
 use Rattle.memory.proofs.reasons.wipe.Tie as tie
 
-abbrev invariant-loop : tie.invariant-loop
+abbrev invariant-loop : tie.invariant-loop-i
 invariant-loop reasons₀ from to i₀ reasons i = (length reasons ≡ length reasons₀) × (wiped 0 reasons i to ≡ wiped 0 reasons₀ from to)
 
-abbrev decreases-loop : tie.decreases-loop
+abbrev decreases-loop : tie.decreases-loop-i
 decreases-loop reasons₀ from to i₀ reasons i = to - i
 
-returns : tie.Need-returns invariant-loop decreases-loop
-returns c = let l = c.before.before.loop in sym (wiped_past 0 l.reasons l.i _ c.if1.true) ∙ l.invariant.1
+returns : tie.Need-returns-then-reasons-i invariant-loop decreases-loop
+returns c = let l = c.before.before.loop-i in sym (wiped_past 0 l.reasons l.i _ c.if-reasons-i.true) ∙ l.invariant.1
 
-loop-again : tie.Need-loop-preserved invariant-loop decreases-loop
+loop-again : tie.Need-loop-i-preserved invariant-loop decreases-loop
 loop-again c =
-    let l = c.before.before.loop in
-    (length-set l.reasons l.i 0 ∙ l.invariant.0, sym (wiped_next 0 l.reasons l.i _ c.before.loop-test.true) ∙ l.invariant.1)
+    let l = c.before.before.loop-i in
+    (length-set l.reasons l.i 0 ∙ l.invariant.0, sym (wiped_next 0 l.reasons l.i _ c.before.loop-i-test.true) ∙ l.invariant.1)
 
-returns-2 : tie.Need-returns-2 invariant-loop decreases-loop
-returns-2 c = let l = c.before.loop in sym (wiped_none 0 l.reasons l.i _ c.loop-test.false) ∙ l.invariant.1
+returns-2 : tie.Need-returns invariant-loop decreases-loop
+returns-2 c = let l = c.before.loop-i in sym (wiped_none 0 l.reasons l.i _ c.loop-i-test.false) ∙ l.invariant.1
 
-pub wipe-spec : {M : Type 1} → statement M
-wipe-spec =
+pub wipe_spec : {M : Type 1} → statement M
+wipe_spec =
     tie.close
     (tie.spec invariant-loop decreases-loop (λ c. (refl, refl)) (λ c. search rules) returns (λ c. omega arith) (λ c. omega arith) (λ c. omega arith)
     (λ c. omega arith) loop-again (λ c. search rules) returns-2)

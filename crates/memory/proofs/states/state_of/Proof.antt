@@ -12,8 +12,8 @@ past-both zero f g = absurd (f refl)
 past-both (suc zero) f g = absurd (g refl)
 past-both (suc (suc n)) f g = refl
 
-returns-3 : tie.Need-returns-3
-returns-3 c = past-both _ c.before.if1.false c.if2.false
+returns-3 : tie.Need-returns
+returns-3 c = past-both _ c.before.if-number-eq0.false c.if-number-eq1.false
 
-pub state-of-spec : {M : Type 1} → statement M
-state-of-spec = tie.close (tie.spec (λ c. search rules) (λ c. search rules) returns-3)
+pub state_of_spec : {M : Type 1} → statement M
+state_of_spec = tie.close (tie.spec (λ c. search rules) (λ c. search rules) returns-3)

@@ -12,18 +12,18 @@ use Rattle.text.proofs.ending.judge.Tie as tie
 part : (c : tie.After-check) → let s = c.before.before.before in take (s.args.n - 0) s.args.output.now ≡ take s.args.n s.args.output.now
 part c = let n = c.before.before.before.args.n in let e : n - 0 ≡ n = omega arith in rw e
 
-returns : tie.Need-returns
+returns : tie.Need-returns-in-Accepted
 returns c =
-    let k = c.before.before.before.before.before in
-    judge_accepts _ _ _ (part k) (sym k.check.ensures ∙ c.before.before.before.enum_told.given.1) c.before.wipe.ensures
+    let k = c.before.before.before.before in
+    judge_accepts _ _ _ (part k) (sym k.check.ensures ∙ c.before.before.before.in-Accepted.is) c.before.wipe.ensures
 
-returns-2 : tie.Need-returns-2
+returns-2 : tie.Need-returns-in-Refused
 returns-2 c =
-    let k = c.before.before.before.before.before.before in
-    judge_refuses _ _ _ (part k) (sym k.check.ensures ∙ c.before.before.before.before.row.given.1) c.before.wipe2.ensures
+    let k = c.before.before.before.before in
+    judge_refuses _ _ _ (part k) (sym k.check.ensures ∙ c.before.before.before.in-Refused.is) c.before.wipe-in-Refused.ensures
 
-pub judge-spec : {M : Type 1} → statement M
-judge-spec =
+pub judge_spec : {M : Type 1} → statement M
+judge_spec =
     tie.close
     (tie.spec
     (λ c. search rules)

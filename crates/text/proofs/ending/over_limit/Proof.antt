@@ -6,21 +6,21 @@ use borrow.Author.Rules.{rules}
 use Rattle.text.proofs.ending.over_limit.Statement.{statement}
 use Rattle.text.proofs.ending.over_limit.Tie as tie
 
-returns : tie.Need-returns
-returns c = rw (variables_are, lt-ltb max_variables c.before.before.args.kept.variables c.if1.true)
+returns : tie.Need-returns-then-kept-gt-MAX_VARIABLES
+returns c = rw (variables_are, lt-ltb max_variables c.before.before.args.kept.variables c.if-kept-gt-MAX_VARIABLES.true)
 
-returns-2 : tie.Need-returns-2
+returns-2 : tie.Need-returns-then-kept-gt-MAX_CLAUSES
 returns-2 c =
     let k = c.before.before.before.before.args.kept in
-    rw (variables_are, le-ltb max_variables k.variables c.before.before.if1.false, clauses_are, lt-ltb max_clauses k.clauses c.if2.true)
+    rw (variables_are, le-ltb max_variables k.variables c.before.before.if-kept-gt-MAX_VARIABLES.false, clauses_are, lt-ltb max_clauses k.clauses c.if-kept-gt-MAX_CLAUSES.true)
 
-returns-3 : tie.Need-returns-3
+returns-3 : tie.Need-returns
 returns-3 c =
     let k = c.before.before.before.before.before.args.kept in
-    rw (variables_are, le-ltb max_variables k.variables c.before.before.before.if1.false, clauses_are, le-ltb max_clauses k.clauses c.before.if2.false, literals_are)
+    rw (variables_are, le-ltb max_variables k.variables c.before.before.before.if-kept-gt-MAX_VARIABLES.false, clauses_are, le-ltb max_clauses k.clauses c.before.if-kept-gt-MAX_CLAUSES.false, literals_are)
 
-pub over-limit-spec : {M : Type 1} → statement M
-over-limit-spec =
+pub over_limit_spec : {M : Type 1} → statement M
+over_limit_spec =
     tie.close
     (tie.spec
     (λ c. search rules)

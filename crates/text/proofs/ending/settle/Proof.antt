@@ -18,15 +18,15 @@ use borrow.Author.Rules.{rules}
 use Rattle.text.proofs.ending.settle.Statement.{statement}
 use Rattle.text.proofs.ending.settle.Tie as tie
 
-returns : tie.Need-returns
-returns c = let d = c.before.before.before in count_exit _ _ d.before.count-row.ensures d.if1.true c.before.wipe.ensures
+returns : tie.Need-returns-then-refused-ne0
+returns c = let d = c.before.before.before in count_exit _ _ d.before.count_row-refused.ensures d.if-refused-ne0.true c.before.wipe.ensures
 
 -- no row of the counts applies
-passes : (c : tie.Else1) → let s = c.before.before in count_row s.args.kept s.args.output.now ≡ 0
-passes c = sym c.before.count-row.ensures ∙ c.if1.false
+passes : (c : tie.Else-refused-ne0) → let s = c.before.before in count_row s.args.kept s.args.output.now ≡ 0
+passes c = sym c.before.count_row-refused.ensures ∙ c.if-refused-ne0.false
 
 -- the bound words, and their row
-abbrev else1 : tie.After-take → tie.Else1
+abbrev else1 : tie.After-take → tie.Else-refused-ne0
 else1 c = c.before.before.before.before.before.before.before.before
 
 abbrev start : tie.After-take → tie.Start
@@ -36,20 +36,20 @@ words-here : (c : tie.After-take) → c.take.result.now ≡ kept_words (start c)
 unfolding kept_words
 words-here c = c.take.ensures ∙ ap₂ (λ (n : ℕ) (l : List ℤ). take n l) c.before.before.before.least.ensures c.before.drop.ensures
 
-bound-row-requires : tie.Need-bound-row-requires
+bound-row-requires : tie.Need-bound_row-row-requires
 bound-row-requires c κs = let a = (start c).args in (counted a.kept a.output.now (passes (else1 c))).variables
 
-row_here : (c : tie.After-bound-row) → let s = start c.before in c.bound-row.result ≡ refusal_of (bound_rows s.args.kept (kept_words s.args.kept s.args.output.now))
-row_here c = c.bound-row.ensures ∙ ap (λ (ws : List ℤ). refusal_of (bound_rows (start c.before).args.kept ws)) (words-here c.before)
+row_here : (c : tie.After-bound_row-row) → let s = start c.before in c.bound_row-row.result ≡ refusal_of (bound_rows s.args.kept (kept_words s.args.kept s.args.output.now))
+row_here c = c.bound_row-row.ensures ∙ ap (λ (ws : List ℤ). refusal_of (bound_rows (start c.before).args.kept ws)) (words-here c.before)
 
-returns-2 : tie.Need-returns-2
+returns-2 : tie.Need-returns-then-row-ne0
 returns-2 c =
     let d = c.before.before.before in
-    word_exit _ _ (passes (else1 d.before.before)) (row_here d.before) d.if2.true c.before.wipe2.ensures
+    word_exit _ _ (passes (else1 d.before.before)) (row_here d.before) d.if-row-ne0.true c.before.wipe-then-row-ne0.ensures
 
 -- neither of them applies
-clear : (c : tie.Else2) → let s = start c.before.before in refusal_of (bound_rows s.args.kept (kept_words s.args.kept s.args.output.now)) ≡ 0
-clear c = sym (row_here c.before) ∙ c.if2.false
+clear : (c : tie.Else-row-ne0) → let s = start c.before.before in refusal_of (bound_rows s.args.kept (kept_words s.args.kept s.args.output.now)) ≡ 0
+clear c = sym (row_here c.before) ∙ c.if-row-ne0.false
 
 lay-requires : tie.Need-lay-requires
 lay-requires c κs =
@@ -64,7 +64,7 @@ lay-requires c κs =
     )
 
 -- the block is laid
-laid : (c : tie.After-lay) → let s = start c.before.before.before.before in let a = s.args.kept in c.lay.new.0 ≡ laid_in s.args.output.now a.variables (min a.bound a.variables) a.clauses a.literals
+laid : (c : tie.After-lay) → let s = start c.before.before.before.before in let a = s.args.kept in c.lay.new.output ≡ laid_in s.args.output.now a.variables (min a.bound a.variables) a.clauses a.literals
 laid c =
     let k = c.before.before.before.before in
     let a = (start k).args.kept in
@@ -78,15 +78,15 @@ judge-requires c κs =
     let o = (start k).args.output.now in
     omega (arith, (counted a o (passes (else1 k))).fits, ap length (laid l) ∙ laid_in_length o a.variables (min a.bound a.variables) a.clauses a.literals)
 
-returns-3 : tie.Need-returns-3
+returns-3 : tie.Need-returns
 returns-3 c =
     let l = c.before.before.before.before in
     let k = l.before.before.before.before in
     let a = (start k).args.kept in
     last_exit a (start k).args.output.now (passes (else1 k)) (clear l.before.before) (c.before.judge.ensures ∙ ap (λ (x : List ℤ). judged limits x (6 + a.variables + a.clauses + a.literals)) (laid l))
 
-pub settle-spec : {M : Type 1} → statement M
-settle-spec =
+pub settle_spec : {M : Type 1} → statement M
+settle_spec =
     tie.close
     (tie.spec
     (λ c κs. tt)

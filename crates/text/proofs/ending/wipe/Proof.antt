@@ -9,38 +9,38 @@ use Rattle.text.specs.Laws.Wiped.{wipe_turn, wipe_ended}
 use Rattle.text.proofs.ending.wipe.Statement.{statement}
 use Rattle.text.proofs.ending.wipe.Tie as tie
 
-abbrev invariant-loop : tie.invariant-loop
+abbrev invariant-loop : tie.invariant-loop-i
 invariant-loop output₀ from i₀ output i = (length output ≡ length output₀) × (wiped output i ≡ wiped output₀ from)
 
-abbrev decreases-loop : tie.decreases-loop
+abbrev decreases-loop : tie.decreases-loop-i
 decreases-loop output₀ from i₀ output i = length output₀ - i
 
-loop-holds : tie.Need-loop-init invariant-loop decreases-loop
+loop-holds : tie.Need-loop-i-init invariant-loop decreases-loop
 loop-holds c = (refl, refl)
 
-mul-output : tie.Need-overflow-mul-output invariant-loop decreases-loop
-mul-output c = omega (arith, c.loop-test.true, c.before.loop.invariant.0, c.before.before.well-formed)
+mul-output : tie.Need-offset_bounds-output-i invariant-loop decreases-loop
+mul-output c = omega (arith, c.loop-i-test.true, c.before.loop-i.invariant.0, c.before.before.well_formed)
 
-slice-set-of-output : tie.Need-slice-set-of-output invariant-loop decreases-loop
-slice-set-of-output c = c.loop-test.true
+slice-set-of-output : tie.Need-slice_set_of-output invariant-loop decreases-loop
+slice-set-of-output c = c.loop-i-test.true
 
-add-i : tie.Need-overflow-add-i invariant-loop decreases-loop
-add-i c = omega (arith, c.loop-test.true, c.before.loop.invariant.0, c.before.before.well-formed)
+add-i : tie.Need-overflow_add-i invariant-loop decreases-loop
+add-i c = omega (arith, c.loop-i-test.true, c.before.loop-i.invariant.0, c.before.before.well_formed)
 
-loop-less : tie.Need-loop-smaller invariant-loop decreases-loop
-loop-less c = omega (arith, c.loop-test.true, c.before.loop.invariant.0)
+loop-less : tie.Need-loop-i-smaller invariant-loop decreases-loop
+loop-less c = omega (arith, c.loop-i-test.true, c.before.loop-i.invariant.0)
 
-loop-again : tie.Need-loop-preserved invariant-loop decreases-loop
-loop-again c = let l = c.before.loop in (length-set l.output l.i (pos 0) ∙ l.invariant.0, wipe_turn l.output l.i c.loop-test.true ∙ l.invariant.1)
+loop-again : tie.Need-loop-i-preserved invariant-loop decreases-loop
+loop-again c = let l = c.before.loop-i in (length-set l.output l.i (pos 0) ∙ l.invariant.0, wipe_turn l.output l.i c.loop-i-test.true ∙ l.invariant.1)
 
-same_length : tie.Need-same-length invariant-loop decreases-loop
-same_length c = c.before.loop.invariant.0
+same_length : tie.Need-shape_of-output invariant-loop decreases-loop
+same_length c = c.before.loop-i.invariant.0
 
 returns : tie.Need-returns invariant-loop decreases-loop
-returns c = sym (wipe_ended c.before.loop.output c.before.loop.i c.loop-test.false) ∙ c.before.loop.invariant.1
+returns c = sym (wipe_ended c.before.loop-i.output c.before.loop-i.i c.loop-i-test.false) ∙ c.before.loop-i.invariant.1
 
-pub wipe-spec : {M : Type 1} → statement M
-wipe-spec =
+pub wipe_spec : {M : Type 1} → statement M
+wipe_spec =
     tie.close
     (tie.spec
     invariant-loop

@@ -12,51 +12,51 @@ use Rattle.clauses.proofs.Looks.{with_false, with_true, with_first, with_second,
 use Rattle.clauses.proofs.clauses.Look.with.Statement.{statement}
 use Rattle.clauses.proofs.clauses.Look.with.Tie as tie
 
-returns : tie.Need-returns
+returns : tie.Need-returns-then-status-eq0
 returns c =
     let a = c.before.before.args in
-    λ C. with_false _ _ _ a.self.place a.self.above _ C a.self.over (sym c.before.status-at.ensures ∙ c.if1.true)
+    λ C. with_false _ _ _ a.self.place a.self.above _ C a.self.over (sym c.before.status_at-status.ensures ∙ c.if-status-eq0.true)
 
-returns-2 : tie.Need-returns-2
+returns-2 : tie.Need-returns-then-status-eq1
 returns-2 c =
     let a = c.before.before.before.args in
-    λ C. with_true _ _ _ a.self.place a.self.above _ C a.self.over (sym c.before.before.status-at.ensures ∙ c.if2.true)
+    λ C. with_true _ _ _ a.self.place a.self.above _ C a.self.over (sym c.before.before.status_at-status.ensures ∙ c.if-status-eq1.true)
 
-returns-3 : tie.Need-returns-3
+returns-3 : tie.Need-returns-then-clause-self
 returns-3 c =
     let a = c.before.before.before.before.before.before.args in
-    λ C. with_first _ _ _ a.self.place a.self.above _ C (sym c.before.before.before.before.before.status-at.ensures ∙ c.before.before.if3.true) a.self.over a.j refl c.before.before.before.before.before.before.requires.1 c.if4.true
+    λ C. with_first _ _ _ a.self.place a.self.above _ C (sym c.before.before.before.before.before.status_at-status.ensures ∙ c.before.before.if-status-eq2.true) a.self.over a.j refl c.before.before.before.before.before.before.requires.1 c.if-clause-self.true
 
-returns-4 : tie.Need-returns-4
+returns-4 : tie.Need-returns-else-clause-self
 returns-4 c =
     let a = c.before.before.before.before.before.before.args in
-    λ C. with_second _ _ _ a.self.place a.self.above _ C (sym c.before.before.before.before.before.status-at.ensures ∙ c.before.before.if3.true) a.self.over c.if4.false
+    λ C. with_second _ _ _ a.self.place a.self.above _ C (sym c.before.before.before.before.before.status_at-status.ensures ∙ c.before.before.if-status-eq2.true) a.self.over c.if-clause-self.false
 
-mul-level : tie.Need-overflow-mul-level
-mul-level c = omega (arith, variables_are, c.size-at.ensures, c.before.before.before.before.before.requires.0 c.before.before.before.before.before.args.j)
+mul-level : tie.Need-offset_bounds-levels-size_at
+mul-level c = omega (arith, variables_are, c.size_at.ensures, c.before.before.before.before.before.requires.0 c.before.before.before.before.before.args.j)
 
-element-copy-out-level : tie.Need-element-copy-out-level
-element-copy-out-level c = omega (arith, variables_are, c.size-at.ensures, c.before.before.before.before.before.requires.0 c.before.before.before.before.before.args.j)
+element-copy-out-level : tie.Need-bounds-levels-size_at
+element-copy-out-level c = omega (arith, variables_are, c.before.size_at.ensures, c.before.before.before.before.before.before.requires.0 c.before.before.before.before.before.before.args.j)
 
 -- a universal literal leaves the lower of the level so far and its own
-module _ (c : tie.After-struct-known2) where
+module _ (c : tie.After-struct_known-2-1) where
   lowered :
       let a = c.before.before.before.before.before.before.before.args in
       let x = get_or a.clause.now a.j (pos 0) in
-      (n : ℕ) → n ≡ min a.self.above (get_or a.levels.now c.before.before.size-at.result 0) → Shown (status_in a.statuses.now) (level_by a.levels.now) a.clause.now a.self x (record { place = a.self.place; above = n; over = a.self.over })
+      (n : ℕ) → n ≡ min a.self.above (get_or a.levels.now c.before.before.before.size-at.result 0) → Shown (status_in a.statuses.now) (level_by a.levels.now) a.clause.now a.self x (record { place = a.self.place; above = n; over = a.self.over })
   lowered n m =
       let a = c.before.before.before.before.before.before.before.args in
       let k = c.before.before.before.before.before.before.status-at.ensures in
-      λ C. with_universal _ _ _ a.self.place a.self.above _ C (λ z. c.before.before.before.before.before.if1.false (k ∙ z)) (λ z. c.before.before.before.before.if2.false (k ∙ z)) (λ z. c.before.before.before.if3.false (k ∙ z)) a.self.over n (m ∙ ap (λ v. min a.self.above (get_or a.levels.now v 0)) c.before.before.size-at.ensures)
+      λ C. with_universal _ _ _ a.self.place a.self.above _ C (λ z. c.before.before.before.before.before.before.if1.false (k ∙ z)) (λ z. c.before.before.before.before.before.if2.false (k ∙ z)) (λ z. c.before.before.before.before.if3.false (k ∙ z)) a.self.over n (m ∙ ap (λ v. min a.self.above (get_or a.levels.now v 0)) c.before.before.before.size-at.ensures)
 
-returns-5 : tie.Need-returns-5
-returns-5 c = lowered c.before _ (omega (arith, c.if5.true))
+returns-5 : tie.Need-returns-then-level-self
+returns-5 c = lowered c.before _ (omega (arith, c.if-level-self.true))
 
-returns-6 : tie.Need-returns-6
-returns-6 c = lowered c.before _ (omega (arith, c.if5.false))
+returns-6 : tie.Need-returns-else-level-self
+returns-6 c = lowered c.before _ (omega (arith, c.if-level-self.false))
 
-pub with-spec : {M : Type 1} → statement M
-with-spec =
+pub with_spec : {M : Type 1} → statement M
+with_spec =
     tie.close
     (tie.spec (λ c κs. c.requires.0 c.args.j) returns returns-2 returns-3 returns-4 (λ c κs. search rules) mul-level element-copy-out-level
     returns-5 returns-6)
