@@ -24,8 +24,8 @@ use Rattle.record.specs.Found.{literal}
 use Rattle.applied.specs.Apply.{flip, kind_of, chosen, move_of}
 use Rattle.record.specs.Inner.Tables.{Quantifiers}
 use Rattle.record.specs.Inner.Ready.{Bound, Kept}
-use Rattle.record.specs.Laws.Filled.{quantifier_in}
-use Rattle.record.specs.Laws.Records.{kept_room, kept_named}
+use Rattle.record.proofs.Laws.Filled.{quantifier_in}
+use Rattle.record.proofs.Laws.Records.{kept_room, kept_named}
 use Rattle.record.specs.declared.rule.State.TheVariants.{Open}
 use Rattle.record.specs.declared.rule.Rule.{Rule}
 use Rattle.record.specs.declared.rule.Rule.TheVariants.{BacktrackExists, Fail, Unit, Monotone, Decide, BacktrackForall, Succeed}

@@ -3,3 +3,4 @@
 -- the look at a clause, and what it makes due
 pub mod Looks
 pub mod Decision
+pub mod Laws

@@ -7,4 +7,3 @@ pub mod Promises
 -- what functions say to each other
 pub mod Inner
 -- what is proved about the definitions, for use in proofs
-pub mod Laws

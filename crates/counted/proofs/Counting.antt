@@ -17,7 +17,7 @@ use Rattle.formula.specs.Laws.Places.{place_within}
 use Rattle.clauses.specs.Inner.Clauses.{Placed}
 use Rattle.counted.specs.Fresh.{bit}
 use Rattle.counted.specs.Inner.Index.{at}
-use Rattle.counted.specs.Laws.Index.{at_ended, at_next, within}
+use Rattle.counted.proofs.Laws.Index.{at_ended, at_next, within}
 
 pub record Counting (size : ℕ) (ws : List ℤ) (t : List ℕ) (j : ℕ) : Type 0 where
   pub most : j ≤ length ws

@@ -16,7 +16,7 @@ use Rattle.words.specs.Laws.Bools.{look}
 use Rattle.formula.specs.Inner.Places.{literal_places, place_of}
 use Rattle.counted.specs.Fresh.{bit}
 use Rattle.counted.specs.Inner.Index.{Index, at, listed, before}
-use Rattle.counted.specs.Laws.Index.{apart, at_ended, at_next, within}
+use Rattle.counted.proofs.Laws.Index.{apart, at_ended, at_next, within}
 
 -- the first j words are entered, and `left` is what comes, at each place
 pub record Entering (ls : List ℤ) (all : ℕ → List ℕ) (stops index : List ℕ) (j : ℕ) (left : ℕ → List ℕ) : Type 0 where

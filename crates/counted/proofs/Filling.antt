@@ -14,8 +14,8 @@ use Rattle.formula.specs.Block.{bad_ends}
 use Rattle.formula.specs.Laws.Clauses.{clauses_length}
 use Rattle.formula.specs.Laws.Ends.{clause_start, good_at}
 use Rattle.counted.specs.Inner.Numbers.{Filled, numbers_of, Rest, with_status}
-use Rattle.counted.specs.Laws.Lowest.{clause_taken}
-use Rattle.counted.specs.Laws.Numbers.{rest_none}
+use Rattle.counted.proofs.Laws.Lowest.{clause_taken}
+use Rattle.counted.proofs.Laws.Numbers.{rest_none}
 use Rattle.counted.specs.declared.numbers.Numbers.{Numbers}
 
 -- a part of the words

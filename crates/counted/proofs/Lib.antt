@@ -13,3 +13,6 @@ pub mod Looked
 pub mod Passing
 -- the walks
 pub mod Walking
+pub mod Laws
+pub mod Runs
+pub mod History

@@ -10,7 +10,7 @@ use lib.ListN.{length, get_or, set, length-set}
 use lib.Seq.{get_or-set_same, get_or-set_other}
 use Rattle.formula.specs.Inner.Places.{literal_places}
 use Rattle.counted.specs.Inner.Index.{Table, at, before}
-use Rattle.counted.specs.Laws.Index.{before_next, before_none, within}
+use Rattle.counted.proofs.Laws.Index.{before_next, before_none, within}
 
 pub record Starting (ws : List ℤ) (t : List ℕ) (sum p : ℕ) : Type 0 where
   pub most : p ≤ literal_places

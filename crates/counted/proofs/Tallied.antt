@@ -8,7 +8,7 @@ use lib.IntN.{ℤ, pos}
 use lib.ListN.{length, get_or, drop}
 use Rattle.counted.specs.Fresh.{bit}
 use Rattle.counted.specs.Inner.Numbers.{numbers_of, with_status}
-use Rattle.counted.specs.Laws.Numbers.{status_ended, status_most, status_next}
+use Rattle.counted.proofs.Laws.Numbers.{status_ended, status_most, status_next}
 
 pub record Tallied (st : ℤ → ℕ) (C : List ℤ) (t o j : ℕ) : Type 0 where
   pub most : j ≤ length C

@@ -7,7 +7,7 @@ use lib.ListN.{length, get_or, drop, set}
 use Rattle.words.specs.Laws.Lists.{next, ended}
 use Rattle.formula.specs.Limits.{limits}
 use Rattle.counted.specs.Inner.Walk.{Bounded, CountedIn, CountedOut, Enterable, Inside, Leavable, Lowered, added}
-use Rattle.counted.specs.Laws.Walk.{added_drop, added_own, lower, raise, sink, sinks}
+use Rattle.counted.proofs.Laws.Walk.{added_drop, added_own, lower, raise, sink, sinks}
 use Rattle.counted.specs.declared.walk.Bounds.{Bounds}
 
 bounded_begin : (L ts os : List ℕ) (b : Bounds) → Bounded L ts os b L ts os b

@@ -10,8 +10,5 @@ pub mod Promises
 -- which number a refused call is given
 pub mod Rows
 -- it is a run; any history
-pub mod Runs
-pub mod History
 -- what functions say to each other; what is proved of all these
 pub mod Inner
-pub mod Laws

@@ -7,10 +7,8 @@ pub mod Machine
 pub mod Events
 pub mod Reads
 -- what is read is what the grammar says
-pub mod Spelled
 -- a tree written as a text
 pub mod Written
 -- what each function promises, and that it leaves one answer
 pub mod Promises
 -- what is proved for use in proofs
-pub mod Laws

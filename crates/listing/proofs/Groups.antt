@@ -24,11 +24,11 @@ use Rattle.record.specs.declared.rule.State.TheVariants.{Open}
 use Rattle.record.specs.Search.{Search, search}
 use Rattle.record.specs.Inner.Ready.{KeptIn, OnBlock}
 use Rattle.record.specs.Trail.{Trail, wiped_trail, trail}
-use Rattle.record.specs.Laws.Accepted.{accepted_binds}
+use Rattle.record.proofs.Laws.Accepted.{accepted_binds}
 use Rattle.search.specs.Run.{trip, run_from}
 use Rattle.listing.specs.Opening.{values_of, value_at, opening_start, opening_search}
-use Rattle.listing.specs.Laws.Start.{starts}
-use Rattle.listing.specs.Laws.Values.{group_few}
+use Rattle.listing.proofs.Laws.Start.{starts}
+use Rattle.listing.proofs.Laws.Values.{group_few}
 use Rattle.listing.specs.Inner.Pages.{OnGroup, Writable}
 
 -- ---- the first group: u is the sign of the prefix's first word

@@ -13,7 +13,7 @@ use Rattle.formula.specs.Formula.{word, formula_of, first_group, prefix_of}
 use Rattle.record.specs.Inner.Ready.{formula}
 use Rattle.memory.specs.Memory.{record_places}
 use Rattle.memory.specs.Refusals.{open_rows, open_refusal}
-use Rattle.listing.specs.Laws.Values.{first_word}
+use Rattle.listing.proofs.Laws.Values.{first_word}
 use Rattle.listing.specs.Page.{of_page, page_refusal, PageMemory}
 use Rattle.formula.specs.Limits.{limits}
 

@@ -17,7 +17,7 @@ use Rattle.record.specs.declared.rule.Reached.{Reached}
 use Rattle.record.specs.Search.{Search, reached}
 use Rattle.record.specs.Trail.{Trail, wiped_trail}
 use Rattle.record.specs.Inner.Ready.{Binds, Room}
-use Rattle.record.specs.Laws.Accepted.{prefix_length}
+use Rattle.record.proofs.Laws.Accepted.{prefix_length}
 use Rattle.listing.specs.declared.Paged.{Paged}
 use Rattle.listing.specs.declared.Paged.TheVariants.{Page, Refused}
 use Rattle.listing.specs.Opening.{openings, opening_search, opening_end}
@@ -25,9 +25,9 @@ use Rattle.listing.specs.Page.{PageMemory, sheet, written, by_search, page_from,
 use Rattle.listing.specs.Rows.{page_binds, PageGuarded, page_guarded}
 use Rattle.listing.specs.Claims.{Beyond}
 use Rattle.listing.specs.Inner.Pages.{OnGroup, OnPage, wiped_outcome}
-use Rattle.listing.specs.Laws.Beyond.{beyond_refl, beyond_trans, beyond_room, wiped_again, search_beyond, same_end}
-use Rattle.listing.specs.Laws.Sheets.{written_length}
-use Rattle.listing.specs.Refused.{page_accepted}
+use Rattle.listing.proofs.Laws.Beyond.{beyond_refl, beyond_trans, beyond_room, wiped_again, search_beyond, same_end}
+use Rattle.listing.proofs.Laws.Sheets.{written_length}
+use Rattle.listing.proofs.Refused.{page_accepted}
 
 -- ---- the loop
 pub narrow : {b : List ℤ} {m : PageMemory} {k start : ℕ} → OnPage b m k start → k ≤ limits.group

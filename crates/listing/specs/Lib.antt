@@ -2,22 +2,14 @@
 
 -- an opening, its search, and when it wins; a page
 pub mod Opening
-pub mod Wins
 pub mod Page
 -- what a page promises, and that it leaves one result
 pub mod Promises
 -- which number a refused page is given, and what it leaves
 pub mod Rows
-pub mod Refused
 -- an accepted page; any list of pages; all openings together; the one that an ended session shows
 pub mod Claims
-pub mod Accepted
-pub mod Pages
-pub mod Covers
-pub mod Found
 -- a page's searches are runs, and what the work record held before doesn't matter
-pub mod AsRun
-pub mod AnyWork
 -- what functions say to each other; what is proved of all these
 pub mod Inner
-pub mod Laws
+pub mod Wins

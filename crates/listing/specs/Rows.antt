@@ -12,11 +12,11 @@ use Rattle.formula.specs.Block.{refusal}
 use Rattle.memory.specs.Refusals.{open_rows, open_refusal}
 use Rattle.session.specs.Rows.{open_numbers}
 use Rattle.memory.specs.Memory.{record_places}
-use Rattle.memory.specs.Laws.Opened.{opened, open_passes, record_room, room_record}
+use Rattle.memory.proofs.Laws.Opened.{opened, open_passes, record_room, room_record}
 use Rattle.listing.specs.Opening.{openings}
 use Rattle.listing.specs.Page.{first_universal, of_page, page_rows, page_refusal, PageMemory}
 use Rattle.record.specs.Inner.Ready.{Binds, Room}
-use Rattle.record.specs.Laws.Accepted.{prefix_length, accepted_binds}
+use Rattle.record.proofs.Laws.Accepted.{prefix_length, accepted_binds}
 
 module _ (L : Limits) (b : List ℤ) (m : PageMemory) (start : ℕ) where
   pub page_numbered : Numbered (page_rows L b m start) (page_refusal L b m start)

@@ -15,7 +15,7 @@ use Rattle.formula.specs.Block.{rows, refusal}
 use Rattle.formula.specs.Check.{checked_of}
 use Rattle.formula.specs.Laws.Check.{checked_accepted, checked_refused}
 use Rattle.memory.specs.Refusals.{of_buffers, open_refusal}
-use Rattle.memory.specs.Laws.Opened.{from_11}
+use Rattle.memory.proofs.Laws.Opened.{from_11}
 
 refused_some : (n k : ℕ) → checked_of n ≡ Refused k → k ≡ 0 → ⊥
 unfolding checked_of

@@ -15,7 +15,7 @@ use Rattle.record.specs.declared.rule.Rule.TheVariants.{BacktrackExists, Fail, U
 use Rattle.record.specs.Trail.{wiped}
 use Rattle.memory.specs.Reasons.{why, told, bad_reason, bad_reasons}
 use Rattle.memory.specs.Inner.Reasons.{Tellable}
-use Rattle.memory.specs.Laws.BadReasons.{zero_right}
+use Rattle.memory.proofs.Laws.BadReasons.{zero_right}
 
 -- ---- what a rule leaves and answers, rule by rule
 pub asked_of : {k n : ℕ} {rule x : Rule} → Tellable k n rule → rule ≡ x → Tellable k n x

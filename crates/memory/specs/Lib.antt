@@ -11,4 +11,3 @@ pub mod Refusals
 pub mod Promises
 -- what functions say to each other; what is proved of all these
 pub mod Inner
-pub mod Laws

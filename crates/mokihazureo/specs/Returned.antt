@@ -7,9 +7,9 @@ use Rattle.words.specs.Outcomes.{outcome}
 use Rattle.formula.specs.Limits.{limits}
 use Rattle.reader.specs.declared.Reader.{Reader}
 use Rattle.text.specs.Pieces.{piece_of, begun, in_pieces, whole}
-use Rattle.text.specs.Whole.{ended, pieces_read}
+use Rattle.text.proofs.Whole.{ended, pieces_read}
 use Rattle.saved.specs.Numbers.{reader_numbers, reader_of, written}
-use Rattle.saved.specs.Back.{comes_back, piece_within, reader_within, begun_within}
+use Rattle.saved.proofs.Back.{comes_back, piece_within, reader_within, begun_within}
 use Rattle.mokihazureo.specs.Called.{Lent, lent, told}
 use Rattle.answers.specs.Answers.{read_status, read_numbers}
 use Rattle.mokihazureo.specs.Reading.{read_call, piece_call, end_call}

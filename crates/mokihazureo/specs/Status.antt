@@ -19,7 +19,7 @@ use Rattle.session.specs.Run.{run_of}
 use Rattle.counted.specs.Lent as counted
 use Rattle.counted.specs.Refusals.{counted_refusal}
 use Rattle.counted.specs.Counted.{counted_of}
-use Rattle.counted.specs.Laws.Guards.{passes}
+use Rattle.counted.proofs.Laws.Guards.{passes}
 use Rattle.record.specs.Found.{literal}
 use Rattle.listing.specs.declared.Paged as paged
 use Rattle.listing.specs.Page.{PageMemory, page_refusal, page_of}
@@ -30,7 +30,7 @@ use Rattle.plain.specs.Solve.{plain_refusal, opinion_of, solve_of}
 use Rattle.text.specs.declared.Answer as text
 use Rattle.grammar.specs.Reads.{Read, spelled, misfit, reads}
 use Rattle.text.specs.Tree.{zeros, text_refusal, row_of, text_of, answered, read_of}
-use Rattle.text.specs.Meaning.{accepted_or_wiped}
+use Rattle.text.proofs.Meaning.{accepted_or_wiped}
 use Rattle.writer.specs.declared.Written as wrote
 use Rattle.writer.specs.Write.{write_refusal, write_of}
 use Rattle.answers.specs.Answers.{opened_status, opened_numbers, stepped_status, stepped_numbers, ran_status, ran_numbers, paged_status, paged_numbers, showed_status, showed_numbers, solved_status, solved_numbers, read_status, wrote_status, wrote_numbers}

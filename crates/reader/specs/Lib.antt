@@ -9,4 +9,3 @@ pub mod Promises
 -- what functions say to each other
 pub mod Inner
 -- what is proved for use in proofs
-pub mod Laws

@@ -4,3 +4,4 @@
 pub mod Values
 pub mod Places
 pub mod Row12
+pub mod Laws

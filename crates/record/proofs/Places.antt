@@ -9,7 +9,7 @@ use borrow.Author.Tests.{eq-eqb, ne_eqb}
 use lib.ListN.{length, get_or, set, length-set}
 use Rattle.record.specs.Trail.{wiped}
 use Rattle.record.specs.Inner.Buffers.{last_kind}
-use Rattle.record.specs.Laws.Wiped.{wiped_next, wiped_none, wiped_past}
+use Rattle.record.proofs.Laws.Wiped.{wiped_next, wiped_none, wiped_past}
 use Rattle.record.specs.declared.found.Found.TheVariants.{At, Nothing}
 
 -- going backward: the place found, one passed, and the first

@@ -23,8 +23,8 @@ use Rattle.record.specs.Check.{bad_kind, bad_entries, bad_record}
 use Rattle.record.specs.Inner.Ready.{Bound, Room}
 use Rattle.record.specs.Inner.Tables.{places, Quantifiers}
 use Rattle.record.specs.Inner.Buffers.{KindsLent, wrong_kind}
-use Rattle.record.specs.Laws.Filled.{quantifier_in}
-use Rattle.record.specs.Laws.Records.{room_less, record_length, record_get, record_literals}
+use Rattle.record.proofs.Laws.Filled.{quantifier_in}
+use Rattle.record.proofs.Laws.Records.{room_less, record_length, record_get, record_literals}
 
 -- ---- kinds
 -- the table tells a variable's quantifier, since it has one only

@@ -18,7 +18,7 @@ use Rattle.words.specs.Words.{negative, eq_z, mem}
 use Rattle.words.specs.Laws.Words.{mem_here, mem_other, plus_other, minus_other}
 use Rattle.formula.specs.Block.{names}
 use Rattle.formula.specs.Laws.Prefix.{fresh_word, fresh_at}
-use Rattle.record.specs.Laws.Filled.{Filled, begin, turn, placed}
+use Rattle.record.proofs.Laws.Filled.{Filled, begin, turn, placed}
 
 pub sign_minus : (w : ℤ) → negative w ≡ true → 2 ≡ sign_of w
 sign_minus (pos n) h = clash h refl

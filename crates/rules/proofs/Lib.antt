@@ -4,3 +4,4 @@
 pub mod Wiping
 pub mod Occurring
 pub mod Monotone
+pub mod Laws

@@ -20,8 +20,8 @@ use Rattle.theory.specs.Record.{Assignment}
 use Rattle.theory.specs.Tests.{occurs, untrue_of}
 use Rattle.rules.specs.Inner.Occurrences.{Occurring, Marked, Counted, marked_by}
 use Rattle.clauses.specs.Inner.Clauses.{Placed, Clauses}
-use Rattle.record.specs.Laws.Filled.{Filled, turn, end}
-use Rattle.clauses.specs.Laws.Walk.{Turn}
+use Rattle.record.proofs.Laws.Filled.{Filled, turn, end}
+use Rattle.clauses.proofs.Laws.Walk.{Turn}
 use Rattle.formula.specs.Block.{bad_ends}
 use Rattle.formula.specs.Formula.{clauses_from}
 use Rattle.formula.specs.Laws.Clauses.{clauses_ended}

@@ -8,7 +8,7 @@ use Rattle.record.specs.declared.rule.Rule.{Rule}
 use Rattle.record.specs.Trail.{Trail, record_of}
 use Rattle.rules.specs.Due.{due, due_conflict}
 use Rattle.rules.specs.Inner.Tabled.{Tabled}
-use Rattle.rules.specs.Laws.Kinds.{kinds_tabled}
+use Rattle.rules.proofs.Laws.Kinds.{kinds_tabled}
 
 -- ---- what is asked of a block and a record, of n entries
 -- s is the table that is lent blank: it is left as it was

@@ -1,4 +1,3 @@
 -- A reader's numbers; what each function promises; and that what goes out comes back in.
 pub mod Numbers
 pub mod Promises
-pub mod Back

@@ -5,4 +5,3 @@ pub mod Run
 -- what each function promises, and that it leaves one result
 pub mod Promises
 -- what is proved about the definitions, for use in proofs
-pub mod Laws

@@ -19,7 +19,7 @@ use Rattle.rules.specs.Due.{due}
 use Rattle.record.specs.Search.{search, reached}
 use Rattle.record.specs.Trail.{record_of, Trail, wiped, wiped_trail}
 use Rattle.applied.specs.Apply.{apply}
-use Rattle.record.specs.Laws.Accepted.{kept_true}
+use Rattle.record.proofs.Laws.Accepted.{kept_true}
 use Rattle.session.specs.declared.Revision.{Revision}
 use Rattle.session.specs.declared.Session.{Session}
 use Rattle.session.specs.declared.Answer.TheVariants.{To, Refused}

@@ -17,8 +17,8 @@ use Rattle.record.specs.declared.rule.Rule.{Rule}
 use Rattle.record.specs.Check.{bad_record}
 use Rattle.choice.specs.Preferred.{decides}
 use Rattle.record.specs.Inner.Ready.{OnBuffers}
-use Rattle.record.specs.Laws.Records.{good}
-use Rattle.record.specs.Laws.Accepted.{prefix_length}
+use Rattle.record.proofs.Laws.Records.{good}
+use Rattle.record.proofs.Laws.Accepted.{prefix_length}
 use Rattle.session.specs.declared.Revision.{Revision}
 use Rattle.session.specs.declared.Session.{Session}
 use Rattle.memory.specs.Memory.{Memory, places}
@@ -26,7 +26,7 @@ use Rattle.memory.specs.Reasons.{bad_reasons}
 use Rattle.memory.specs.Refusals.{open_rows, open_refusal}
 use Rattle.search.specs.Run.{over}
 use Rattle.session.specs.Refusals.{of_session}
-use Rattle.memory.specs.Laws.Opened.{Opened, opened, buffers_room, reasons_room}
+use Rattle.memory.proofs.Laws.Opened.{Opened, opened, buffers_room, reasons_room}
 use Rattle.session.specs.Laws.Accepted.{from_12}
 use Rattle.memory.specs.Inner.Reasons.{Beside}
 use Rattle.session.specs.Inner.Guards.{session_refusal, proposal_refusal}

@@ -14,17 +14,17 @@ use Rattle.formula.specs.Formula.{formula_of, variables_of, prefix_of}
 use Rattle.formula.specs.Block.{refusal}
 use Rattle.formula.specs.Truth.{true?}
 use Rattle.theory.specs.Rules.{going, Step, Path, stop}
-use Rattle.theory.specs.Laws.Moves.{path_snoc, good_none}
-use Rattle.theory.specs.Theorem.{accepted_any_order}
+use Rattle.theory.proofs.Laws.Moves.{path_snoc, good_none}
+use Rattle.theory.proofs.Theorem.{accepted_any_order}
 use Rattle.record.specs.declared.rule.State.{State}
 use Rattle.record.specs.declared.rule.State.TheVariants.{Open, Valid, Unsat}
 use Rattle.record.specs.Found.{literal}
 use Rattle.record.specs.Trail.{record_of, wiped_trail}
-use Rattle.record.specs.Laws.Wiped.{wiped_length}
-use Rattle.record.specs.Laws.Good.{good_kept}
+use Rattle.record.proofs.Laws.Wiped.{wiped_length}
+use Rattle.record.proofs.Laws.Good.{good_kept}
 use Rattle.record.specs.Search.{record_in, standing_of}
 use Rattle.record.specs.Inner.Ready.{KeptIn, OnBlock}
-use Rattle.record.specs.Laws.Accepted.{prefix_length, accepted_binds}
+use Rattle.record.proofs.Laws.Accepted.{prefix_length, accepted_binds}
 use Rattle.session.specs.declared.Revision.{Revision}
 use Rattle.session.specs.declared.Session.{Session}
 use Rattle.session.specs.declared.Answer.TheVariants.{To}
@@ -39,7 +39,7 @@ use Rattle.memory.specs.Refusals.{open_refusal}
 use Rattle.session.specs.Refusals.{last_revision}
 use Rattle.session.specs.Outcome.{session, open_outcome}
 use Rattle.session.specs.Calls.{Desk, desk, Call, step, run, after_step, step_at, run_at, call, play}
-use Rattle.memory.specs.Laws.Opened.{opened, buffers_room, reasons_room}
+use Rattle.memory.proofs.Laws.Opened.{opened, buffers_room, reasons_room}
 use Rattle.session.specs.Laws.Accepted.{Sound, Guarded, step_last, run_last, step_passes}
 use Rattle.session.specs.Laws.Each.{Each}
 use Rattle.session.specs.Refused.{unless_to, step_refused, run_refused, step_refused_leaves}

@@ -4,7 +4,7 @@ use Rattle.std.proofs.Common.{zero-le, inr}
 use Rattle.formula.specs.Formula.{variables_of}
 use Rattle.formula.specs.Limits.{Limits}
 use Rattle.record.specs.declared.rule.State.TheVariants.{Open}
-use Rattle.record.specs.Laws.Wiped.{wiped_length, wiped_inside, wiped_outside}
+use Rattle.record.proofs.Laws.Wiped.{wiped_length, wiped_inside, wiped_outside}
 use Rattle.session.specs.declared.Revision.{Revision}
 use Rattle.session.specs.declared.Session.{Session}
 use Rattle.session.specs.declared.Answer.TheVariants.{To}
@@ -12,7 +12,7 @@ use Rattle.memory.specs.Memory.{Memory, places}
 use Rattle.memory.specs.Refusals.{open_refusal}
 use Rattle.session.specs.Refused.{unless_to}
 use Rattle.session.specs.Outcome.{session, open_outcome}
-use Rattle.record.specs.Laws.Wiped.{wiped_blank, wiped_other}
+use Rattle.record.proofs.Laws.Wiped.{wiped_blank, wiped_other}
 use Rattle.record.specs.Trail.{entry_at, no_entry}
 
 pub record Fresh (b : List ℤ) (rev : Revision) (s : Session) (m m' : Memory) : Type 0 where

@@ -30,7 +30,7 @@ use Rattle.session.specs.Laws.Accepted.{Sound, Guarded, run_guarded, step_passes
 use Rattle.session.specs.Laws.Sound.{sound_after}
 use Rattle.session.specs.Outcome.{moved, search_of}
 use Rattle.session.specs.Run.{ran, run_of}
-use Rattle.search.specs.Laws.Runs.{over_open, proposal_passes, advance_keeps, run_ended, loop_last, run_further, run_counted, why_more, why_ended, why_none, why_counted, why_latest, why_silent, Travelled, travelled}
+use Rattle.search.proofs.Laws.Runs.{over_open, proposal_passes, advance_keeps, run_ended, loop_last, run_further, run_counted, why_more, why_ended, why_none, why_counted, why_latest, why_silent, Travelled, travelled}
 use Rattle.session.specs.Calls.{Desk, desk, step, run, after_run, run_at, call}
 use Rattle.session.specs.Refused.{unless_until, run_refused, ended_step_refused}
 use Rattle.session.specs.Stepped.{accepted_is}

@@ -13,7 +13,7 @@ use Rattle.record.specs.Trail.{record_of, entry_at, no_entry}
 use Rattle.applied.specs.Apply.{apply}
 use Rattle.record.specs.Inner.Ready.{KeptIn}
 use Rattle.applied.specs.Laws.Untouched.{apply_lengths, Elsewhere, apply_untouched, apply_zeros, apply_ended}
-use Rattle.rules.specs.Laws.Steps.{due_step, due_keeps}
+use Rattle.rules.proofs.Laws.Steps.{due_step, due_keeps}
 use Rattle.session.specs.declared.Revision.{Revision}
 use Rattle.session.specs.declared.Session.{Session}
 use Rattle.session.specs.declared.Stepped.TheVariants.{Next}
@@ -22,7 +22,7 @@ use Rattle.session.specs.Refusals.{step_refusal}
 use Rattle.memory.specs.Reasons.{reason_of, noted}
 use Rattle.session.specs.Laws.Accepted.{Sound, step_guarded}
 use Rattle.session.specs.Forced.{Explained}
-use Rattle.memory.specs.Laws.Noted.{noted_length, noted_untouched, noted_zeros}
+use Rattle.memory.proofs.Laws.Noted.{noted_length, noted_untouched, noted_zeros}
 use Rattle.session.specs.Laws.Each.{Each}
 use Rattle.session.specs.Laws.Sound.{sound_after}
 use Rattle.session.specs.Laws.Forced.{explained_after}

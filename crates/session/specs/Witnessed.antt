@@ -9,8 +9,8 @@ use Rattle.formula.specs.Laws.Accepted.{proper}
 use Rattle.theory.specs.Rules.{Step, verdict}
 use Rattle.theory.specs.Start.{true_under}
 use Rattle.theory.specs.Witness.{rest_of, below, witness_of}
-use Rattle.theory.specs.Laws.Monotone.{open_within}
-use Rattle.theory.specs.Ended.{witness, shown}
+use Rattle.theory.proofs.Laws.Monotone.{open_within}
+use Rattle.theory.proofs.Ended.{witness, shown}
 use Rattle.record.specs.declared.rule.State.TheVariants.{Open}
 use Rattle.record.specs.Search.{record_in, standing_of}
 use Rattle.memory.specs.Memory.{Memory}

@@ -18,13 +18,13 @@ use Rattle.record.specs.declared.found.Found.{Found}
 use Rattle.record.specs.Trail.{Trail, record_of}
 use Rattle.record.specs.Inner.Tables.{Values}
 use Rattle.record.specs.Inner.Ready.{OnBlock}
-use Rattle.record.specs.Laws.Accepted.{on_block, kept_literals_lem}
+use Rattle.record.proofs.Laws.Accepted.{on_block, kept_literals_lem}
 use Rattle.rules.specs.Due.{due}
 use Rattle.memory.specs.Memory.{record_places}
 use Rattle.memory.specs.Refusals.{open_rows, open_refusal}
-use Rattle.memory.specs.Laws.Opened.{opened, record_room}
+use Rattle.memory.proofs.Laws.Opened.{opened, record_room}
 use Rattle.session.specs.declared.Session.{Session}
-use Rattle.listing.specs.Laws.Values.{group_few}
+use Rattle.listing.proofs.Laws.Values.{group_few}
 use Rattle.shown.specs.declared.Told.TheVariants.{Values as Wrote, Refused}
 use Rattle.shown.specs.Shown.{of_shown, shown_rows, shown_refusal, shown_of}
 use Rattle.shown.specs.Inner.Conflict.{conflict_of, clause_of}

@@ -16,9 +16,9 @@ use Rattle.record.specs.Check.{bad_record}
 use Rattle.record.specs.Inner.Ready.{OnBuffers}
 use Rattle.memory.specs.Memory.{record_places}
 use Rattle.memory.specs.Refusals.{open_rows, open_refusal}
-use Rattle.memory.specs.Laws.Opened.{opened, record_room}
+use Rattle.memory.proofs.Laws.Opened.{opened, record_room}
 use Rattle.session.specs.declared.Session.{Session}
-use Rattle.listing.specs.Laws.Values.{first_word}
+use Rattle.listing.proofs.Laws.Values.{first_word}
 use Rattle.shown.specs.Shown.{no_witness, of_shown, shown_refusal}
 use Rattle.shown.specs.Witnessed.{from_12}
 

@@ -13,7 +13,7 @@ use Rattle.words.specs.Laws.Bools.{eqb_ne, eqb_i}
 use Rattle.words.specs.Laws.Lists.{next, ended}
 use Rattle.words.specs.Words.{negative, eq_z, mem}
 use Rattle.theory.specs.Record.{Assignment, assigned}
-use Rattle.theory.specs.Laws.Assignment.{assigned_var}
+use Rattle.theory.proofs.Laws.Assignment.{assigned_var}
 use Rattle.theory.specs.Witness.{shown_true, signed_as, signed}
 use Rattle.record.specs.Inner.Tables.{value_in}
 

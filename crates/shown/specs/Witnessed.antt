@@ -13,10 +13,10 @@ use Rattle.formula.specs.Formula.{variables_of, formula_of, first_group}
 use Rattle.theory.specs.Witness.{group_of}
 use Rattle.record.specs.declared.rule.State.TheVariants.{Valid, Unsat}
 use Rattle.record.specs.Trail.{Trail}
-use Rattle.record.specs.Laws.Accepted.{prefix_length}
+use Rattle.record.proofs.Laws.Accepted.{prefix_length}
 use Rattle.memory.specs.Memory.{Memory, record_places}
 use Rattle.memory.specs.Refusals.{open_rows, open_refusal}
-use Rattle.memory.specs.Laws.Opened.{open_passes, room_record}
+use Rattle.memory.proofs.Laws.Opened.{open_passes, room_record}
 use Rattle.session.specs.declared.Revision.{Revision}
 use Rattle.session.specs.declared.Session.{Session}
 use Rattle.session.specs.declared.Answer.TheVariants.{To}
@@ -26,7 +26,7 @@ use Rattle.session.specs.History.{fresh_desk, history_kept}
 use Rattle.listing.specs.Opening.{openings, values_of}
 use Rattle.listing.specs.Page.{first_universal}
 use Rattle.listing.specs.Wins.{wins}
-use Rattle.listing.specs.Found.{Found, valid_wins, unsat_loses}
+use Rattle.listing.proofs.Found.{Found, valid_wins, unsat_loses}
 use Rattle.shown.specs.declared.Told.TheVariants.{Values}
 use Rattle.shown.specs.Shown.{no_witness, of_shown, shown_refusal, shown_of}
 

@@ -20,7 +20,7 @@ use Rattle.formula.specs.Block.{names}
 use Rattle.formula.specs.Laws.Prefix.{change_few}
 use Rattle.record.specs.Inner.Tables.{places}
 use Rattle.tables.specs.Inner.Levels.{level_at, Levels}
-use Rattle.record.specs.Laws.Filled.{named_more}
+use Rattle.record.proofs.Laws.Filled.{named_more}
 
 -- ---- the change after a word
 pub change_last : (q : ℤ) (p : List ℤ) (i : ℕ) → length p ≤ i + 1 → change q (drop (i + 1) p) ≡ 0

@@ -26,7 +26,7 @@ use Rattle.formula.specs.Laws.Prefix.{one_sign_lem}
 use Rattle.record.specs.Inner.Tables.{sign_of}
 use Rattle.record.specs.Inner.Ready.{Bound}
 use Rattle.tables.specs.Inner.ByLiteral.{status_of, status_by, status_in, Blank, BlankBeyond, Statuses}
-use Rattle.record.specs.Laws.Filled.{named_more}
+use Rattle.record.proofs.Laws.Filled.{named_more}
 
 -- the variables of the first i words are written
 pub record Stated (p : List ℤ) (values t : List ℕ) (i : ℕ) : Type 0 where

@@ -2,15 +2,11 @@
 
 -- what a tree gives: refusals, the block, the whole call
 pub mod Tree
-pub mod Examples
 -- the reader in pieces
 pub mod Pieces
-pub mod Whole
 -- an accepted text: its block, and its meaning
-pub mod Meaning
 -- what each public function promises, and that it leaves one answer
 pub mod Promises
 -- what functions say to each other
 pub mod Inner
 -- what is proved for use in proofs
-pub mod Laws

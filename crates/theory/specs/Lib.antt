@@ -7,8 +7,4 @@ pub mod Rules
 pub mod Start
 pub mod Witness
 -- what is proved about them on the way
-pub mod Laws
 -- the theorems, and why the rules are as they are
-pub mod Theorem
-pub mod Ended
-pub mod Examples

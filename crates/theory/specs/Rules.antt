@@ -1,5 +1,5 @@
 -- The rules as one relation [order.rules]: what may be done in an open state. A solver's own order picks one of its cases in each state.
-use Rattle.std.specs.Prelude.{◌≡◌, Bool, true, false, List, [], ◌∷◌, ◌++◌, ℕ, suc, ℤ, neg_ℤ}
+use Rattle.std.specs.Prelude.{◌≡◌, Bool, true, false, List, [], ◌∷◌, ◌++◌, ℕ, suc, ◌^◌, ℤ, neg_ℤ, length}
 use Rattle.words.specs.Lists.{In}
 use Rattle.formula.specs.Formula.{Formula, existential, universal}
 use Rattle.theory.specs.Record.{entry, Record, Assignment, true_in, without}
@@ -64,3 +64,7 @@ Step = StepBy monotone_open
 
 abbrev pub Path : Formula → ℕ → State → State → Type 0
 Path = PathBy monotone_open
+
+-- [order.ends] every path from the empty record has fewer rules than this
+abbrev pub most_rules : Formula → ℕ
+most_rules F = 2 ^ suc (length F.prefix)

@@ -6,7 +6,7 @@ use Rattle.theory.specs.Record.{Entry, entry}
 use Rattle.record.specs.Trail.{Trail, no_entry, entry_at, put, wiped_trail}
 use Rattle.record.specs.Search.{Search}
 use Rattle.applied.specs.Apply.{move_of, moved, apply}
-use Rattle.record.specs.Laws.Wiped.{wiped_length, wiped_other, wiped_blank}
+use Rattle.record.proofs.Laws.Wiped.{wiped_length, wiped_other, wiped_blank}
 use Rattle.record.specs.declared.rule.State.TheVariants.{Open}
 use Rattle.record.specs.declared.rule.Rule.{Rule}
 use Rattle.applied.specs.declared.moves.Move.{Move}

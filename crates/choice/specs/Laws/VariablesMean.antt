@@ -20,7 +20,7 @@ use Rattle.formula.specs.Laws.Prefix.{stands, binds, level_few}
 use Rattle.formula.specs.Laws.Permuted.{all_bound, no_other}
 use Rattle.theory.specs.Record.{Assignment, assigned}
 use Rattle.theory.specs.Tests.{unassigned_existential, unassigned_universal, is_open, all_assigned}
-use Rattle.theory.specs.Laws.First.{first_open_lem}
+use Rattle.theory.proofs.Laws.First.{first_open_lem}
 use Rattle.record.specs.Found.{literal}
 use Rattle.choice.specs.First.{on_picked, first_of, first_unassigned}
 use Rattle.choice.specs.Preferred.{first_open}
@@ -30,7 +30,7 @@ use Rattle.tables.specs.Laws.Levels.{level_at_lem}
 use Rattle.choice.specs.Inner.Lowest.{Lowest}
 use Rattle.choice.specs.Inner.Variables.{assigned_in, unassigned_in, lowest_in, open_in, preferred_in}
 use Rattle.record.specs.Inner.Ready.{Bound}
-use Rattle.record.specs.Laws.Good.{bare, bare_proper}
+use Rattle.record.proofs.Laws.Good.{bare, bare_proper}
 use Rattle.choice.specs.Laws.Searches.{first_found, first_same, unassigned_none, unassigned_found}
 use Rattle.choice.specs.declared.found.Picked.{Picked}
 use Rattle.choice.specs.declared.found.Picked.TheVariants.{Is, NoLiteral}

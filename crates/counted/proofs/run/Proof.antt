@@ -2,7 +2,7 @@
 use native.Mathlib.Omega.{arith}
 use mathlib.Core.Path.{refl}
 use borrow.Author.Rules.{rules}
-use Rattle.counted.specs.Laws.Exits.{counted_stops, search_asks, revision_fits, counted_moves}
+use Rattle.counted.proofs.Laws.Exits.{counted_stops, search_asks, revision_fits, counted_moves}
 use Rattle.counted.proofs.run.Statement.{statement}
 use Rattle.counted.proofs.run.Tie as tie
 

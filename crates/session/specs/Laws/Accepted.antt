@@ -19,14 +19,14 @@ use Rattle.choice.specs.Preferred.{decides}
 use Rattle.record.specs.Search.{record_in}
 use Rattle.record.specs.Check.{bad_record}
 use Rattle.record.specs.Inner.Ready.{OnBlock, Permitted}
-use Rattle.record.specs.Laws.Accepted.{prefix_length, on_block}
-use Rattle.memory.specs.Laws.Opened.{opened, open_passes, buffers_room, reasons_room, room_buffers}
+use Rattle.record.proofs.Laws.Accepted.{prefix_length, on_block}
+use Rattle.memory.proofs.Laws.Opened.{opened, open_passes, buffers_room, reasons_room, room_buffers}
 use Rattle.session.specs.declared.Revision.{Revision}
 use Rattle.session.specs.declared.Session.{Session}
 use Rattle.memory.specs.Memory.{Memory, places}
 use Rattle.memory.specs.Reasons.{bad_reasons}
 use Rattle.memory.specs.Refusals.{open_rows, open_refusal}
-use Rattle.search.specs.Laws.Runs.{over_open}
+use Rattle.search.proofs.Laws.Runs.{over_open}
 use Rattle.session.specs.Refusals.{last_revision, proposed, of_session, session_rows, of_step, step_rows, step_refusal, of_run, run_rows, run_refusal}
 use Rattle.session.specs.Inner.Guards.{session_refusal}
 use Rattle.session.specs.Outcome.{search_of}

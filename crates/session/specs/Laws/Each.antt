@@ -14,11 +14,11 @@ use Rattle.record.specs.Search.{Search, record_in}
 use Rattle.applied.specs.Apply.{apply}
 use Rattle.record.specs.Inner.Ready.{Room, KeptIn}
 use Rattle.applied.specs.Inner.Fits.{Fitting}
-use Rattle.record.specs.Laws.Wiped.{wiped_inside}
-use Rattle.record.specs.Laws.Records.{kept_room, kept_more, room_less, record_more}
+use Rattle.record.proofs.Laws.Wiped.{wiped_inside}
+use Rattle.record.proofs.Laws.Records.{kept_room, kept_more, room_less, record_more}
 use Rattle.applied.specs.Laws.Untouched.{apply_untouched, apply_lengths}
 use Rattle.memory.specs.Reasons.{noted}
-use Rattle.memory.specs.Laws.Noted.{noted_untouched}
+use Rattle.memory.proofs.Laws.Noted.{noted_untouched}
 
 -- a property of an entry, of those before it and of its reason, at every entry
 abbrev pub Each : (Record → Entry → ℕ → Type 0) → Search → List ℕ → Type 0

@@ -12,13 +12,13 @@ use Rattle.record.specs.Search.{Search, record_in}
 use Rattle.rules.specs.Due.{due}
 use Rattle.applied.specs.Apply.{apply}
 use Rattle.record.specs.Inner.Ready.{OnBlock}
-use Rattle.record.specs.Laws.Accepted.{prefix_length}
+use Rattle.record.proofs.Laws.Accepted.{prefix_length}
 use Rattle.memory.specs.Memory.{memory_of}
 use Rattle.memory.specs.Reasons.{noted, bad_reason}
-use Rattle.memory.specs.Laws.BadReasons.{bad_each, each_bad, zero_right}
+use Rattle.memory.proofs.Laws.BadReasons.{bad_each, each_bad, zero_right}
 use Rattle.session.specs.Laws.Accepted.{Sound}
-use Rattle.memory.specs.Laws.Noted.{noted_length}
-use Rattle.search.specs.Laws.Named.{fitting, due_names, clause_count}
+use Rattle.memory.proofs.Laws.Noted.{noted_length}
+use Rattle.search.proofs.Laws.Named.{fitting, due_names, clause_count}
 use Rattle.session.specs.Laws.Each.{Each, each_after}
 
 -- reasons that are all 0 pass rows 11 and 12, beside any record

@@ -3,7 +3,7 @@ use borrow.Author.Rules.{rules}
 use Rattle.formula.specs.Limits.{limits}
 use Rattle.record.specs.Trail.{trail}
 use Rattle.record.specs.Inner.Ready.{OnBlock}
-use Rattle.record.specs.Laws.Accepted.{held_on}
+use Rattle.record.proofs.Laws.Accepted.{held_on}
 use Rattle.shown.proofs.Exits.{refuses, on_record, writable, writes}
 use Rattle.shown.proofs.shown.Statement.{statement}
 use Rattle.shown.proofs.shown.Tie as tie

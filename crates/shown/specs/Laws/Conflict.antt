@@ -17,7 +17,7 @@ use Rattle.clauses.specs.declared.found.UnitFound.{UnitFound}
 use Rattle.clauses.specs.declared.found.UnitFound.TheVariants.{On, NoUnit}
 use Rattle.choice.specs.First.{on_picked, first_unassigned}
 use Rattle.clauses.specs.Lowest.{lowest}
-use Rattle.clauses.specs.Laws.Lowest.{lowest_at}
+use Rattle.clauses.proofs.Laws.Lowest.{lowest_at}
 use Rattle.rules.specs.Due.{on_unit, lowest_unit, first_monotone, due_assigned, due_decide, due_monotone, due_unit, due_conflict, due}
 use Rattle.shown.specs.Inner.Conflict.{conflict_of, clause_of}
 

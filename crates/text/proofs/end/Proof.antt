@@ -5,7 +5,7 @@ use lib.IntN.{ℤ}
 use Rattle.words.specs.Outcomes.{outcome}
 use Rattle.text.specs.declared.Answer.TheVariants.{Misfit}
 use Rattle.text.specs.Pieces.{end_of}
-use Rattle.text.specs.Laws.Exits.{wiped_all}
+use Rattle.text.proofs.Laws.Exits.{wiped_all}
 use borrow.Author.Rules.{rules}
 use Rattle.text.proofs.end.Statement.{statement}
 use Rattle.text.proofs.end.Tie as tie

@@ -4,7 +4,7 @@ use Prim.Native.Nat.{◌-◌, ◌≤◌}
 use native.Mathlib.Omega.{arith}
 use lib.ListN.{length, drop}
 use Rattle.text.specs.Pieces.{piece_of}
-use Rattle.text.specs.Laws.Turns.{piece_turn, piece_ended}
+use Rattle.text.proofs.Laws.Turns.{piece_turn, piece_ended}
 use borrow.Author.Rules.{rules}
 use Rattle.text.proofs.piece.Statement.{statement}
 use Rattle.text.proofs.piece.Tie as tie

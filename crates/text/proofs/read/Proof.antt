@@ -6,8 +6,8 @@ use Rattle.words.specs.Outcomes.{Outcome}
 use Rattle.formula.specs.Limits.{limits}
 use Rattle.reader.specs.declared.Reader.{Reader}
 use Rattle.text.specs.Pieces.{piece_of, end_of}
-use Rattle.text.specs.Whole.{read_is}
-use Rattle.text.specs.Laws.Rows.{limits_hidden}
+use Rattle.text.proofs.Whole.{read_is}
+use Rattle.text.proofs.Laws.Rows.{limits_hidden}
 use borrow.Author.Rules.{rules}
 use Rattle.text.proofs.read.Statement.{statement}
 use Rattle.text.proofs.read.Tie as tie

@@ -3,7 +3,7 @@ use mathlib.Core.Path.{◌≡◌, sym, ◌∙◌}
 use Rattle.formula.specs.Limits.{limits}
 use Rattle.formula.specs.Block.{refusal}
 use Rattle.formula.specs.Laws.Check.{checked_accepted}
-use Rattle.writer.specs.Laws.WriteExits.{write_refused, write_short, write_fits}
+use Rattle.writer.proofs.Laws.WriteExits.{write_refused, write_short, write_fits}
 use borrow.Author.Rules.{rules}
 use Rattle.writer.proofs.write.Statement.{statement}
 use Rattle.writer.proofs.write.Tie as tie

@@ -1,6 +1,6 @@
 -- One case of the answer to a return; the numbers are stored one after the other.
 use mathlib.Core.Path.{refl}
-use Rattle.saved.specs.Back.{bit}
+use Rattle.saved.proofs.Back.{bit}
 use borrow.Author.Rules.{rules}
 use Rattle.answers.proofs.pages.paged.Statement.{statement}
 use Rattle.answers.proofs.pages.paged.Tie as tie

@@ -2,9 +2,9 @@
 use mathlib.Core.Path.{◌≡◌, sym, ◌∙◌}
 use borrow.Author.Rules.{rules}
 use Rattle.formula.specs.Formula.{prefix_of}
-use Rattle.record.specs.Laws.Accepted.{prefix_few, accepted_bound}
+use Rattle.record.proofs.Laws.Accepted.{prefix_few, accepted_bound}
 use Rattle.applied.specs.Apply.{move_of, apply}
-use Rattle.record.specs.Laws.Records.{kept_more}
+use Rattle.record.proofs.Laws.Records.{kept_more}
 use Rattle.applied.proofs.Applying.{cuttable, fitting}
 use Rattle.applied.proofs.applied.apply.Statement.{statement}
 use Rattle.applied.proofs.applied.apply.Tie as tie

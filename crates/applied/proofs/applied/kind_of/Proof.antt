@@ -12,7 +12,7 @@ use native.Mathlib.Omega.{arith}
 use borrow.Author.Rules.{rules}
 use Rattle.formula.specs.Laws.Limits.{variables_are}
 use Rattle.applied.proofs.Applying.{kind_by, kind_over}
-use Rattle.record.specs.Laws.Filled.{bound_written, quantifiers_of}
+use Rattle.record.proofs.Laws.Filled.{bound_written, quantifiers_of}
 use Rattle.applied.proofs.applied.kind_of.Statement.{statement}
 use Rattle.applied.proofs.applied.kind_of.Tie as tie
 

@@ -3,7 +3,7 @@ use mathlib.Core.Path.{◌∙◌, ap}
 use borrow.Author.Rules.{rules}
 use Rattle.record.specs.Found.{literal}
 use Rattle.record.specs.Inner.Ready.{Bound}
-use Rattle.record.specs.Laws.Accepted.{accepted_bound}
+use Rattle.record.proofs.Laws.Accepted.{accepted_bound}
 use Rattle.choice.specs.Laws.VariablesMean.{lowest_means, preferred_means}
 use Rattle.choice.proofs.open.first_open.Statement.{statement}
 use Rattle.choice.proofs.open.first_open.Tie as tie

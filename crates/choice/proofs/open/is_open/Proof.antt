@@ -5,7 +5,7 @@ use mir.Syntax.{w32}
 use mir.ValLaws.{to_z-of_z}
 use borrow.Author.Rules.{rules}
 use Rattle.record.specs.Inner.Ready.{Bound}
-use Rattle.record.specs.Laws.Accepted.{accepted_bound}
+use Rattle.record.proofs.Laws.Accepted.{accepted_bound}
 use Rattle.choice.specs.Laws.VariablesMean.{lowest_means, open_means}
 use Rattle.choice.proofs.open.is_open.Statement.{statement}
 use Rattle.choice.proofs.open.is_open.Tie as tie

@@ -6,7 +6,7 @@ use borrow.Author.Rules.{rules}
 use native.Mathlib.Omega.{arith}
 use Rattle.choice.specs.Inner.Variables.{unassigned_in}
 use Rattle.choice.specs.declared.found.Picked.TheVariants.{Is}
-use Rattle.record.specs.Laws.Filled.{placed, bound_named, word_small}
+use Rattle.record.proofs.Laws.Filled.{placed, bound_named, word_small}
 use Rattle.choice.specs.Laws.Left.{Left, left_begin, left_end, left_here, left_past}
 use Rattle.choice.proofs.First.{unassigned_here, unassigned_past}
 use Rattle.choice.proofs.variables.first_unassigned.Statement.{statement}

@@ -11,7 +11,7 @@ use Rattle.tables.specs.Inner.ByLiteral.{status_in}
 use Rattle.clauses.specs.Inner.Clauses.{Placed, level_by, sight_from, sight_with, deciding_by}
 use Rattle.clauses.specs.declared.found.Deciding.TheVariants.{Quiet}
 use Rattle.clauses.specs.declared.found.UnitFound.TheVariants.{NoUnit}
-use Rattle.clauses.specs.Laws.Walk.{placed_part, Turn, turn, Walk, walk_on, walk_stop, walk_end}
+use Rattle.clauses.proofs.Laws.Walk.{placed_part, Turn, turn, Walk, walk_on, walk_stop, walk_end}
 use Rattle.clauses.proofs.Looks.{look_start, clause_decides, clause_neither, clause_next, clause_over}
 use Rattle.clauses.proofs.Decision.{deciding_next, deciding_past, deciding_none}
 use Rattle.clauses.proofs.clauses.deciding.Statement.{statement}

@@ -10,7 +10,7 @@ use Rattle.words.specs.Lists.{any}
 use Rattle.words.specs.Laws.Lists.{any_found, any_past, any_ended}
 use mathlib.Core.Bool.{not}
 use lib.IntN.{pos}
-use Rattle.clauses.specs.Laws.Walk.{keeps_true, keeps_existential, keeps_not}
+use Rattle.clauses.proofs.Laws.Walk.{keeps_true, keeps_existential, keeps_not}
 use Rattle.clauses.proofs.clauses.in_conflict.Statement.{statement}
 use Rattle.clauses.proofs.clauses.in_conflict.Tie as tie
 

@@ -8,8 +8,8 @@ use Rattle.formula.specs.Formula.{clauses_from}
 use Rattle.clauses.specs.Lowest.{lowest}
 use Rattle.tables.specs.Inner.ByLiteral.{status_in}
 use Rattle.clauses.specs.Inner.Clauses.{conflict_by}
-use Rattle.clauses.specs.Laws.Lowest.{lowest_hit, lowest_miss, lowest_end}
-use Rattle.clauses.specs.Laws.Walk.{placed_part, Turn, turn, Walk, walk_on, walk_stop, walk_end}
+use Rattle.clauses.proofs.Laws.Lowest.{lowest_hit, lowest_miss, lowest_end}
+use Rattle.clauses.proofs.Laws.Walk.{placed_part, Turn, turn, Walk, walk_on, walk_stop, walk_end}
 use Rattle.clauses.proofs.clauses.lowest_conflict.Statement.{statement}
 use Rattle.clauses.proofs.clauses.lowest_conflict.Tie as tie
 

@@ -10,12 +10,12 @@ use borrow.Author.Rules.{rules}
 use Rattle.formula.specs.Limits.{limits}
 use Rattle.formula.specs.Formula.{prefix_of}
 use Rattle.formula.specs.Laws.Limits.{variables_are}
-use Rattle.record.specs.Laws.Accepted.{prefix_length, accepted_bound}
-use Rattle.record.specs.Laws.Records.{kept_more}
+use Rattle.record.proofs.Laws.Accepted.{prefix_length, accepted_bound}
+use Rattle.record.proofs.Laws.Records.{kept_more}
 use Rattle.record.specs.declared.rule.Rule.TheVariants.{Decide}
-use Rattle.search.specs.Laws.Named.{fitting}
+use Rattle.search.proofs.Laws.Named.{fitting}
 use Rattle.counted.specs.Inner.Decided.{preferred_at}
-use Rattle.counted.specs.Laws.Decided.{decide_from_lem, first_small, decided_named, decide_enacts, decide_room, other_enacts}
+use Rattle.counted.proofs.Laws.Decided.{decide_from_lem, first_small, decided_named, decide_enacts, decide_room, other_enacts}
 use Rattle.counted.proofs.decided.enact.Statement.{statement}
 use Rattle.counted.proofs.decided.enact.Tie as tie
 

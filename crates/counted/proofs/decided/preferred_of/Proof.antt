@@ -6,7 +6,7 @@ use lib.ListN.{length, drop}
 use borrow.Author.Rules.{rules}
 use Rattle.choice.specs.First.{first_of}
 use Rattle.counted.specs.Inner.Decided.{picked_at}
-use Rattle.counted.specs.Laws.Decided.{preferred_here, preferred_past, preferred_end}
+use Rattle.counted.proofs.Laws.Decided.{preferred_here, preferred_past, preferred_end}
 use Rattle.counted.proofs.decided.preferred_of.Statement.{statement}
 use Rattle.counted.proofs.decided.preferred_of.Tie as tie
 

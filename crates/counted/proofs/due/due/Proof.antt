@@ -1,7 +1,7 @@
 -- Each look finds what the rules' search finds, and leaves its bound.
 use borrow.Author.Rules.{rules}
-use Rattle.record.specs.Laws.Records.{kept_room}
-use Rattle.counted.specs.Laws.Due.{look_room, unit_room, free_room, finds_conflict, finds_unit, finds_free}
+use Rattle.record.proofs.Laws.Records.{kept_room}
+use Rattle.counted.proofs.Laws.Due.{look_room, unit_room, free_room, finds_conflict, finds_unit, finds_free}
 use Rattle.counted.proofs.due.due.Statement.{statement}
 use Rattle.counted.proofs.due.due.Tie as tie
 

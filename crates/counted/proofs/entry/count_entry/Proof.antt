@@ -5,9 +5,9 @@ use native.Mathlib.Omega.{arith}
 use borrow.Author.Rules.{rules}
 use Rattle.formula.specs.Limits.{max_variables}
 use Rattle.formula.specs.Inner.Places.{literal_places}
-use Rattle.counted.specs.Laws.Entry.{first_asks, is_set, second_asks}
-use Rattle.counted.specs.Laws.Held.{parts}
-use Rattle.counted.specs.Laws.Statuses.{other_in, own_in}
+use Rattle.counted.proofs.Laws.Entry.{first_asks, is_set, second_asks}
+use Rattle.counted.proofs.Laws.Held.{parts}
+use Rattle.counted.proofs.Laws.Statuses.{other_in, own_in}
 use Rattle.counted.proofs.entry.count_entry.Statement.{statement}
 use Rattle.counted.proofs.entry.count_entry.Tie as tie
 

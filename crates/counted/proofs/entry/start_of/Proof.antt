@@ -1,7 +1,7 @@
 -- At the stop of the place before.
 use mathlib.Core.Path.{◌∙◌}
 use borrow.Author.Rules.{rules}
-use Rattle.counted.specs.Laws.Held.{start_back, start_none}
+use Rattle.counted.proofs.Laws.Held.{start_back, start_none}
 use Rattle.counted.proofs.entry.start_of.Statement.{statement}
 use Rattle.counted.proofs.entry.start_of.Tie as tie
 

@@ -9,8 +9,8 @@ use borrow.Author.Rules.{rules}
 use Rattle.theory.specs.Record.{among}
 use Rattle.counted.specs.Inner.Entry.{Taking}
 use Rattle.counted.specs.Inner.State.{Set, SetFrom}
-use Rattle.counted.specs.Laws.Entry.{unsetting}
-use Rattle.counted.specs.Laws.Numbers.{rest_none, rest_on}
+use Rattle.counted.proofs.Laws.Entry.{unsetting}
+use Rattle.counted.proofs.Laws.Numbers.{rest_none, rest_on}
 use Rattle.counted.specs.declared.walk.Bounds.{Bounds}
 use Rattle.counted.proofs.entry.uncount_entries.Statement.{statement}
 use Rattle.counted.proofs.entry.uncount_entries.Tie as tie

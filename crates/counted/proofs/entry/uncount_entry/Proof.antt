@@ -6,9 +6,9 @@ use borrow.Author.Rules.{rules}
 use Rattle.formula.specs.Limits.{max_variables}
 use Rattle.formula.specs.Inner.Places.{literal_places}
 use Rattle.formula.specs.Laws.Limits.{variables_are}
-use Rattle.counted.specs.Laws.Entry.{first_back, is_unset, quantifier_small, second_back}
-use Rattle.counted.specs.Laws.Held.{parts}
-use Rattle.counted.specs.Laws.Statuses.{other_in, own_in}
+use Rattle.counted.proofs.Laws.Entry.{first_back, is_unset, quantifier_small, second_back}
+use Rattle.counted.proofs.Laws.Held.{parts}
+use Rattle.counted.proofs.Laws.Statuses.{other_in, own_in}
 use Rattle.counted.proofs.entry.uncount_entry.Statement.{statement}
 use Rattle.counted.proofs.entry.uncount_entry.Tie as tie
 

@@ -9,7 +9,7 @@ use Rattle.words.specs.Laws.Lists.{in_at}
 use Rattle.formula.specs.Limits.{limits}
 use Rattle.formula.specs.Laws.Limits.{variables_are}
 use Rattle.counted.specs.Inner.Free.{Livable}
-use Rattle.counted.specs.Laws.Free.{Passed, pass_begin, pass_taken, pass_next, pass_ended, pass_monotone, walk_placed}
+use Rattle.counted.proofs.Laws.Free.{Passed, pass_begin, pass_taken, pass_next, pass_ended, pass_monotone, walk_placed}
 use Rattle.counted.proofs.free.due_free.Statement.{statement}
 use Rattle.counted.proofs.free.due_free.Tie as tie
 

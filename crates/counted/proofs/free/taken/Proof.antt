@@ -5,7 +5,7 @@ use borrow.Author.Rules.{rules}
 use borrow.Author.Tests.{lt-leb}
 use Rattle.formula.specs.Limits.{limits}
 use Rattle.formula.specs.Laws.Limits.{variables_are}
-use Rattle.counted.specs.Laws.Free.{taken_none, taken_plus, taken_minus}
+use Rattle.counted.proofs.Laws.Free.{taken_none, taken_plus, taken_minus}
 use Rattle.counted.proofs.free.taken.Statement.{statement}
 use Rattle.counted.proofs.free.taken.Tie as tie
 

@@ -3,7 +3,7 @@ use native.Mathlib.Omega.{arith}
 use mathlib.Core.Path.{sym, ◌∙◌}
 use borrow.Author.Rules.{rules}
 use Rattle.formula.specs.Limits.{limits}
-use Rattle.counted.specs.Laws.Guards.{refused_early, block_passes, refused_cramped, refused_late, refused_last, refused_not}
+use Rattle.counted.proofs.Laws.Guards.{refused_early, block_passes, refused_cramped, refused_late, refused_last, refused_not}
 use Rattle.counted.proofs.guard.refusal.Statement.{statement}
 use Rattle.counted.proofs.guard.refusal.Tie as tie
 

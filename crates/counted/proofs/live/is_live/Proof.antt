@@ -5,7 +5,7 @@ use native.Mathlib.Omega.{arith}
 use lib.ListN.{length, drop}
 use borrow.Author.Rules.{rules}
 use Rattle.counted.specs.Inner.Live.{some_zero}
-use Rattle.counted.specs.Laws.Live.{live_ended, live_found, live_past}
+use Rattle.counted.proofs.Laws.Live.{live_ended, live_found, live_past}
 use Rattle.counted.proofs.Walking.{walked}
 use Rattle.counted.proofs.live.is_live.Statement.{statement}
 use Rattle.counted.proofs.live.is_live.Tie as tie

@@ -4,7 +4,7 @@ use native.Mathlib.Omega.{arith}
 use lib.ListN.{length}
 use borrow.Author.Rules.{rules}
 use Rattle.tables.specs.Inner.ByLiteral.{status_in}
-use Rattle.clauses.specs.Laws.Walk.{placed_part}
+use Rattle.clauses.proofs.Laws.Walk.{placed_part}
 use Rattle.counted.proofs.Filling.{Filling, clause_ends, clause_starts, fill_begin, fill_end, fill_turn, short_part}
 use Rattle.counted.proofs.numbers.fill_numbers.Statement.{statement}
 use Rattle.counted.proofs.numbers.fill_numbers.Tie as tie

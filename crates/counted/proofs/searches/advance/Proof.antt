@@ -8,7 +8,7 @@ use Rattle.rules.specs.Due.{due}
 use Rattle.record.specs.Trail.{trail, record_of}
 use Rattle.counted.specs.Inner.State.{Counted}
 use Rattle.counted.specs.Inner.Standing.{clauses_of}
-use Rattle.counted.specs.Laws.Advance.{sought, step_tells, step_within, taking, enacting, recounting, step_done}
+use Rattle.counted.proofs.Laws.Advance.{sought, step_tells, step_within, taking, enacting, recounting, step_done}
 use Rattle.counted.proofs.searches.advance.Statement.{statement}
 use Rattle.counted.proofs.searches.advance.Tie as tie
 

@@ -3,7 +3,7 @@ use Prim.Native.Nat.{◌-◌}
 use native.Mathlib.Omega.{arith}
 use borrow.Author.Rules.{rules}
 use Rattle.memory.specs.Memory.{memory}
-use Rattle.counted.specs.Laws.Going.{Going, going_begin, going_stands, going_ended, going_used, going_more}
+use Rattle.counted.proofs.Laws.Going.{Going, going_begin, going_stands, going_ended, going_used, going_more}
 use Rattle.counted.proofs.searches.go_on.Statement.{statement}
 use Rattle.counted.proofs.searches.go_on.Tie as tie
 

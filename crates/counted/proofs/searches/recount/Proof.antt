@@ -1,7 +1,7 @@
 -- Of an ended search there is nothing to count; of another the entry at the place is one more.
 use mathlib.Core.Path.{sym, ◌∙◌}
 use borrow.Author.Rules.{rules}
-use Rattle.counted.specs.Laws.Search.{recount_over, entering, entered_is}
+use Rattle.counted.proofs.Laws.Search.{recount_over, entering, entered_is}
 use Rattle.counted.proofs.searches.recount.Statement.{statement}
 use Rattle.counted.proofs.searches.recount.Tie as tie
 

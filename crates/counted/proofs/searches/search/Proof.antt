@@ -1,8 +1,8 @@
 -- The tables are filled from the block and the record; from there on the search goes.
 use borrow.Author.Rules.{rules}
-use Rattle.record.specs.Laws.Accepted.{held_on}
+use Rattle.record.proofs.Laws.Accepted.{held_on}
 use Rattle.tables.specs.Laws.Blanks.{new_blank}
-use Rattle.counted.specs.Laws.Start.{prefix_bound, prefix_written, clauses_few, index_long, numbers_lent, begins, ends_so, index_so}
+use Rattle.counted.proofs.Laws.Start.{prefix_bound, prefix_written, clauses_few, index_long, numbers_lent, begins, ends_so, index_so}
 use Rattle.counted.proofs.searches.search.Statement.{statement}
 use Rattle.counted.proofs.searches.search.Tie as tie
 

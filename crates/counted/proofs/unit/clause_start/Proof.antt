@@ -1,7 +1,7 @@
 -- At the end of the clause before.
 use mathlib.Core.Path.{◌∙◌}
 use borrow.Author.Rules.{rules}
-use Rattle.counted.specs.Laws.Lowest.{start_first, start_later}
+use Rattle.counted.proofs.Laws.Lowest.{start_first, start_later}
 use Rattle.counted.proofs.unit.clause_start.Statement.{statement}
 use Rattle.counted.proofs.unit.clause_start.Tie as tie
 

@@ -8,10 +8,10 @@ use lib.ListN.{length, get_or, take, drop}
 use borrow.Author.Rules.{rules}
 use Rattle.formula.specs.Formula.{clauses_from}
 use Rattle.formula.specs.Laws.Ends.{good_at}
-use Rattle.clauses.specs.Laws.Walk.{placed_part}
+use Rattle.clauses.proofs.Laws.Walk.{placed_part}
 use Rattle.counted.specs.Inner.Numbers.{key_at}
 use Rattle.counted.specs.Inner.Unit.{Looking}
-use Rattle.counted.specs.Laws.Lowest.{NoUnits, clause_taken, units_begin, units_found, units_next, units_none}
+use Rattle.counted.proofs.Laws.Lowest.{NoUnits, clause_taken, units_begin, units_found, units_next, units_none}
 use Rattle.counted.proofs.unit.lowest_unit.Statement.{statement}
 use Rattle.counted.proofs.unit.lowest_unit.Tie as tie
 

@@ -5,7 +5,7 @@ use native.Mathlib.Omega.{arith}
 use lib.ListN.{length, length-set}
 use borrow.Author.Rules.{rules}
 use Rattle.record.specs.Trail.{wiped}
-use Rattle.record.specs.Laws.Wiped.{wiped_next, wiped_none, wiped_past}
+use Rattle.record.proofs.Laws.Wiped.{wiped_next, wiped_none, wiped_past}
 use Rattle.memory.proofs.reasons.wipe.Statement.{statement}
 use Rattle.memory.proofs.reasons.wipe.Tie as tie
 

@@ -3,7 +3,7 @@ use Prim.Native.Nat.{◌-◌}
 use native.Mathlib.Omega.{arith}
 use borrow.Author.Rules.{rules}
 use Rattle.record.specs.Trail.{trail}
-use Rattle.record.specs.Laws.Filled.{bound_written, quantifiers_of}
+use Rattle.record.proofs.Laws.Filled.{bound_written, quantifiers_of}
 use Rattle.record.proofs.Row12.{Looked, kinds_begin, kinds_small, kinds_hit, kinds_more, kinds_end}
 use Rattle.record.proofs.check.bad_kinds.Statement.{statement}
 use Rattle.record.proofs.check.bad_kinds.Tie as tie

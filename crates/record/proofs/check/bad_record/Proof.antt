@@ -8,8 +8,8 @@ use Rattle.formula.specs.Block.{no_variable, twice}
 use Rattle.formula.specs.Laws.Named.{known_up, repeated_is}
 use Rattle.record.specs.Trail.{trail}
 use Rattle.record.specs.Inner.Ready.{Bound, Room}
-use Rattle.record.specs.Laws.Records.{room_less}
-use Rattle.record.specs.Laws.Accepted.{accepted_bound, buffers_room}
+use Rattle.record.proofs.Laws.Records.{room_less}
+use Rattle.record.proofs.Laws.Accepted.{accepted_bound, buffers_room}
 use Rattle.record.proofs.Row12.{row_over, row_unnamed, row_twice, row_kinds}
 use Rattle.record.proofs.check.bad_record.Statement.{statement}
 use Rattle.record.proofs.check.bad_record.Tie as tie

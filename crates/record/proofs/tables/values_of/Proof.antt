@@ -3,7 +3,7 @@ use Prim.Native.Nat.{◌-◌}
 use borrow.Author.Rules.{rules}
 use native.Mathlib.Omega.{arith}
 use Rattle.record.specs.Inner.Tables.{places}
-use Rattle.record.specs.Laws.Filled.{Filled, end}
+use Rattle.record.proofs.Laws.Filled.{Filled, end}
 use Rattle.record.proofs.Values.{valued, values_begin, written_placed, values_turn}
 use Rattle.record.proofs.tables.values_of.Statement.{statement}
 use Rattle.record.proofs.tables.values_of.Tie as tie

@@ -3,7 +3,7 @@ use Prim.Native.Nat.{◌-◌}
 use lib.ListN.{length}
 use borrow.Author.Rules.{rules}
 use Rattle.formula.specs.Inner.Places.{literal_places}
-use Rattle.record.specs.Laws.Filled.{Filled}
+use Rattle.record.proofs.Laws.Filled.{Filled}
 use Rattle.rules.proofs.Occurring.{marked, mark_begin, mark_placed, mark_next, mark_end}
 use Rattle.rules.proofs.occurrences.mark.Statement.{statement}
 use Rattle.rules.proofs.occurrences.mark.Tie as tie

@@ -5,7 +5,7 @@ use lib.ListN.{length}
 use borrow.Author.Rules.{rules}
 use Rattle.tables.specs.Inner.ByLiteral.{status_in}
 use Rattle.rules.specs.Inner.Occurrences.{true_by}
-use Rattle.clauses.specs.Laws.Walk.{placed_part, Turn, turn}
+use Rattle.clauses.proofs.Laws.Walk.{placed_part, Turn, turn}
 use Rattle.rules.proofs.Occurring.{Counting, count_begin, count_next, count_end}
 use Rattle.rules.proofs.occurrences.occurring.Statement.{statement}
 use Rattle.rules.proofs.occurrences.occurring.Tie as tie

@@ -5,11 +5,11 @@ use Rattle.theory.specs.Record.{Record}
 use Rattle.record.specs.Trail.{trail, record_of}
 use Rattle.record.specs.Inner.Ready.{Bound}
 use Rattle.rules.specs.Inner.Tabled.{Tabled}
-use Rattle.record.specs.Laws.Records.{kept_room}
+use Rattle.record.proofs.Laws.Records.{kept_room}
 use Rattle.tables.specs.Laws.Blanks.{same_blank}
-use Rattle.rules.specs.Laws.ClausesReady.{sorts}
-use Rattle.record.specs.Laws.Accepted.{held_on, accepted_bound}
-use Rattle.rules.specs.Laws.ClausesReady.{kept_tabled}
+use Rattle.rules.proofs.Laws.ClausesReady.{sorts}
+use Rattle.record.proofs.Laws.Accepted.{held_on, accepted_bound}
+use Rattle.rules.proofs.Laws.ClausesReady.{kept_tabled}
 use Rattle.rules.proofs.ordered.due.Statement.{statement}
 use Rattle.rules.proofs.ordered.due.Tie as tie
 

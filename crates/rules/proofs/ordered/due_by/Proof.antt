@@ -8,8 +8,8 @@ use Rattle.tables.specs.Inner.ByLiteral.{status_in}
 use Rattle.record.specs.Inner.Ready.{formula, Ready}
 use Rattle.tables.specs.Inner.Levels.{Levels}
 use Rattle.rules.specs.Inner.Tabled.{Sorts}
-use Rattle.rules.specs.Laws.ClausesReady.{ready_clauses, deciding_ready}
-use Rattle.record.specs.Laws.Accepted.{accepted_ready, formula_is}
+use Rattle.rules.proofs.Laws.ClausesReady.{ready_clauses, deciding_ready}
+use Rattle.record.proofs.Laws.Accepted.{accepted_ready, formula_is}
 use Rattle.record.specs.declared.rule.Rule.TheVariants.{Unit}
 use Rattle.clauses.specs.declared.found.Deciding.{Deciding}
 use Rattle.clauses.specs.declared.found.Deciding.TheVariants.{Quiet}

@@ -7,8 +7,8 @@ use Rattle.theory.specs.Tests.{untrue_of}
 use Rattle.rules.specs.Due.{first_monotone}
 use Rattle.record.specs.Inner.Tables.{Values}
 use Rattle.rules.specs.Inner.Tabled.{Sorts}
-use Rattle.rules.specs.Laws.VariablesMean.{monotone_means}
-use Rattle.rules.specs.Laws.ClausesReady.{ready_clauses, untrue_ready}
+use Rattle.rules.proofs.Laws.VariablesMean.{monotone_means}
+use Rattle.rules.proofs.Laws.ClausesReady.{ready_clauses, untrue_ready}
 use Rattle.rules.proofs.ordered.due_chosen.Statement.{statement}
 use Rattle.rules.proofs.ordered.due_chosen.Tie as tie
 

@@ -4,7 +4,7 @@ use borrow.Author.Rules.{rules}
 use Rattle.theory.specs.Record.{Record, true_in}
 use Rattle.choice.specs.First.{first_unassigned}
 use Rattle.record.specs.Inner.Tables.{Values}
-use Rattle.rules.specs.Laws.Searches.{monotone_unassigned}
+use Rattle.rules.proofs.Laws.Searches.{monotone_unassigned}
 use Rattle.choice.specs.Laws.VariablesMean.{unassigned_means}
 use Rattle.rules.proofs.ordered.due_free.Statement.{statement}
 use Rattle.rules.proofs.ordered.due_free.Tie as tie

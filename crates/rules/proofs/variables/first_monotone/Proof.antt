@@ -9,7 +9,7 @@ use native.Mathlib.Omega.{arith}
 use Rattle.formula.specs.Limits.{limits}
 use Rattle.rules.specs.Inner.Variables.{monotone_in}
 use Rattle.choice.specs.declared.found.Picked.TheVariants.{Is}
-use Rattle.record.specs.Laws.Filled.{placed, bound_named, word_small}
+use Rattle.record.proofs.Laws.Filled.{placed, bound_named, word_small}
 use Rattle.choice.specs.Laws.Left.{Left, left_begin, left_end, left_here, left_past}
 use Rattle.rules.proofs.Monotone.{monotone_set, monotone_plus, monotone_minus, monotone_mixed}
 use Rattle.rules.proofs.variables.first_monotone.Statement.{statement}

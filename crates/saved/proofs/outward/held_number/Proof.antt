@@ -1,6 +1,6 @@
 -- One case of the state to a return.
 use borrow.Author.Rules.{rules}
-use Rattle.saved.specs.Back.{bit}
+use Rattle.saved.proofs.Back.{bit}
 use Rattle.saved.proofs.outward.held_number.Statement.{statement}
 use Rattle.saved.proofs.outward.held_number.Tie as tie
 

@@ -1,6 +1,6 @@
 -- The numbers are stored one after the other.
 use borrow.Author.Rules.{rules}
-use Rattle.saved.specs.Back.{bit}
+use Rattle.saved.proofs.Back.{bit}
 use Rattle.saved.proofs.outward.write_kept.Statement.{statement}
 use Rattle.saved.proofs.outward.write_kept.Tie as tie
 

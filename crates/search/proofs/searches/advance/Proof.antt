@@ -1,9 +1,9 @@
 -- The due rule, with the proposal that the preferences give it, and what it leaves beside the record.
 use borrow.Author.Rules.{rules}
 use Rattle.words.specs.Outcomes.{same_answer, same_memory, both_same}
-use Rattle.record.specs.Laws.Accepted.{held_on}
-use Rattle.search.specs.Laws.Named.{fitting, tellable}
-use Rattle.search.specs.Laws.Rounds.{advanced}
+use Rattle.record.proofs.Laws.Accepted.{held_on}
+use Rattle.search.proofs.Laws.Named.{fitting, tellable}
+use Rattle.search.proofs.Laws.Rounds.{advanced}
 use Rattle.search.proofs.searches.advance.Statement.{statement}
 use Rattle.search.proofs.searches.advance.Tie as tie
 

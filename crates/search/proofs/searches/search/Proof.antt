@@ -4,7 +4,7 @@ use Prim.Native.Nat.{◌-◌}
 use Rattle.words.specs.Outcomes.{same_answer, same_memory, both_same}
 use borrow.Author.Rules.{rules}
 use Rattle.memory.specs.Memory.{memory}
-use Rattle.search.specs.Laws.Rounds.{Round, begun, ended, more, used}
+use Rattle.search.proofs.Laws.Rounds.{Round, begun, ended, more, used}
 use Rattle.search.proofs.searches.search.Statement.{statement}
 use Rattle.search.proofs.searches.search.Tie as tie
 

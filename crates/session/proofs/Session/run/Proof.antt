@@ -3,7 +3,7 @@ use native.Mathlib.Omega.{arith}
 use borrow.Author.Rules.{rules}
 use Rattle.words.specs.Outcomes.{same_answer}
 use Rattle.tables.specs.Laws.Blanks.{new_blank}
-use Rattle.search.specs.Laws.Rounds.{steps_within}
+use Rattle.search.proofs.Laws.Rounds.{steps_within}
 use Rattle.session.specs.Laws.Exits.{run_stops, run_over, run_moves}
 use Rattle.session.proofs.Exits.{on_memory}
 use Rattle.session.proofs.Session.run.Statement.{statement}

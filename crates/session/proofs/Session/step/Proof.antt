@@ -4,10 +4,10 @@ use borrow.Author.Rules.{rules}
 use mathlib.Core.Path.{sym, ◌∙◌}
 use Rattle.formula.specs.Limits.{limits}
 use Rattle.words.specs.Outcomes.{same_answer}
-use Rattle.record.specs.Laws.Accepted.{held_on}
+use Rattle.record.proofs.Laws.Accepted.{held_on}
 use Rattle.tables.specs.Laws.Blanks.{new_blank}
 use Rattle.session.specs.Laws.Accepted.{guarded}
-use Rattle.search.specs.Laws.Named.{fitting, tellable}
+use Rattle.search.proofs.Laws.Named.{fitting, tellable}
 use Rattle.session.proofs.Exits.{on_memory, step_stops, step_last, step_improper, step_moves}
 use Rattle.session.proofs.Session.step.Statement.{statement}
 use Rattle.session.proofs.Session.step.Tie as tie

@@ -1,6 +1,6 @@
 -- An accepted block's prefix is bound.
 use borrow.Author.Rules.{rules}
-use Rattle.record.specs.Laws.Accepted.{accepted_bound}
+use Rattle.record.proofs.Laws.Accepted.{accepted_bound}
 use Rattle.tables.proofs.by_variable.levels.Statement.{statement}
 use Rattle.tables.proofs.by_variable.levels.Tie as tie
 

@@ -6,7 +6,7 @@ use lib.IntN.{pos}
 use lib.ListN.{length, get_or, drop}
 use Rattle.formula.specs.Laws.Limits.{variables_are}
 use Rattle.formula.specs.Laws.Prefix.{change_few, fresh_at}
-use Rattle.record.specs.Laws.Filled.{placed, bound_named}
+use Rattle.record.proofs.Laws.Filled.{placed, bound_named}
 use Rattle.tables.proofs.Levelled.{Levelled, begin, turn, end}
 use Rattle.tables.proofs.by_variable.levels_of.Statement.{statement}
 use Rattle.tables.proofs.by_variable.levels_of.Tie as tie

@@ -3,7 +3,7 @@ use mathlib.Core.Path.{◌≡◌, sym, ◌∙◌}
 use Prim.Native.Nat.{◌-◌}
 use native.Mathlib.Omega.{arith}
 use lib.ListN.{take}
-use Rattle.text.specs.Laws.Exits.{judge_accepts, judge_refuses}
+use Rattle.text.proofs.Laws.Exits.{judge_accepts, judge_refuses}
 use borrow.Author.Rules.{rules}
 use Rattle.text.proofs.ending.judge.Statement.{statement}
 use Rattle.text.proofs.ending.judge.Tie as tie

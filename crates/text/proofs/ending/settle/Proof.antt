@@ -13,7 +13,7 @@ use Rattle.laid.specs.Inner.Ready.{Ready}
 use Rattle.laid.specs.Block.{laid_in}
 use Rattle.text.specs.Inner.Ending.{bound_rows, judged}
 use Rattle.laid.specs.Laws.Parts.{laid_in_length}
-use Rattle.text.specs.Laws.Exits.{count_row, counted, count_exit, word_exit, ready, last_exit}
+use Rattle.text.proofs.Laws.Exits.{count_row, counted, count_exit, word_exit, ready, last_exit}
 use borrow.Author.Rules.{rules}
 use Rattle.text.proofs.ending.settle.Statement.{statement}
 use Rattle.text.proofs.ending.settle.Tie as tie

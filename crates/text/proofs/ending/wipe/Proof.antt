@@ -5,7 +5,7 @@ use native.Mathlib.Omega.{arith}
 use lib.IntN.{pos}
 use lib.ListN.{length, length-set}
 use Rattle.text.specs.Inner.Ending.{wiped}
-use Rattle.text.specs.Laws.Wiped.{wipe_turn, wipe_ended}
+use Rattle.text.proofs.Laws.Wiped.{wipe_turn, wipe_ended}
 use Rattle.text.proofs.ending.wipe.Statement.{statement}
 use Rattle.text.proofs.ending.wipe.Tie as tie
 

@@ -7,7 +7,7 @@ use lib.IntN.{pos}
 use lib.ListN.{length, drop, get_or}
 use Rattle.grammar.specs.Written.{literal, line}
 use Rattle.writer.specs.Inner.Writing.{wrote}
-use Rattle.writer.specs.Laws.Writing.{wrote_on, near_first, near_same, line_turn, line_ended}
+use Rattle.writer.proofs.Laws.Writing.{wrote_on, near_first, near_same, line_turn, line_ended}
 use borrow.Author.Rules.{rules}
 use Rattle.writer.proofs.writing.clause_line.Statement.{statement}
 use Rattle.writer.proofs.writing.clause_line.Tie as tie

@@ -8,7 +8,7 @@ use lib.ListN.{length, take, drop, get_or}
 use Rattle.formula.specs.Formula.{clauses_from}
 use Rattle.grammar.specs.Written.{literal, line, clause_lines}
 use Rattle.writer.specs.Inner.Writing.{wrote}
-use Rattle.writer.specs.Laws.Writing.{wrote_on, near_first, near_same, nothing, clause_turn, clauses_over}
+use Rattle.writer.proofs.Laws.Writing.{wrote_on, near_first, near_same, nothing, clause_turn, clauses_over}
 use borrow.Author.Rules.{rules}
 use Rattle.writer.proofs.writing.clause_lines.Statement.{statement}
 use Rattle.writer.proofs.writing.clause_lines.Tie as tie

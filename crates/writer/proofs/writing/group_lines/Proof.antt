@@ -8,8 +8,8 @@ use Rattle.words.specs.Words.{negative}
 use Rattle.grammar.specs.Written.{group_lines}
 use Rattle.writer.specs.Write.{last_of_group, groups_of}
 use Rattle.writer.specs.Inner.Writing.{wrote, group_word, group_words}
-use Rattle.writer.specs.Laws.Groups.{streamed}
-use Rattle.writer.specs.Laws.Writing.{wrote_on, near_first, near_same, nothing, group_turn, groups_over}
+use Rattle.writer.proofs.Laws.Groups.{streamed}
+use Rattle.writer.proofs.Laws.Writing.{wrote_on, near_first, near_same, nothing, group_turn, groups_over}
 use borrow.Author.Rules.{rules}
 use Rattle.writer.proofs.writing.group_lines.Statement.{statement}
 use Rattle.writer.proofs.writing.group_lines.Tie as tie

@@ -2,7 +2,7 @@
 use mathlib.Core.Path.{◌∙◌}
 use mathlib.Core.List.{◌++◌}
 use Rattle.writer.specs.Inner.Writing.{spaced, line_start, line_end, group_word}
-use Rattle.writer.specs.Laws.Writing.{wrote_on, near_on, near_first}
+use Rattle.writer.proofs.Laws.Writing.{wrote_on, near_on, near_first}
 use borrow.Author.Rules.{rules}
 use Rattle.writer.proofs.writing.group_word.Statement.{statement}
 use Rattle.writer.proofs.writing.group_word.Tie as tie

@@ -1,6 +1,6 @@
 -- A word is the last of its group where none stands behind it, or one with another sign.
 use mathlib.Core.Path.{sym}
-use Rattle.writer.specs.Laws.Writing.{last_more, last_none}
+use Rattle.writer.proofs.Laws.Writing.{last_more, last_none}
 use borrow.Author.Rules.{rules}
 use Rattle.writer.proofs.writing.is_last.Statement.{statement}
 use Rattle.writer.proofs.writing.is_last.Tie as tie

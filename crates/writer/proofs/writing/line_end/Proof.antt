@@ -1,7 +1,7 @@
 -- Two bytes, or none.
 use mathlib.Core.Path.{◌∙◌}
 use mathlib.Core.List.{[], ◌∷◌}
-use Rattle.writer.specs.Laws.Writing.{wrote_on, near_on, near_first, nothing}
+use Rattle.writer.proofs.Laws.Writing.{wrote_on, near_on, near_first, nothing}
 use borrow.Author.Rules.{rules}
 use Rattle.writer.proofs.writing.line_end.Statement.{statement}
 use Rattle.writer.proofs.writing.line_end.Tie as tie

@@ -2,7 +2,7 @@
 use mathlib.Core.Path.{◌∙◌}
 use mathlib.Core.List.{[], ◌∷◌}
 use Rattle.writer.specs.Inner.Writing.{letter_of}
-use Rattle.writer.specs.Laws.Writing.{wrote_on, near_on, near_first, nothing}
+use Rattle.writer.proofs.Laws.Writing.{wrote_on, near_on, near_first, nothing}
 use borrow.Author.Rules.{rules}
 use Rattle.writer.proofs.writing.line_start.Statement.{statement}
 use Rattle.writer.proofs.writing.line_start.Tie as tie

@@ -4,7 +4,7 @@ use lib.IntN.{pos, nat_abs}
 use lib.ListN.{get_or}
 use Rattle.words.specs.Words.{negative}
 use Rattle.writer.specs.Inner.Writing.{spaced, sign_of}
-use Rattle.writer.specs.Laws.Writing.{wrote_on, near_on, near_first, literal_parts}
+use Rattle.writer.proofs.Laws.Writing.{wrote_on, near_on, near_first, literal_parts}
 use borrow.Author.Rules.{rules}
 use Rattle.writer.proofs.writing.literal.Statement.{statement}
 use Rattle.writer.proofs.writing.literal.Tie as tie

@@ -7,9 +7,9 @@ use lib.ListN.{length}
 use lib.Seq.{sets}
 use Rattle.words.specs.Outcomes.{both_same}
 use Rattle.grammar.specs.Written.{numeral}
-use Rattle.grammar.specs.Laws.Written.{numeral_longer}
+use Rattle.grammar.proofs.Laws.Written.{numeral_longer}
 use Rattle.writer.specs.Inner.Writing.{wrote, Near}
-use Rattle.writer.specs.Laws.Writing.{digit_turn, digits_left, last_digit}
+use Rattle.writer.proofs.Laws.Writing.{digit_turn, digits_left, last_digit}
 use borrow.Author.Rules.{rules}
 use Rattle.writer.proofs.writing.number.Statement.{statement}
 use Rattle.writer.proofs.writing.number.Tie as tie

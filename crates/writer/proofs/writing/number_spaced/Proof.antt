@@ -2,7 +2,7 @@
 use mathlib.Core.Path.{◌∙◌}
 use mathlib.Core.List.{[], ◌∷◌}
 use Rattle.grammar.specs.Written.{numeral}
-use Rattle.writer.specs.Laws.Writing.{wrote_on, near_on, near_first}
+use Rattle.writer.proofs.Laws.Writing.{wrote_on, near_on, near_first}
 use borrow.Author.Rules.{rules}
 use Rattle.writer.proofs.writing.number_spaced.Statement.{statement}
 use Rattle.writer.proofs.writing.number_spaced.Tie as tie

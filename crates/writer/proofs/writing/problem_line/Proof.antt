@@ -4,7 +4,7 @@ use mathlib.Core.List.{List, [], ◌∷◌, ◌++◌}
 use Prim.Native.Nat.{ℕ}
 use Rattle.grammar.specs.Written.{numeral}
 use Rattle.writer.specs.Inner.Writing.{spaced}
-use Rattle.writer.specs.Laws.Writing.{wrote_on, near_on, near_first, problem_head, problem_parts, six_stores}
+use Rattle.writer.proofs.Laws.Writing.{wrote_on, near_on, near_first, problem_head, problem_parts, six_stores}
 use borrow.Author.Rules.{rules}
 use Rattle.writer.proofs.writing.problem_line.Statement.{statement}
 use Rattle.writer.proofs.writing.problem_line.Tie as tie

@@ -1,5 +1,5 @@
 -- One byte, or none.
-use Rattle.writer.specs.Laws.Writing.{nothing}
+use Rattle.writer.proofs.Laws.Writing.{nothing}
 use borrow.Author.Rules.{rules}
 use Rattle.writer.proofs.writing.sign.Statement.{statement}
 use Rattle.writer.proofs.writing.sign.Tie as tie

@@ -9,10 +9,10 @@ use Rattle.formula.specs.Formula.{prefix_of, ends_of, literals_of, clauses_from}
 use Rattle.formula.specs.Block.{refusal}
 use Rattle.grammar.specs.Written.{problem_line, group_lines, clause_lines}
 use Rattle.writer.specs.Write.{groups_of}
-use Rattle.writer.specs.WrittenBack.{written_parts}
+use Rattle.writer.proofs.WrittenBack.{written_parts}
 use Rattle.writer.specs.Inner.Writing.{Near}
-use Rattle.writer.specs.Laws.Writing.{wrote_on, near_on, near_first}
-use Rattle.writer.specs.Laws.WriteExits.{text_near}
+use Rattle.writer.proofs.Laws.Writing.{wrote_on, near_on, near_first}
+use Rattle.writer.proofs.Laws.WriteExits.{text_near}
 use borrow.Author.Rules.{rules}
 use Rattle.writer.proofs.writing.text.Statement.{statement}
 use Rattle.writer.proofs.writing.text.Tie as tie

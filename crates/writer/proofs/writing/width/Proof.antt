@@ -4,7 +4,7 @@ use Prim.Native.Nat.{◌+◌, ◌≤◌}
 use native.Mathlib.Omega.{arith}
 use lib.ListN.{length}
 use Rattle.grammar.specs.Written.{numeral}
-use Rattle.grammar.specs.Laws.Written.{numeral_one, numeral_longer}
+use Rattle.grammar.proofs.Laws.Written.{numeral_one, numeral_longer}
 use Rattle.writer.proofs.writing.width.Statement.{statement}
 use Rattle.writer.proofs.writing.width.Tie as tie
 

@@ -1,0 +1,4 @@
+pub mod Laws
+pub mod Theorem
+pub mod Ended
+pub mod Examples

@@ -1,0 +1,4 @@
+pub mod Laws
+pub mod WriteRows
+pub mod WrittenBack
+pub mod Examples
