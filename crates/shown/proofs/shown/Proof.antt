@@ -17,7 +17,7 @@ module _ (g : tie.Else-refused-ne0) where
   start = g.before.before.before
 
   held : OnBlock limits start.args.block.now (trail start.args.lits.now start.args.kinds.now) start.args.session.length
-  held = on_record start.args.session start.args.block.now (trail start.args.lits.now start.args.kinds.now) start.args.output.now g.before.shown_refusal-refused.ensures g.if-refused-ne0.left
+  held = on_record start.args.session start.args.block.now (trail start.args.lits.now start.args.kinds.now) start.args.output.now g.before.shown_refusal-refused.ensures g.if-refused-ne0.false
 
 lowest-requires : tie.Need-lowest-requires
 lowest-requires c κs = held c

@@ -23,18 +23,18 @@ returns : tie.Need-returns-then-is_true
 returns c =
     let told = c.before in
     let sized = told.before in
-    λ ρ t. plus sized.before ∙ value_plus ρ _ _ sized.size_at.ensures (told.is_true.ensures ρ t) c.if-is_true.taken
+    λ ρ t. plus sized.before ∙ value_plus ρ _ _ sized.size_at.ensures (told.is_true.ensures ρ t) c.if-is_true.true
 
 returns-2 : tie.Need-returns-else-is_true
 returns-2 c =
     let told = c.before.before in
     let sized = told.before in
     let start = sized.before.before.before in
-    λ ρ t. to_z-of_z w32 c.opposite.result (sfits_of c.opposite.ok)
+    λ ρ t. to_z-of_z w32 c.opposite.result (sfits_of c.opposite.type_inv)
     ∙ c.opposite.ensures
     ∙ ap opposite (plus sized.before)
     ∙ opposite_is _ (le_trans start.requires variables_small)
-    ∙ value_minus ρ _ _ sized.size_at.ensures (told.is_true.ensures ρ t) c.before.if-is_true.left
+    ∙ value_minus ρ _ _ sized.size_at.ensures (told.is_true.ensures ρ t) c.before.if-is_true.false
 
 pub value_at_spec : {M : Type 1} → statement M
 value_at_spec = tie.close (tie.spec (λ c κs. search rules) (λ c κs. search rules) (λ c κs. rw c.size_at.ensures c.before.before.before.requires) (λ c κs. search rules) returns returns-2)
