@@ -27,12 +27,12 @@ module _ (c : tie.After-size_at-end invariant-loop decreases-loop) where
 returns : tie.Need-returns-then-not-clause_met invariant-loop decreases-loop
 returns c =
     let t = c.before.before.before in
-    walk_stop _ _ _ _ _ t.before.before.loop-i.invariant t.before.loop-i-test.true _ t.size_at-end.ensures (sym c.before.clause_met.ensures ∙ not_t c.before.clause_met.result c.if-not-clause_met.true)
+    walk_stop _ _ _ _ _ t.before.before.loop-i.invariant t.before.loop-i-test.true _ t.size_at-end.ensures (sym c.before.clause_met.ensures ∙ c.if-not-clause_met.true)
 
 loop-again : tie.Need-loop-i-preserved invariant-loop decreases-loop
 loop-again c =
     let t = c.before.before.before in
-    walk_on _ _ _ _ _ t.before.before.loop-i.invariant t.before.loop-i-test.true _ t.size_at-end.ensures (sym c.before.clause_met.ensures ∙ not-false c.before.clause_met.result c.if-not-clause_met.false)
+    walk_on _ _ _ _ _ t.before.before.loop-i.invariant t.before.loop-i-test.true _ t.size_at-end.ensures (sym c.before.clause_met.ensures ∙ c.if-not-clause_met.false)
 
 returns-2 : tie.Need-returns invariant-loop decreases-loop
 returns-2 c = walk_end _ _ _ _ _ c.before.loop-i.invariant c.loop-i-test.false
