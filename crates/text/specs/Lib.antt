@@ -9,4 +9,5 @@ pub mod Pieces
 pub mod Promises
 -- what functions say to each other
 pub mod Inner
+
 -- what is proved for use in proofs
