@@ -41,13 +41,13 @@ element-copy-out-level c = omega (arith, variables_are, c.before.size_at.ensures
 -- a universal literal leaves the lower of the level so far and its own
 module _ (c : tie.After-struct_known-2-1) where
   lowered :
-      let a = c.before.before.before.before.before.before.before.args in
+      let a = c.args in
       let x = get_or a.clause.now a.j (pos 0) in
-      (n : ℕ) → n ≡ min a.self.above (get_or a.levels.now c.before.before.before.size-at.result 0) → Shown (status_in a.statuses.now) (level_by a.levels.now) a.clause.now a.self x (record { place = a.self.place; above = n; over = a.self.over })
+      (n : ℕ) → n ≡ min a.self.above (get_or a.levels.now c.size_at.result 0) → Shown (status_in a.statuses.now) (level_by a.levels.now) a.clause.now a.self x (record { place = a.self.place; above = n; over = a.self.over })
   lowered n m =
-      let a = c.before.before.before.before.before.before.before.args in
-      let k = c.before.before.before.before.before.before.status-at.ensures in
-      λ C. with_universal _ _ _ a.self.place a.self.above _ C (λ z. c.before.before.before.before.before.before.if1.false (k ∙ z)) (λ z. c.before.before.before.before.before.if2.false (k ∙ z)) (λ z. c.before.before.before.before.if3.false (k ∙ z)) a.self.over n (m ∙ ap (λ v. min a.self.above (get_or a.levels.now v 0)) c.before.before.before.size-at.ensures)
+      let a = c.args in
+      let k = c.status_at-status.ensures in
+      λ C. with_universal _ _ _ a.self.place a.self.above _ C (λ z. c.if-status-eq0.false (k ∙ z)) (λ z. c.if-status-eq1.false (k ∙ z)) (λ z. c.if-status-eq2.false (k ∙ z)) a.self.over n (m ∙ ap (λ v. min a.self.above (get_or a.levels.now v 0)) c.size_at.ensures)
 
 returns-5 : tie.Need-returns-then-level-self
 returns-5 c = lowered c.before _ (omega (arith, c.if-level-self.true))
