@@ -20,7 +20,7 @@ use Rattle.counted.proofs.decided.enact.Statement.{statement}
 use Rattle.counted.proofs.decided.enact.Tie as tie
 
 -- Decide is due
-module _ (c : tie.In-Is-2) where
+module _ (c : tie.In-Is) where
   abbrev start : tie.Start
   start = c.before.before.before
 
@@ -29,7 +29,7 @@ module _ (c : tie.In-Is-2) where
 
 -- its first variable has a place
 module _ (c : tie.After-size) where
-  abbrev found : tie.In-Is-2
+  abbrev found : tie.In-Is
   found = c.before.before.before
 
   sized : c.size.result ≡ nat_abs found.in-Is.first.0
@@ -55,7 +55,7 @@ module _ (c : tie.After-preferred_of-literal) where
   abbrev from : tie.Start
   from = start (found sizes)
 
-  taken : c.preferred_of-literal.result ≡ preferred_at (length (prefix_of from.args.block.now)) from.args.statuses.now from.args.levels.now (get_or from.args.levels.now (nat_abs (found sizes).in-Is.in-Is-own.given.0.0.0) 0) from.args.preferred.now (found sizes).in-Is.in-Is-own.given.0.0
+  taken : c.preferred_of-literal.result ≡ preferred_at (length (prefix_of from.args.block.now)) from.args.statuses.now from.args.levels.now (get_or from.args.levels.now (nat_abs (found sizes).in-Is.first.0) 0) from.args.preferred.now (found sizes).in-Is.first
   taken = rw (← counted sizes.before.before, ← sized sizes) c.preferred_of-literal.ensures
 
 module _ (c : tie.After-size-in-Is) where

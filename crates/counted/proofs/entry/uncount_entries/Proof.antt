@@ -52,11 +52,11 @@ loop-again c =
     record {
       down = omega arith;
       most = omega (arith, l.invariant.most);
-      trues_kept = undone.uncount-entry.auto.1.1.1.1.1.1.0 ∙ l.invariant.trues_kept;
-      opens_kept = undone.uncount-entry.auto.1.1.1.1.1.1.1.0 ∙ l.invariant.opens_kept;
+      trues_kept = undone.uncount_entry-bounds.auto.trues ∙ l.invariant.trues_kept;
+      opens_kept = undone.uncount_entry-bounds.auto.opens ∙ l.invariant.opens_kept;
       now_set = λ x.
           let s = l.invariant.now_set x in
-          let n = undone.uncount-entry.ensures (unsetting _ _ _ _ _ _ _ _ _ x _ _ _ _ (l.i - 1) (omega (arith, l.invariant.most)) (again _ _ _ _ _ _ _ l.i (omega arith) s.now_set)) in
+          let n = undone.uncount_entry-bounds.ensures (unsetting _ _ _ _ _ _ _ _ _ x _ _ _ _ (l.i - 1) (omega (arith, l.invariant.most)) (again _ _ _ _ _ _ _ l.i (omega arith) s.now_set)) in
           record { now_set = n.now_set; rest = rest_on n.rest s.rest };
     }
 

@@ -7,15 +7,15 @@ use Rattle.counted.proofs.free.due_decide.Tie as tie
 
 returns : tie.Need-returns-then-first-prefix
 unfolding decide_from
-returns c = rw (lt-ltb _ _ c.before.if-first-prefix.taken, c.true_at.ensures)
+returns c = rw (lt-ltb _ _ c.before.if-first-prefix.true, c.true_at.ensures)
 
 returns-2 : tie.Need-returns-in-At
 unfolding decide_from
-returns-2 c = rw (le-ltb _ _ c.before.before.if-first-prefix.left, ← c.before.last_kind.ensures, c.in-At.is)
+returns-2 c = rw (le-ltb _ _ c.before.before.if-first-prefix.false, ← c.before.last_kind.ensures, c.in-At.is)
 
 returns-3 : tie.Need-returns-in-Nothing
 unfolding decide_from
-returns-3 c = rw (le-ltb _ _ c.before.before.if-first-prefix.left, ← c.before.last_kind.ensures, c.in-Nothing.is)
+returns-3 c = rw (le-ltb _ _ c.before.before.if-first-prefix.false, ← c.before.last_kind.ensures, c.in-Nothing.is)
 
 pub due_decide_spec : {M : Type 1} → statement M
 due_decide_spec =

@@ -37,7 +37,7 @@ uncount-entries-requires c κs =
 
 module _ (u : tie.After-uncount_entries-cut) where
   abbrev kept : tie.After-kept_by-at
-  kept = u.before.before.before.before.before
+  kept = u.before.before.before.before
 
   abbrev from : tie.Start
   from = start (after kept)
@@ -57,9 +57,9 @@ recount-requires c κs =
 
 same-length-3 : tie.Need-shape_of-reasons
 same-length-3 c =
-    let e = c.before.before.before.before.before.before.before.before.before.before.before.before in
-    let u = e.before.before.before.before.before.before in
-    (kept u).before.before.before.tell-reason.auto.0
+    let e = c.before.before.before.before.before.before.before.before.before.before.before in
+    let u = e.before.before.before.before.before.before.before in
+    (kept u).before.before.before.tell-reason.auto.reasons
 
 returns : tie.Need-returns
 returns c =
@@ -68,7 +68,7 @@ returns c =
     let u = e.before.before.before.before.before.before.before in
     let t = (kept u).before.before.before in
     let cut = u.uncount_entries-cut.ensures (taking _ _ _ _ _ _ _ _ _ _ _ _ _ (from u).requires (found (after (kept u)))) in
-    step_done _ _ _ _ _ _ _ _ _ _ _ _ _ (from u).requires (found (after (kept u))) (kept u).kept_by-at.ensures cut _ e.enact-reached.ensures t.tell.ensures
+    step_done _ _ _ _ _ _ _ _ _ _ _ _ _ (from u).requires (found (after (kept u))) (kept u).kept_by-at.ensures cut _ e.enact-reached.ensures t.tell-reason.ensures
     (r.recount-bounds.ensures (recounting _ _ _ _ _ _ _ _ _ _ _ _ _ (from u).requires (found (after (kept u))) (kept u).kept_by-at.ensures cut _ e.enact-reached.ensures))
 
 pub advance_spec : {M : Type 1} → statement M

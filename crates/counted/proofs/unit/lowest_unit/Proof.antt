@@ -94,7 +94,7 @@ loop-again c =
     record {
       most = l.within;
       one = l.found;
-      none = λ x. units_next _ _ _ _ _ _ _ x _ (at.invariant.none x) turn.loop-test.true (at.invariant.one turn.loop-test.true) _ (this read) (sym tried.unit-literal.ensures ∙ c.before.enum_told.given.1) _ l;
+      none = λ x. units_next _ _ _ _ _ _ _ x _ (at.invariant.none x) turn.loop-c-test.true (at.invariant.one turn.loop-c-test.true) _ (this read) (sym tried.unit_literal-found.ensures ∙ c.before.in_default.is) _ l;
     }
 
 returns-2 : tie.Need-returns invariant-loop decreases-loop
