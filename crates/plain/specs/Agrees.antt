@@ -1,6 +1,6 @@
 -- [plain.session] The second opinion and the session: where both accept the block, any history that ends, whatever was called, ends in the state
 -- that the opinion tells. From the session's claim about every history.
-use Rattle.std.specs.Prelude.{suc, ◌-◌, ◌^◌, ◌≤◌, ◌≡◌, Bool, List, ℤ}
+use Rattle.std.specs.Prelude.{suc, ◌^◌, ◌≤◌, ◌≡◌, Bool, List, ℤ}
 use Rattle.std.proofs.Math.Path.{refl}
 use Rattle.std.proofs.Common.{sym, ◌∙◌, arith, pow_mono}
 use Rattle.std.proofs.Math.Bool.{true, false}

@@ -4,8 +4,6 @@ use mathlib.Core.Path.{refl, sym, ◌∙◌}
 use native.Mathlib.Omega.{arith}
 use lib.ListN.{length}
 use borrow.Author.Rules.{rules}
-use borrow.Author.Tests.{not-false}
-use Rattle.words.specs.Laws.Bools.{not_t}
 use Rattle.plain.proofs.Walked.{Walked, walk_end, starts, stops, walk_stop, walk_on}
 use Rattle.plain.proofs.looked.all_met.Statement.{statement}
 use Rattle.plain.proofs.looked.all_met.Tie as tie
