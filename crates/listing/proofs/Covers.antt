@@ -89,6 +89,9 @@ run_sign s (q ∷ p) x i = go s (negative q) refl i (run_sign s p x)
     go true true e (there i) ih = ih i
     go false false e (here z) ih = rw z e
     go false false e (there i) ih = ih i
+    go false true e y ih = elim y [ ]
+    go true false e y ih = elim y [ ]
+run_sign s [] x i = elim i [ ]
 
 group_exists : (F : Formula) → first_universal F ≡ false → Existential (group_of F)
 unfolding first_group
@@ -96,6 +99,7 @@ group_exists F h = go F.prefix h
   where
     go : (p : List ℤ) → (ltb 0 (length p) && negative (word p 0)) ≡ false → Existential (take (first_group p) p)
     go (q ∷ p) h x i = let z : ltb 0 (suc (length p)) ≡ true = lt-ltb 0 (suc (length p)) (omega arith) in run_sign (negative q) (q ∷ p) x i ∙ (rw z at h)
+    go [] h x i = elim i [ ]
 
 -- a listing is empty if it has no winner
 listed_one : {n : ℕ} {ns : List ℕ} → entries ns ≡ [] → In n ns → ⊥

@@ -35,7 +35,7 @@ use Rattle.listing.specs.Inner.Pages.{OnGroup, Writable}
 pub group_begins : (p : List ℤ) {u : Bool} → u ≡ negative (get_or p 0 (pos 0)) → 0 + run u p ≡ first_group p
 unfolding first_group run
 group_begins [] e = refl
-group_begins (q ∷ p) e = rw e (omega arith)
+group_begins (q ∷ p) {u = u} e = let f : u ≡ negative q = e in omega (arith, ap (λ v. run v (q ∷ p)) f)
 
 -- the loop is at i, with the words before it in the group
 module _ (p : List ℤ) (i : ℕ) (u : Bool) (e : i + run u (drop i p) ≡ first_group p) where

@@ -59,6 +59,9 @@ module _ (F : Formula) where
       go : (b : Bool) → wins F n ≡ b → In m (winners F n) ⊎ In m (cond b (n ∷ []) []) → (In m (winners F n) → (m < n) × (wins F m ≡ true)) → (m < suc n) × (wins F m ≡ true)
       go b e (inl j) ih = let r = ih j in ((let h = r.0 in omega arith), r.1)
       go true e (inr (here z)) ih = ((omega arith), rw z e)
+      go false e (inr x5) ih = elim x5 [ ]
+      go true e (inr (there x9)) ih = elim x9 [ ]
+  in_winner zero m i = elim i [ ]
 
   pub winners_exactly : (n m : ℕ) → In m (winners F n) ↔ ((m < n) × (wins F m ≡ true))
   winners_exactly n m = (in_winner n m, λ h. winner_in n m h.0 h.1)

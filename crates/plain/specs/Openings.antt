@@ -30,6 +30,7 @@ listed : {n : ℕ} (ns : List ℕ) → Entered n (entries ns) → In n ns
 unfolding entries
 listed (m ∷ ns) (first e) = here e
 listed (m ∷ ns) (later i) = there (listed ns i)
+listed {n = n} [] x' = elim x' [ ]
 
 pub plain_opening : (L : Limits) (b : List ℤ) (ps : List Given) → let F = formula_of b in (pages_from0 L b ps).next ≡ openings F
     → (n : ℕ) → n < openings F → Entered n (pages_from0 L b ps).written ↔ (holds_on F n ≡ true)

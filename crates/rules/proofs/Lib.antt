@@ -5,3 +5,4 @@ pub mod Wiping
 pub mod Occurring
 pub mod Monotone
 pub mod Laws
+pub mod Only

@@ -8,7 +8,6 @@ use Rattle.record.specs.declared.rule.Rule.{Rule}
 use Rattle.record.specs.Trail.{Trail, record_of}
 use Rattle.rules.specs.Due.{due, due_conflict}
 use Rattle.rules.specs.Inner.Tabled.{Tabled}
-use Rattle.rules.proofs.Laws.Kinds.{kinds_tabled}
 
 -- ---- what is asked of a block and a record, of n entries
 -- s is the table that is lent blank: it is left as it was
@@ -21,6 +20,3 @@ DueConflictPromise ks n c r = (R : Record) (table : List ℕ) → Tabled R table
 
 pub only_due : {r r' : Rule} {s' s'' : List ℕ} (b : List ℤ) (t : Trail) (n : ℕ) (s : List ℕ) → DuePromise b t n s r s' → DuePromise b t n s r' s'' → Same r r' s' s''
 only_due b t n s = same
-
-pub only_due_conflict : {r r' : Rule} (ks : List ℕ) (n c : ℕ) → n ≤ length ks → DueConflictPromise ks n c r → DueConflictPromise ks n c r' → r ≡ r'
-only_due_conflict ks n c h p q = let (R, table, t) = kinds_tabled ks n h in only_one (p R table t) (q R table t)

@@ -1,7 +1,7 @@
 -- What a clause's key says of the rules' tests, and how one literal more moves the numbers: literal by literal, since a clause repeats none.
 use Rattle.std.specs.Prelude.{ℕ, ◌+◌, ◌*◌, ◌<◌, ◌≡◌, refl, ◌⊎◌, Bool, true, cond, ◌&&◌, ◌||◌, eqb, ℤ, pos, neg_ℤ}
 use Rattle.std.proofs.Common.{sym, ◌∙◌, inl, inr, arith, eq-eqb}
-use Rattle.std.proofs.Math.Path.{ap}
+use Rattle.std.proofs.Math.Path.{ap, subst}
 use Rattle.std.proofs.Math.Bool.{false, not, and-true, and-false}
 use mathlib.Core.List.{List, [], ◌∷◌}
 use Rattle.std.proofs.Math.Dec.{ltb}
@@ -76,18 +76,24 @@ module _ (p : List ℤ) (ρ : Assignment) where
       by (inl t) ih =
           let e' : 1 + count_if (unassigned_existential p ρ) C ≡ 1 = rw t at e in
           let none = zero_none (unassigned_existential p ρ) C (omega arith) in
+          let k : candidate p ρ (x ∷ C) ≡ x = rw t in
+          let m : mem x (x ∷ C) ≡ true = or_l (mem x C) (eq_z_refl x) in
+          let a : all (is_only p ρ x) (x ∷ C) ≡ true = rw (t, eq_z_refl x) (all_i _ C (λ y i. or_l (eq_z y x) (not_f (any_none (unassigned_existential p ρ) C none i)))) in
           record {
-            in_it = rw t (or_l (mem x C) (eq_z_refl x));
+            in_it = subst (λ z. mem z (x ∷ C) ≡ true) (sym k) m;
             open_it = rw t t;
-            alone = rw (t, eq_z_refl x) (all_i _ C (λ y i. or_l (eq_z y x) (not_f (any_none (unassigned_existential p ρ) C none i))));
+            alone = subst (λ z. all (is_only p ρ z) (x ∷ C) ≡ true) (sym k) a;
           }
       by (inr t) ih =
           let e' : 0 + count_if (unassigned_existential p ρ) C ≡ 1 = rw t at e in
           let r = ih (omega arith) in
+          let k : candidate p ρ (x ∷ C) ≡ candidate p ρ C = rw t in
+          let m : mem (candidate p ρ C) (x ∷ C) ≡ true = or_r (eq_z (candidate p ρ C) x) r.in_it in
+          let a : all (is_only p ρ (candidate p ρ C)) (x ∷ C) ≡ true = rw t r.alone in
           record {
-            in_it = rw t (or_r (eq_z (candidate p ρ C) x) r.in_it);
+            in_it = subst (λ z. mem z (x ∷ C) ≡ true) (sym k) m;
             open_it = rw t r.open_it;
-            alone = rw t r.alone;
+            alone = subst (λ z. all (is_only p ρ z) (x ∷ C) ≡ true) (sym k) a;
           }
 
   pub key_unit : (C : List ℤ) → key p ρ C ≡ 1 → is_unit p ρ C ≡ higher p ρ C (candidate p ρ C)

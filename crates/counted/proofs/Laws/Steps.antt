@@ -30,6 +30,7 @@ clause_short : (ls : List ℤ) (from : ℕ) (es : List ℤ) {C : List ℤ} → I
 unfolding clauses_from
 clause_short ls from (e ∷ es) (here q) = rw q (simp (length-take, length-drop) (omega arith))
 clause_short ls from (e ∷ es) (there i) = clause_short ls (nat_abs e) es i
+clause_short ls from [] {C = C} x' = elim x' [ ]
 
 pub all_once : (es ls : List ℤ) → Few es ls → any repeats (clauses_from ls 0 es) ≡ false → AllOnce (clauses_from ls 0 es)
 all_once es ls f h C i = record {

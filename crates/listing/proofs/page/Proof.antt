@@ -4,26 +4,26 @@ use Rattle.listing.proofs.Pages.{refuses, on_page, cleans}
 use Rattle.listing.proofs.page.Statement.{statement}
 use Rattle.listing.proofs.page.Tie as tie
 
-returns : tie.Need-returns
-returns c = refuses _ _ _ c.before.page-refusal.ensures _ _ c.if1.true
+returns : tie.Need-returns-then-refused-ne0
+returns c = refuses _ _ _ c.before.page_refusal-refused.ensures _ _ c.if-refused-ne0.true
 
-fill-requires : tie.Need-fill-requires
+fill-requires : tie.Need-fill-answer-requires
 fill-requires c κs =
     let grouped = c.before.before.before in
     let cut = grouped.before in
     let o = cut.before in
-    on_page _ _ _ o.before.page-refusal.ensures o.if1.false cut.prefix.ensures grouped.first_group.ensures
+    on_page _ _ _ o.before.page_refusal-refused.ensures o.if-refused-ne0.false cut.prefix.ensures grouped.first_group-k.ensures
 
-returns-2 : tie.Need-returns-2
+returns-2 : tie.Need-returns
 returns-2 c =
     let cleared = c.before.before.before in
     let sized = cleared.before in
     let filled = sized.before.before.before.before.before.before.before.before in
     let o = filled.before.before.before.before.before.before in
-    cleans _ _ _ o.before.page-refusal.ensures o.if1.false sized.size-at.ensures _ _ _ filled.fill.ensures cleared.clear.ensures
+    cleans _ _ _ o.before.page_refusal-refused.ensures o.if-refused-ne0.false sized.size_at.ensures _ _ _ filled.fill-answer.ensures cleared.clear.ensures
 
-pub page-spec : {M : Type 1} → statement M
-page-spec =
+pub page_spec : {M : Type 1} → statement M
+page_spec =
     tie.close
     (tie.spec
     (λ c κs. search rules)

@@ -7,30 +7,30 @@ use Rattle.plain.proofs.solve.Tie as tie
 holds-requires : tie.Need-holds-requires
 holds-requires c κs =
     let a = c.before.before in
-    ready _ a.before.before.check.ensures a.enum_told.given.1 c.before.size-at.ensures c.if1.false
+    ready _ a.before.check.ensures a.in-Accepted.is c.before.size_at.ensures c.if-size_at-gt-MOST.false
 
-returns : tie.Need-returns
-returns c = block_refused _ c.before.before.before.check.ensures _ c.before.number.given.1
+returns : tie.Need-returns-in-Refused
+returns c = block_refused _ c.before.check.ensures _ c.in-Refused.is
 
-returns-2 : tie.Need-returns-2
+returns-2 : tie.Need-returns-then-size_at-gt-MOST
 returns-2 c =
     let a = c.before.before in
-    too_many _ a.before.before.check.ensures a.enum_told.given.1 c.before.size-at.ensures c.if1.true
+    too_many _ a.before.check.ensures a.in-Accepted.is c.before.size_at.ensures c.if-size_at-gt-MOST.true
 
-returns-3 : tie.Need-returns-3
+returns-3 : tie.Need-returns-then-holds
 returns-3 c =
     let s = c.before.before in
     let a = s.before.before in
-    valid _ a.before.before.check.ensures a.enum_told.given.1 s.before.size-at.ensures s.if1.false c.before.holds.ensures c.if2.true
+    valid _ a.before.check.ensures a.in-Accepted.is s.before.size_at.ensures s.if-size_at-gt-MOST.false c.before.holds.ensures c.if-holds.true
 
-returns-4 : tie.Need-returns-4
+returns-4 : tie.Need-returns-else-holds
 returns-4 c =
     let s = c.before.before in
     let a = s.before.before in
-    unsat _ a.before.before.check.ensures a.enum_told.given.1 s.before.size-at.ensures s.if1.false c.before.holds.ensures c.if2.false
+    unsat _ a.before.check.ensures a.in-Accepted.is s.before.size_at.ensures s.if-size_at-gt-MOST.false c.before.holds.ensures c.if-holds.false
 
-pub solve-spec : {M : Type 1} → statement M
-solve-spec =
+pub solve_spec : {M : Type 1} → statement M
+solve_spec =
     tie.close
     (tie.spec
     (λ c κs. search rules)

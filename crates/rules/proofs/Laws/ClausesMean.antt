@@ -2,7 +2,7 @@
 -- unassigned universal, and its status says which; the rest goes by induction on the clause.
 use Prim.Native.Nat.{ℕ, suc, ◌+◌, ◌≤◌, ◌<◌, min}
 use Rattle.std.specs.Prelude.{◌≡◌, ◌⊎◌, Bool, not, ◌&&◌, ◌||◌, cond, ltb, get_or}
-use Rattle.std.proofs.Math.Path.{refl}
+use Rattle.std.proofs.Math.Path.{refl, subst}
 use Rattle.std.proofs.Common.{sym, ◌∙◌, ap, inl, inr, lt-ltb, le-ltb, ltb-true, ltb-false}
 use Rattle.std.proofs.Math.Bool.{true, false, and-true, and-false, and_assoc}
 use mathlib.Core.List.{List, [], ◌∷◌}
@@ -128,6 +128,10 @@ module _ (p : List ℤ) (ρ : Assignment) (st lev : ℤ → ℕ) where
   pick true l = refl
   pick false l = refl
 
+  -- with any candidate z
+  abbrev stated : ℕ → ℤ → List ℤ → ℤ → Type 0
+  stated above x C z = unit_literal (sight_from st lev above (x ∷ C)) ≡ taken (unit_in above (x ∷ C) z) z
+
   from_means : (above : ℕ) (C : List ℤ) → repeats C ≡ false → AllMeant C → unit_literal (sight_from st lev above C) ≡ taken (unit_in above C (candidate p ρ C)) (candidate p ρ C)
   unfolding sight_from candidate any all repeats
   from_means above [] o h = refl
@@ -136,11 +140,11 @@ module _ (p : List ℤ) (ρ : Assignment) (st lev : ℤ → ℕ) where
       l : ℤ
       l = candidate p ρ C
 
-      go : Sorted p ρ st x → lev x ≡ level p x → ((n : ℕ) → unit_literal (sight_from st lev n C) ≡ taken (unit_in n C l) l) → unit_literal (sight_from st lev above (x ∷ C)) ≡ taken (unit_in above (x ∷ C) (candidate p ρ (x ∷ C))) (candidate p ρ (x ∷ C))
-      go (as_false s t e u) v ih = rw (s, t, e, u) (ih above)
+      go : Sorted p ρ st x → lev x ≡ level p x → ((n : ℕ) → unit_literal (sight_from st lev n C) ≡ taken (unit_in n C l) l) → stated above x C (candidate p ρ (x ∷ C))
+      go (as_false s t e u) v ih = let k : candidate p ρ (x ∷ C) ≡ l = rw e in let r : stated above x C l = rw (s, t, e, u) (ih above) in subst (stated above x C) (sym k) r
       go (as_true s t) v ih = rw (s, t)
-      go (as_existential s t e u) v ih = rw (s, t, e, u, eq_z_refl x, stays_means x v above C (or_fl (mem x C) (repeats C) o) (λ y i. h y (there i))) (pick (not (any ρ C) && only_existential x C && (ltb (level p x) above && higher_universal x C)) x ∙ ap (λ b. taken (b && only_existential x C && (ltb (level p x) above && higher_universal x C)) x) (sym (and-true (not (any ρ C)))))
-      go (as_universal s t e u) v ih = rw (s, t, e, u, v, ih (min above (level p x)), ltb_min (level p l) above (level p x)) (ap (λ b. taken (not (any ρ C) && any (unassigned_existential p ρ) C && only_existential l C && b) l) (and_assoc (ltb (level p l) above) (ltb (level p l) (level p x)) (higher_universal l C)))
+      go (as_existential s t e u) v ih = let k : candidate p ρ (x ∷ C) ≡ x = rw e in let r : stated above x C x = rw (s, t, e, u, eq_z_refl x, stays_means x v above C (or_fl (mem x C) (repeats C) o) (λ y i. h y (there i))) (pick (not (any ρ C) && only_existential x C && (ltb (level p x) above && higher_universal x C)) x ∙ ap (λ b. taken (b && only_existential x C && (ltb (level p x) above && higher_universal x C)) x) (sym (and-true (not (any ρ C))))) in subst (stated above x C) (sym k) r
+      go (as_universal s t e u) v ih = let k : candidate p ρ (x ∷ C) ≡ l = rw e in let r : stated above x C l = rw (s, t, e, u, v, ih (min above (level p x)), ltb_min (level p l) above (level p x)) (ap (λ b. taken (not (any ρ C) && any (unassigned_existential p ρ) C && only_existential l C && b) l) (and_assoc (ltb (level p l) above) (ltb (level p l) (level p x)) (higher_universal l C))) in subst (stated above x C) (sym k) r
 
   -- the candidate is the clause's, if it has an unassigned existential literal
   candidate_in : (C : List ℤ) → any (unassigned_existential p ρ) C ≡ true → In (candidate p ρ C) C × (unassigned_existential p ρ (candidate p ρ C) ≡ true)

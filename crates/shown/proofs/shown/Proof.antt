@@ -8,26 +8,26 @@ use Rattle.shown.proofs.Exits.{refuses, on_record, writable, writes}
 use Rattle.shown.proofs.shown.Statement.{statement}
 use Rattle.shown.proofs.shown.Tie as tie
 
-returns : tie.Need-returns
-returns c = refuses _ _ _ _ c.before.shown-refusal.ensures c.if1.true
+returns : tie.Need-returns-then-refused-ne0
+returns c = refuses _ _ _ _ c.before.shown_refusal-refused.ensures c.if-refused-ne0.true
 
 -- where the rows have passed
-module _ (g : tie.Else1) where
+module _ (g : tie.Else-refused-ne0) where
   abbrev start : tie.Start
   start = g.before.before.before
 
   held : OnBlock limits start.args.block.now (trail start.args.lits.now start.args.kinds.now) start.args.session.length
-  held = on_record start.args.session start.args.block.now (trail start.args.lits.now start.args.kinds.now) start.args.output.now g.before.shown-refusal.ensures g.if1.left
+  held = on_record start.args.session start.args.block.now (trail start.args.lits.now start.args.kinds.now) start.args.output.now g.before.shown_refusal-refused.ensures g.if-refused-ne0.false
 
 lowest-requires : tie.Need-lowest-requires
 lowest-requires c κs = held c
 
-values-of-requires : tie.Need-values-of-requires
+values-of-requires : tie.Need-values_of-values-requires
 values-of-requires c κs = (held_on _ _ _ (held c.before.before)).written
 
 -- and the group is cut from the prefix
-module _ (k : tie.After-first-group) where
-  abbrev g : tie.Else1
+module _ (k : tie.After-first_group-k) where
+  abbrev g : tie.Else-refused-ne0
   g = k.before.before.before.before.before
 
 write-requires : tie.Need-write-requires
@@ -35,10 +35,10 @@ write-requires c κs =
     let taken = c.before.before in
     let k = taken.before in
     let p = start (g k) in
-    writable p.args.session p.args.block.now (trail p.args.lits.now p.args.kinds.now) p.args.output.now (g k).before.shown-refusal.ensures (g k).if1.false
-    k.before.prefix.ensures k.first_group.ensures taken.take.ensures
+    writable p.args.session p.args.block.now (trail p.args.lits.now p.args.kinds.now) p.args.output.now (g k).before.shown_refusal-refused.ensures (g k).if-refused-ne0.false
+    k.before.prefix-prefix.ensures k.first_group-k.ensures taken.take.ensures
 
-returns-2 : tie.Need-returns-2
+returns-2 : tie.Need-returns
 returns-2 c =
     let w = c.before in
     let taken = w.before.before.before in
@@ -46,11 +46,11 @@ returns-2 c =
     let tabled = k.before.before in
     let cut = tabled.before in
     let p = start (g k) in
-    writes p.args.session p.args.block.now (trail p.args.lits.now p.args.kinds.now) p.args.output.now (g k).before.shown-refusal.ensures (g k).if1.false
-    k.before.prefix.ensures k.first_group.ensures taken.take.ensures cut.before.lowest.ensures cut.clause.ensures tabled.values_of.result tabled.values_of.ensures w.write.ensures
+    writes p.args.session p.args.block.now (trail p.args.lits.now p.args.kinds.now) p.args.output.now (g k).before.shown_refusal-refused.ensures (g k).if-refused-ne0.false
+    k.before.prefix-prefix.ensures k.first_group-k.ensures taken.take.ensures cut.before.lowest.ensures cut.clause-clause.ensures tabled.values_of-values.result tabled.values_of-values.ensures w.write.ensures
 
-pub shown-spec : {M : Type 1} → statement M
-shown-spec =
+pub shown_spec : {M : Type 1} → statement M
+shown_spec =
     tie.close
     (tie.spec
     (λ c κs. search rules)

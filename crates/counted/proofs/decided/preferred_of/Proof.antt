@@ -10,30 +10,30 @@ use Rattle.counted.proofs.Laws.Decided.{preferred_here, preferred_past, preferre
 use Rattle.counted.proofs.decided.preferred_of.Statement.{statement}
 use Rattle.counted.proofs.decided.preferred_of.Tie as tie
 
-abbrev invariant-loop : tie.invariant-loop
+abbrev invariant-loop : tie.invariant-loop-i
 invariant-loop list first n statuses levels lowest i₀ i = (i ≤ length list) × (first_of (picked_at n statuses levels lowest) (drop i list) ≡ first_of (picked_at n statuses levels lowest) list)
 
-abbrev decreases-loop : tie.decreases-loop
+abbrev decreases-loop : tie.decreases-loop-i
 decreases-loop list first n statuses levels lowest i₀ i = length list - i
 
-returns : tie.Need-returns invariant-loop decreases-loop
+returns : tie.Need-returns-then-is_open invariant-loop decreases-loop
 returns c =
     let test = c.before.before in
     let turn = test.before.before in
-    c.literal-at.ensures
-    ∙ preferred_here _ _ _ _ _ _ turn.loop-test.true turn.before.loop.invariant.1 test.before.size-at.ensures _ (sym test.is_open.ensures ∙ c.before.if1.true)
+    c.literal_at.ensures
+    ∙ preferred_here _ _ _ _ _ _ turn.loop-i-test.true turn.before.loop-i.invariant.1 test.before.size_at-v.ensures _ (sym test.is_open.ensures ∙ c.before.if-is_open.true)
 
-loop-again : tie.Need-loop-preserved invariant-loop decreases-loop
+loop-again : tie.Need-loop-i-preserved invariant-loop decreases-loop
 loop-again c =
     let test = c.before in
     let turn = test.before.before in
-    (omega (arith, turn.loop-test.true), preferred_past _ _ _ _ _ _ turn.loop-test.true turn.before.loop.invariant.1 test.before.size-at.ensures (sym test.is_open.ensures ∙ c.if1.false))
+    (omega (arith, turn.loop-i-test.true), preferred_past _ _ _ _ _ _ turn.loop-i-test.true turn.before.loop-i.invariant.1 test.before.size_at-v.ensures (sym test.is_open.ensures ∙ c.if-is_open.false))
 
-returns-2 : tie.Need-returns-2 invariant-loop decreases-loop
-returns-2 c = preferred_end _ _ _ _ _ _ _ c.loop-test.false c.before.loop.invariant.1
+returns-2 : tie.Need-returns invariant-loop decreases-loop
+returns-2 c = preferred_end _ _ _ _ _ _ _ c.loop-i-test.false c.before.loop-i.invariant.1
 
-pub preferred-of-spec : {M : Type 1} → statement M
-preferred-of-spec =
+pub preferred_of_spec : {M : Type 1} → statement M
+preferred_of_spec =
     tie.close
     (tie.spec invariant-loop decreases-loop (λ c. (omega arith, refl)) (λ c κs. search rules) (λ c κs. search rules) (λ c κs. search rules) returns (λ c. omega arith)
     (λ c. omega arith) loop-again returns-2)

@@ -8,26 +8,26 @@ use Rattle.formula.specs.Laws.Limits.{variables_are, literals_are}
 use Rattle.counted.proofs.guard.is_cramped.Statement.{statement}
 use Rattle.counted.proofs.guard.is_cramped.Tie as tie
 
-returns : tie.Need-returns
-returns c = rw (← c.before.size-at.ensures, lt-ltb _ _ c.if1.true)
+returns : tie.Need-returns-then-trues-clauses
+returns c = rw (← c.before.size_at-clauses.ensures, lt-ltb _ _ c.if-trues-clauses.true)
 
-returns-2 : tie.Need-returns-2
+returns-2 : tie.Need-returns-then-opens-clauses
 returns-2 c =
     let g = c.before in
-    rw (← g.before.size-at.ensures, le-ltb _ _ g.if1.false, lt-ltb _ _ c.if2.true)
+    rw (← g.before.size_at-clauses.ensures, le-ltb _ _ g.if-trues-clauses.false, lt-ltb _ _ c.if-opens-clauses.true)
 
-add-result : tie.Need-overflow-add-result
+add-result : tie.Need-overflow_add-result
 add-result c =
     let start = c.before.before.before.before.before.before.before.before in
     let a = (accepted limits start.args.block.now start.requires).counts in
-    omega (arith, c.before.size-at2.ensures, c.size-at3.ensures, a.variables.most, a.literals.most, variables_are, literals_are)
+    omega (arith, c.before.size_at.ensures, c.size_at-2.ensures, a.variables.most, a.literals.most, variables_are, literals_are)
 
-returns-3 : tie.Need-returns-3
+returns-3 : tie.Need-returns
 returns-3 c =
     let e = c.before in
     let f = e.before in
     let g = f.before in
-    rw (← g.before.size-at.ensures, le-ltb _ _ g.if1.false, le-ltb _ _ f.if2.false, ← e.size-at2.ensures, ← c.size-at3.ensures)
+    rw (← g.before.size_at-clauses.ensures, le-ltb _ _ g.if-trues-clauses.false, le-ltb _ _ f.if-opens-clauses.false, ← e.size_at.ensures, ← c.size_at-2.ensures)
 
-pub is-cramped-spec : {M : Type 1} → statement M
-is-cramped-spec = tie.close (tie.spec (λ c κs. search rules) returns returns-2 (λ c κs. search rules) (λ c κs. search rules) add-result returns-3)
+pub is_cramped_spec : {M : Type 1} → statement M
+is_cramped_spec = tie.close (tie.spec (λ c κs. search rules) returns returns-2 (λ c κs. search rules) (λ c κs. search rules) add-result returns-3)

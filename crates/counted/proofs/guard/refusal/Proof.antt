@@ -7,45 +7,45 @@ use Rattle.counted.proofs.Laws.Guards.{refused_early, block_passes, refused_cram
 use Rattle.counted.proofs.guard.refusal.Statement.{statement}
 use Rattle.counted.proofs.guard.refusal.Tie as tie
 
-returns : tie.Need-returns
+returns : tie.Need-returns-then-is_early
 returns c =
     let g = c.before in
-    refused_early limits _ _ _ _ _ g.before.session-refusal.ensures (sym g.is-early.ensures ∙ c.if1.true)
+    refused_early limits _ _ _ _ _ g.before.session_refusal-refused.ensures (sym g.is_early.ensures ∙ c.if-is_early.true)
 
-is-cramped-requires : tie.Need-is-cramped-requires
+is-cramped-requires : tie.Need-is_cramped-requires
 is-cramped-requires c κs =
     let g = c.before in
-    block_passes limits _ _ _ _ g.before.session-refusal.ensures (sym g.is-early.ensures ∙ c.if1.false)
+    block_passes limits _ _ _ _ g.before.session_refusal-refused.ensures (sym g.is_early.ensures ∙ c.if-is_early.false)
 
-returns-2 : tie.Need-returns-2
+returns-2 : tie.Need-returns-then-is_cramped
 returns-2 c =
     let k = c.before in
     let g = k.before.before in
-    refused_cramped limits _ _ _ _ _ g.before.session-refusal.ensures (sym g.is-early.ensures ∙ k.before.if1.false) k.is-cramped.ensures c.if2.true
+    refused_cramped limits _ _ _ _ _ g.before.session_refusal-refused.ensures (sym g.is_early.ensures ∙ k.before.if-is_early.false) k.is_cramped.ensures c.if-is_cramped.true
 
-returns-3 : tie.Need-returns-3
+returns-3 : tie.Need-returns-then-refused-ne0
 returns-3 c =
     let k = c.before.before in
     let g = k.before.before in
-    refused_late limits _ _ _ _ _ g.before.session-refusal.ensures (sym g.is-early.ensures ∙ k.before.if1.false) k.is-cramped.ensures c.before.if2.false c.if3.true
+    refused_late limits _ _ _ _ _ g.before.session_refusal-refused.ensures (sym g.is_early.ensures ∙ k.before.if-is_early.false) k.is_cramped.ensures c.before.if-is_cramped.false c.if-refused-ne0.true
 
-returns-4 : tie.Need-returns-4
+returns-4 : tie.Need-returns-then-most-budget
 returns-4 c =
     let l = c.before in
     let k = l.before.before in
     let g = k.before.before in
-    refused_last limits _ _ _ _ _ g.before.session-refusal.ensures (sym g.is-early.ensures ∙ k.before.if1.false) k.is-cramped.ensures l.before.if2.false l.if3.false (omega (arith, c.if4.true))
+    refused_last limits _ _ _ _ _ g.before.session_refusal-refused.ensures (sym g.is_early.ensures ∙ k.before.if-is_early.false) k.is_cramped.ensures l.before.if-is_cramped.false l.if-refused-ne0.false (omega (arith, c.if-most-budget.true))
 
-returns-5 : tie.Need-returns-5
+returns-5 : tie.Need-returns
 returns-5 c =
     let l = c.before in
     let k = l.before.before in
     let g = k.before.before in
     let start = g.before.before.before.before.before.before.before in
-    refused_not limits _ _ _ _ _ g.before.session-refusal.ensures (sym g.is-early.ensures ∙ k.before.if1.false) k.is-cramped.ensures l.before.if2.false l.if3.false (omega (arith, start.well-formed)) (omega (arith, c.if4.false))
+    refused_not limits _ _ _ _ _ g.before.session_refusal-refused.ensures (sym g.is_early.ensures ∙ k.before.if-is_early.false) k.is_cramped.ensures l.before.if-is_cramped.false l.if-refused-ne0.false (omega (arith, start.well_formed)) (omega (arith, c.if-most-budget.false))
 
-pub refusal-spec : {M : Type 1} → statement M
-refusal-spec =
+pub refusal_spec : {M : Type 1} → statement M
+refusal_spec =
     tie.close
     (tie.spec
     (λ c κs. search rules)

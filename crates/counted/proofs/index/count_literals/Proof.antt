@@ -9,33 +9,33 @@ use Rattle.counted.proofs.Counting.{Counting, placed, count_begin, count_small, 
 use Rattle.counted.proofs.index.count_literals.Statement.{statement}
 use Rattle.counted.proofs.index.count_literals.Tie as tie
 
-abbrev invariant-loop : tie.invariant-loop
+abbrev invariant-loop : tie.invariant-loop-j
 invariant-loop words counts₀ j₀ counts j = Counting literal_places words counts j
 
-abbrev decreases-loop : tie.decreases-loop
+abbrev decreases-loop : tie.decreases-loop-j
 decreases-loop words counts₀ j₀ counts j = length words - j
 
 -- the place of this turn's word
-here : (c : tie.After-place-at invariant-loop decreases-loop) → c.place_at.result < literal_places
-here c = placed c.before.before.before.args.words.now c.before.before.loop.j _ c.before.before.before.requires.0 c.place_at.ensures
+here : (c : tie.After-place_at-p invariant-loop decreases-loop) → c.place_at-p.result < literal_places
+here c = placed c.before.before.before.args.words.now c.before.before.loop-j.j _ c.before.before.before.requires.0 c.place_at-p.ensures
 
-add-counts : tie.Need-overflow-add-counts invariant-loop decreases-loop
+add-counts : tie.Need-overflow_add-counts invariant-loop decreases-loop
 add-counts c =
-    let k = count_small _ _ _ _ c.before.before.loop.invariant c.before.loop-test.true _ c.place_at.ensures in
+    let k = count_small _ _ _ _ c.before.before.loop-j.invariant c.before.loop-j-test.true _ c.place_at-p.ensures in
     omega (arith, literals_are)
 
-loop-again : tie.Need-loop-preserved invariant-loop decreases-loop
+loop-again : tie.Need-loop-j-preserved invariant-loop decreases-loop
 loop-again c =
-    count_turn _ _ _ _ c.before.before.loop.invariant c.before.loop-test.true _ c.place_at.ensures (here c)
+    count_turn _ _ _ _ c.before.before.loop-j.invariant c.before.loop-j-test.true _ c.place_at-p.ensures (here c)
 
 returns : tie.Need-returns invariant-loop decreases-loop
 returns c = record {
-  long = c.before.loop.invariant.long;
-  said = λ p h. count_end _ _ _ _ c.loop-test.false c.before.loop.invariant p;
+  long = c.before.loop-j.invariant.long;
+  said = λ p h. count_end _ _ _ _ c.loop-j-test.false c.before.loop-j.invariant p;
 }
 
-pub count-literals-spec : {M : Type 1} → statement M
-count-literals-spec =
+pub count_literals_spec : {M : Type 1} → statement M
+count_literals_spec =
     tie.close
     (tie.spec invariant-loop decreases-loop (λ c. count_begin literal_places _) (λ c κs. c.before.before.requires.0 _) (λ c. omega (arith, here c)) (λ c. here c)
     add-counts (λ c. omega (arith, here c)) (λ c. here c) (λ c. search rules) (λ c. search rules) loop-again returns)

@@ -8,23 +8,23 @@ use Rattle.counted.proofs.Starting.{Starting, start_begin, start_end, start_smal
 use Rattle.counted.proofs.index.starts_of.Statement.{statement}
 use Rattle.counted.proofs.index.starts_of.Tie as tie
 
-abbrev invariant-loop : tie.invariant-loop
+abbrev invariant-loop : tie.invariant-loop-p
 invariant-loop words starts₀ sum₀ p₀ starts sum p = Starting words starts sum p
 
-abbrev decreases-loop : tie.decreases-loop
+abbrev decreases-loop : tie.decreases-loop-p
 decreases-loop words starts₀ sum₀ p₀ starts sum p = literal_places - p
 
-add-sum : tie.Need-overflow-add-sum invariant-loop decreases-loop
-add-sum c = let k = start_small _ _ _ _ c.before.loop.invariant c.loop-test.true in omega (arith, literals_are, c.before.before.before.requires.1)
+add-sum : tie.Need-overflow_add-sum invariant-loop decreases-loop
+add-sum c = let k = start_small _ _ _ _ c.before.loop-p.invariant c.loop-p-test.true in omega (arith, literals_are, c.before.before.before.requires.1)
 
-loop-again : tie.Need-loop-preserved invariant-loop decreases-loop
-loop-again c = start_turn _ _ _ _ c.before.loop.invariant c.loop-test.true
+loop-again : tie.Need-loop-p-preserved invariant-loop decreases-loop
+loop-again c = start_turn _ _ _ _ c.before.loop-p.invariant c.loop-p-test.true
 
 returns : tie.Need-returns invariant-loop decreases-loop
-returns c = start_end _ _ _ _ c.loop-test.false c.before.loop.invariant
+returns c = start_end _ _ _ _ c.loop-p-test.false c.before.loop-p.invariant
 
-pub starts-of-spec : {M : Type 1} → statement M
-starts-of-spec =
+pub starts_of_spec : {M : Type 1} → statement M
+starts_of_spec =
     tie.close
-    (tie.spec invariant-loop decreases-loop (λ c κs. search rules) (λ c. start_begin _ _ c.count-literals.ensures) (λ c. search rules) (λ c. search rules)
+    (tie.spec invariant-loop decreases-loop (λ c κs. search rules) (λ c. start_begin _ _ c.count_literals-starts.ensures) (λ c. search rules) (λ c. search rules)
     (λ c. search rules) (λ c. search rules) add-sum (λ c. search rules) (λ c. search rules) loop-again returns)

@@ -10,82 +10,82 @@ use Rattle.counted.proofs.Walking.{out_begin, out_end, out_enough, out_inside, o
 use Rattle.counted.proofs.walk.count_out.Statement.{statement}
 use Rattle.counted.proofs.walk.count_out.Tie as tie
 
-abbrev invariant-loop : tie.invariant-loop
+abbrev invariant-loop : tie.invariant-loop-k
 invariant-loop list less more trues₀ opens₀ bounds₀ k₀ trues opens bounds k = (k ≤ length list) × CountedOut less more list trues₀ opens₀ bounds₀ (drop k list) trues opens bounds
 
-abbrev decreases-loop : tie.decreases-loop
+abbrev decreases-loop : tie.decreases-loop-k
 decreases-loop list less more trues₀ opens₀ bounds₀ k₀ trues opens bounds k = length list - k
 
-mul_wide : tie.Need-overflow-mul-wide invariant-loop decreases-loop
-mul_wide c = omega (arith, c.loop-test.true, c.before.before.before.before.before.well-formed)
+mul_wide : tie.Need-offset_bounds-list-k invariant-loop decreases-loop
+mul_wide c = omega (arith, c.loop-k-test.true, c.before.before.before.before.before.well_formed)
 
 -- the clause of this turn
-module _ (c : tie.After-wide invariant-loop decreases-loop) where
+module _ (c : tie.After-wide-c invariant-loop decreases-loop) where
   abbrev start : tie.Start invariant-loop decreases-loop
   start = c.before.before.before.before.before.before.before
 
-  inside : (c.wide.result < length c.before.before.before.loop.trues) × (c.wide.result < length c.before.before.before.loop.opens)
-  inside = out_inside _ _ _ _ _ _ start.pre _ _ _ _ c.before.before.before.loop.invariant.1 c.before.before.loop-test.true _ c.wide.ensures
+  inside : (c.wide-c.result < length c.before.before.before.loop-k.trues) × (c.wide-c.result < length c.before.before.before.loop-k.opens)
+  inside = out_inside _ _ _ _ _ _ start.requires _ _ _ _ c.before.before.before.loop-k.invariant.1 c.before.before.loop-k-test.true _ c.wide-c.ensures
 
-  small : get_or c.before.before.before.loop.opens c.wide.result 0 + start.args.more ≤ limits.literals
-  small = out_small _ _ _ _ _ _ start.pre _ _ _ _ c.before.before.before.loop.invariant.1 c.before.before.loop-test.true _ c.wide.ensures
+  small : get_or c.before.before.before.loop-k.opens c.wide-c.result 0 + start.args.more ≤ limits.literals
+  small = out_small _ _ _ _ _ _ start.requires _ _ _ _ c.before.before.before.loop-k.invariant.1 c.before.before.loop-k-test.true _ c.wide-c.ensures
 
-  enough : start.args.less ≤ get_or c.before.before.before.loop.trues c.wide.result 0
-  enough = out_enough _ _ _ _ _ _ start.pre _ _ _ _ c.before.before.before.loop.invariant.1 c.before.before.loop-test.true _ c.wide.ensures
+  enough : start.args.less ≤ get_or c.before.before.before.loop-k.trues c.wide-c.result 0
+  enough = out_enough _ _ _ _ _ _ start.requires _ _ _ _ c.before.before.before.loop-k.invariant.1 c.before.before.loop-k-test.true _ c.wide-c.ensures
 
-mul-t : tie.Need-overflow-mul-t invariant-loop decreases-loop
+mul-t : tie.Need-offset_bounds-trues-c invariant-loop decreases-loop
 mul-t c =
     let at = c.before.before.before in
     let start = at.before.before.before.before in
-    omega (arith, (inside c).0, at.loop.invariant.1.trues.kept, start.well-formed)
+    omega (arith, (inside c).0, at.loop-k.invariant.1.trues.kept, start.well_formed)
 
-mul-o : tie.Need-overflow-mul-o invariant-loop decreases-loop
+mul-o : tie.Need-offset_bounds-opens-c invariant-loop decreases-loop
 mul-o c =
     let at = c.before.before.before.before in
     let start = at.before.before.before.before in
-    omega (arith, (inside c.before).1, at.loop.invariant.1.opens.kept, start.well-formed)
+    omega (arith, (inside c.before).1, at.loop-k.invariant.1.opens.kept, start.well_formed)
 
-mul-trues : tie.Need-overflow-mul-trues invariant-loop decreases-loop
+mul-trues : tie.Need-offset_bounds-trues-c-in-loop-k invariant-loop decreases-loop
 mul-trues c =
     let here = c.before.before in
     let at = here.before.before.before in
     let start = at.before.before.before.before in
-    omega (arith, (inside here).0, at.loop.invariant.1.trues.kept, start.well-formed)
+    omega (arith, (inside here).0, at.loop-k.invariant.1.trues.kept, start.well_formed)
 
-mul-opens : tie.Need-overflow-mul-opens invariant-loop decreases-loop
+mul-opens : tie.Need-offset_bounds-opens-c-in-loop-k invariant-loop decreases-loop
 mul-opens c =
     let here = c.before.before in
     let at = here.before.before.before in
     let start = at.before.before.before.before in
-    omega (arith, (inside here).1, at.loop.invariant.1.opens.kept, start.well-formed)
+    omega (arith, (inside here).1, at.loop-k.invariant.1.opens.kept, start.well_formed)
 
-mul-lowered : tie.Need-overflow-mul-lowered invariant-loop decreases-loop
-mul-lowered c = omega (arith, c.wide2.ensures, c.before.before.slice-known3.given c.before.before.before.wide.result)
+mul-lowered : tie.Need-overflow_mul-wide invariant-loop decreases-loop
+mul-lowered c = omega (arith, c.wide.ensures, c.before.before.slice_known-in-loop-k-1.given c.before.before.before.wide-c.result)
 
-add-lowered : tie.Need-overflow-add-lowered invariant-loop decreases-loop
+add-lowered : tie.Need-overflow_add-wide invariant-loop decreases-loop
 add-lowered c =
     let known = c.before.before.before in
     let read = known.before in
-    omega (arith, c.wide3.ensures, c.before.wide2.ensures, small read, literals_are, known.slice-known3.given read.wide.result)
+    omega (arith, c.wide-in-loop-k.ensures, c.before.wide.ensures, small read, literals_are, known.slice_known-in-loop-k-1.given read.wide-c.result)
 
-loop-again : tie.Need-loop-preserved invariant-loop decreases-loop
+loop-again : tie.Need-loop-k-preserved invariant-loop decreases-loop
 loop-again c =
     let read2 = c.before.before in
     let read = read2.before.before.before in
     let turn = read.before.before in
     let at = turn.before in
     let start = at.before.before.before.before in
-    (omega arith, out_turn _ _ _ _ _ _ start.requires _ _ _ _ at.loop.invariant.1 turn.loop-test.true _ read.wide.ensures _ _ (omega (arith, read2.wide2.ensures, c.before.wide3.ensures)) c.lowered.ensures)
+    (omega arith, out_turn _ _ _ _ _ _ start.requires _ _ _ _ at.loop-k.invariant.1 turn.loop-k-test.true _ read.wide-c.ensures _ _ (omega (arith, read2.wide.ensures, c.before.wide-in-loop-k.ensures)) c.lowered-bounds.ensures)
 
 returns : tie.Need-returns invariant-loop decreases-loop
-returns c = out_end _ _ _ _ _ _ _ _ _ _ c.loop-test.false c.before.loop.invariant.1
+returns c = out_end _ _ _ _ _ _ _ _ _ _ c.loop-k-test.false c.before.loop-k.invariant.1
 
-pub count-out-spec : {M : Type 1} → statement M
-count-out-spec =
+pub count_out_spec : {M : Type 1} → statement M
+count_out_spec =
     tie.close
     (tie.spec invariant-loop decreases-loop (λ c. (omega arith, out_begin _ _ _ _ _ _)) mul_wide (λ c. search rules) (λ c κs. search rules) mul-t
     (λ c. (inside c.before).0) (λ c. enough c.before) mul-o (λ c. (inside c.before.before).1)
     (λ c. omega (arith, small c.before.before, literals_are)) mul-trues (λ c. (inside c.before.before).0) mul-opens
     (λ c. (inside c.before.before).1) (λ c κs. search rules) mul-lowered (λ c κs. search rules) add-lowered (λ c κs. search rules)
-    (λ c. search rules) (λ c. search rules) loop-again (λ c. c.before.loop.invariant.1.trues.kept) (λ c. c.before.loop.invariant.1.opens.kept)
+    (λ c. search rules) (λ c. search rules) loop-again (λ c. c.before.loop-k.invariant.1.trues.kept) (λ c. c.before.loop-k.invariant.1.opens.kept)
     returns)

@@ -4,13 +4,13 @@ use Rattle.listing.proofs.Groups.{writable, begun}
 use Rattle.listing.proofs.openings.begin.Statement.{statement}
 use Rattle.listing.proofs.openings.begin.Tie as tie
 
-write-values-requires : tie.Need-write-values-requires
+write-values-requires : tie.Need-write_values-requires
 write-values-requires c κs =
     let taken = c.before in
     let cut = taken.before in
     let cleared = cut.before.before.before.before in
     let start = cleared.before.before.before.before.before in
-    writable start.requires cut.prefix.ensures taken.take.ensures cleared.clear.auto.0
+    writable start.requires cut.prefix.ensures taken.take.ensures cleared.clear.auto.lits
 
 returns : tie.Need-returns
 returns c =
@@ -18,10 +18,10 @@ returns c =
     let cut = taken.before in
     let cleared = cut.before.before.before.before in
     let start = cleared.before.before.before.before.before in
-    begun start.requires cut.prefix.ensures taken.take.ensures start.args.n cleared.before.size-at.ensures cleared.clear.ensures c.before.write-values.ensures
+    begun start.requires cut.prefix.ensures taken.take.ensures start.args.n cleared.before.size_at.ensures cleared.clear.ensures c.before.write_values.ensures
 
-pub begin-spec : {M : Type 1} → statement M
-begin-spec =
+pub begin_spec : {M : Type 1} → statement M
+begin_spec =
     tie.close
     (tie.spec
     (λ c κs. search rules)

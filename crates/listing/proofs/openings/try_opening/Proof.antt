@@ -11,7 +11,7 @@ module _ (begun : tie.After-begin) where
   abbrev start : tie.Start
   start = begun.before.before.before.before
 
-search-requires : tie.Need-search-requires
+search-requires : tie.Need-search-found-requires
 search-requires c κs =
     let begun = c.before.before.before.before.before.before.before in
     let pre = (start begun).requires in
@@ -22,9 +22,9 @@ returns c =
     let found = c.before.before.before.before in
     let begun = found.before.before.before.before.before.before.before.before in
     let pre = (start begun).requires in
-    let led = found.search.ensures.0 in
-    (both_same (searched pre.0 (start begun).args.n begun.begin.ensures (start begun).args.preferred.now (start begun).args.budget (same_answer led)) (same_memory led), found.search.auto.1.1.1.0 ∙ pre.1.1)
+    let led = found.search-found.ensures.0 in
+    (both_same (searched pre.0 (start begun).args.n begun.begin.ensures (start begun).args.preferred.now (start begun).args.budget (same_answer led)) (same_memory led), found.search-found.auto.reasons ∙ pre.1.1)
 
-pub try-opening-spec : {M : Type 1} → statement M
-try-opening-spec =
+pub try_opening_spec : {M : Type 1} → statement M
+try_opening_spec =
     tie.close (tie.spec (λ c κs. search rules) search-requires (λ c. search rules) (λ c. search rules) returns)

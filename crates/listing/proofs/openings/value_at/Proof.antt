@@ -11,27 +11,27 @@ use Rattle.listing.proofs.Groups.{value_flipped, value_stays}
 use Rattle.listing.proofs.openings.value_at.Statement.{statement}
 use Rattle.listing.proofs.openings.value_at.Tie as tie
 
-returns : tie.Need-returns
+returns : tie.Need-returns-then-negative_at-has_one
 returns c =
     let told = c.before.before.before in
     let start = told.before.before in
     let q = get_or start.args.group.now start.args.i (pos 0) in
-    let read : to_z w32 (of_z w32 q) ≡ q = to_z-of_z w32 q (sfits_of c.before.opposite-arg.given) in
-    to_z-of_z w32 c.opposite.result (sfits_of c.opposite.type-inv)
+    let read : to_z w32 (of_z w32 q) ≡ q = to_z-of_z w32 q (sfits_of c.before.opposite-arg-1.given) in
+    to_z-of_z w32 c.opposite.result (sfits_of c.opposite.type_inv)
     ∙ c.opposite.ensures
     ∙ ap opposite read
-    ∙ value_flipped start.args.n start.args.place q told.before.negative-at.ensures told.Has-one.ensures c.before.before.if1.true start.requires.small
+    ∙ value_flipped start.args.n start.args.place q told.before.negative_at.ensures told.has_one.ensures c.before.before.if-negative_at-has_one.true start.requires.small
 
-returns-2 : tie.Need-returns-2
+returns-2 : tie.Need-returns-else-negative_at-has_one
 returns-2 c =
     let told = c.before.before in
     let start = told.before.before in
     let q = get_or start.args.group.now start.args.i (pos 0) in
-    to_z-of_z w32 q (sfits_of c.result.given)
-    ∙ value_stays start.args.n start.args.place q told.before.negative-at.ensures told.Has-one.ensures c.before.if1.false
+    to_z-of_z w32 q (sfits_of c.result-1.given)
+    ∙ value_stays start.args.n start.args.place q told.before.negative_at.ensures told.has_one.ensures c.before.if-negative_at-has_one.false
 
-pub value-at-spec : {M : Type 1} → statement M
-value-at-spec =
+pub value_at_spec : {M : Type 1} → statement M
+value_at_spec =
     tie.close
     (tie.spec
     (λ c κs. search rules)

@@ -5,11 +5,11 @@ use borrow.Author.Rules.{rules}
 use Rattle.listing.proofs.sheets.write_entry.Statement.{statement}
 use Rattle.listing.proofs.sheets.write_entry.Tie as tie
 
-slice-write-output-2 : tie.Need-slice-write-output-2
+slice-write-output-2 : tie.Need-bounds-output-at-2
 slice-write-output-2 c = simp length-set (omega arith)
 
-pub write-entry-spec : {M : Type 1} → statement M
-write-entry-spec =
+pub write_entry_spec : {M : Type 1} → statement M
+write_entry_spec =
     tie.close
     (tie.spec
     (λ c. search rules)

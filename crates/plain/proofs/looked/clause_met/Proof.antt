@@ -10,27 +10,27 @@ use Rattle.plain.specs.Inner.Met.{met}
 use Rattle.plain.proofs.looked.clause_met.Statement.{statement}
 use Rattle.plain.proofs.looked.clause_met.Tie as tie
 
-abbrev invariant-loop : tie.invariant-loop
+abbrev invariant-loop : tie.invariant-loop-i
 invariant-loop clause values i₀ i = (i ≤ length clause) × (met values (drop i clause) ≡ met values clause)
 
-abbrev decreases-loop : tie.decreases-loop
+abbrev decreases-loop : tie.decreases-loop-i
 decreases-loop clause values i₀ i = length clause - i
 
-returns : tie.Need-returns invariant-loop decreases-loop
+returns : tie.Need-returns-then-made_true invariant-loop decreases-loop
 returns c =
-    let l = c.before.before.before.loop in
-    sym (any_found _ _ l.i (pos 0) c.before.before.loop-test.true (sym c.before.made-true.ensures ∙ c.if1.true)) ∙ l.invariant.1
+    let l = c.before.before.before.loop-i in
+    sym (any_found _ _ l.i (pos 0) c.before.before.loop-i-test.true (sym c.before.made_true.ensures ∙ c.if-made_true.true)) ∙ l.invariant.1
 
-loop-again : tie.Need-loop-preserved invariant-loop decreases-loop
+loop-again : tie.Need-loop-i-preserved invariant-loop decreases-loop
 loop-again c =
-    let l = c.before.before.before.loop in
-    let t = c.before.before.loop-test.true in
-    (omega arith, any_past _ _ l.i (pos 0) t (sym c.before.made-true.ensures ∙ c.if1.false) ∙ l.invariant.1)
+    let l = c.before.before.before.loop-i in
+    let t = c.before.before.loop-i-test.true in
+    (omega arith, any_past _ _ l.i (pos 0) t (sym c.before.made_true.ensures ∙ c.if-made_true.false) ∙ l.invariant.1)
 
-returns-2 : tie.Need-returns-2 invariant-loop decreases-loop
-returns-2 c = sym (any_ended _ _ c.before.loop.i c.loop-test.false) ∙ c.before.loop.invariant.1
+returns-2 : tie.Need-returns invariant-loop decreases-loop
+returns-2 c = sym (any_ended _ _ c.before.loop-i.i c.loop-i-test.false) ∙ c.before.loop-i.invariant.1
 
-pub clause-met-spec : {M : Type 1} → statement M
-clause-met-spec =
+pub clause_met_spec : {M : Type 1} → statement M
+clause_met_spec =
     tie.close
-    (tie.spec invariant-loop decreases-loop (λ c. (omega arith, refl)) (λ c κs. c.loop-test.true) returns (λ c. search rules) (λ c. search rules) loop-again returns-2)
+    (tie.spec invariant-loop decreases-loop (λ c. (omega arith, refl)) (λ c κs. c.loop-i-test.true) returns (λ c. search rules) (λ c. search rules) loop-again returns-2)

@@ -13,7 +13,7 @@ use Rattle.plain.proofs.Given.{word_small, given}
 use Rattle.plain.proofs.tried.give.Statement.{statement}
 use Rattle.plain.proofs.tried.give.Tie as tie
 
-value-at-requires : tie.Need-value-at-requires
+value-at-requires : tie.Need-value_at-word-requires
 value-at-requires c κs = rw c.prefix.ensures (word_small _ _ c.before.requires.0)
 
 returns : tie.Need-returns
@@ -21,9 +21,9 @@ returns c =
     let start = c.before.before in
     let m = start.requires.0.most in
     let f = start.requires.0.few in
-    let x : to_z w32 (of_z w32 c.value_at_lem.result) ≡ c.value_at_lem.result = to_z-of_z w32 c.value_at_lem.result (sfits_of c.value_at_lem.type-inv) in
+    let x : to_z w32 (of_z w32 c.value_at-word.result) ≡ c.value_at-word.result = to_z-of_z w32 c.value_at-word.result (sfits_of c.value_at-word.type_inv) in
     let p = c.before.prefix.ensures in
-    given _ _ (omega arith) start.requires.1 _ _ (x ∙ c.value_at_lem.ensures ∙ ap (λ (ws : List ℤ). value_of start.args.second (get_or ws start.args.i (pos 0))) p)
+    given _ _ (omega arith) start.requires.1 _ _ (x ∙ c.value_at-word.ensures ∙ ap (λ (ws : List ℤ). value_of start.args.second (get_or ws start.args.i (pos 0))) p)
 
 pub give_spec : {M : Type 1} → statement M
 give_spec =

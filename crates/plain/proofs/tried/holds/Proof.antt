@@ -7,7 +7,7 @@ use Rattle.plain.proofs.tried.holds.Tie as tie
 
 returns : tie.Need-returns
 unfolding true? holds_from
-returns c = c.holds-from.ensures.0
+returns c = c.holds_from.ensures.0
 
-pub holds-spec : {M : Type 1} → statement M
-holds-spec = tie.close (tie.spec (λ c κs. search rules) returns)
+pub holds_spec : {M : Type 1} → statement M
+holds_spec = tie.close (tie.spec (λ c κs. search rules) returns)

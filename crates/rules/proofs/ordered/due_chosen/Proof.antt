@@ -12,26 +12,26 @@ use Rattle.rules.proofs.Laws.ClausesReady.{ready_clauses, untrue_ready}
 use Rattle.rules.proofs.ordered.due_chosen.Statement.{statement}
 use Rattle.rules.proofs.ordered.due_chosen.Tie as tie
 
-occurring-requires : tie.Need-occurring-requires
+occurring-requires : tie.Need-occurring-occurs-requires
 occurring-requires c κs = ready_clauses _ _ _ c.requires
 
 -- the search is the definition's
-module _ (c : tie.After-first-monotone) where
+module _ (c : tie.After-first_monotone) where
   abbrev start : tie.Start
   start = c.before.before.before
 
   search_is : (ρ : Assignment) → Values ρ start.args.values.now → Sorts start.args.prefix.now ρ start.args.statuses.now
-      → c.first-monotone.result ≡ first_monotone start.args.prefix.now (untrue_of ρ (clauses_from start.args.literals.now 0 start.args.ends.now)) ρ
+      → c.first_monotone.result ≡ first_monotone start.args.prefix.now (untrue_of ρ (clauses_from start.args.literals.now 0 start.args.ends.now)) ρ
   search_is ρ said sorting =
-      c.first-monotone.ensures
-      ∙ monotone_means _ start.pre.prefix _ _ start.args.values.now c.before.before.occurring.result said
-      (rw (← untrue_ready _ _ _ start.pre ρ start.args.statuses.now sorting) c.before.before.occurring.ensures)
+      c.first_monotone.ensures
+      ∙ monotone_means _ start.requires.prefix _ _ start.args.values.now c.before.before.occurring-occurs.result said
+      (rw (← untrue_ready _ _ _ start.requires ρ start.args.statuses.now sorting) c.before.before.occurring-occurs.ensures)
 
-returns : tie.Need-returns
-returns c ρ said sorting = rw (← search_is c.before.before.before ρ said sorting, c.before.literal.given.1)
+returns : tie.Need-returns-in-Is
+returns c ρ said sorting = rw (← search_is c.before ρ said sorting, c.in-Is.is)
 
-returns-2 : tie.Need-returns-2
-returns-2 c ρ said sorting = rw (← search_is c.before.before ρ said sorting, c.enum_told.given.1)
+returns-2 : tie.Need-returns-in-NoLiteral
+returns-2 c ρ said sorting = rw (← search_is c.before ρ said sorting, c.in-NoLiteral.is)
 
-pub due-chosen-spec : {M : Type 1} → statement M
-due-chosen-spec = tie.close (tie.spec occurring-requires (λ c κs. search rules) (λ c. search rules) (λ c. search rules) returns returns-2)
+pub due_chosen_spec : {M : Type 1} → statement M
+due_chosen_spec = tie.close (tie.spec occurring-requires (λ c κs. search rules) (λ c. search rules) (λ c. search rules) returns returns-2)

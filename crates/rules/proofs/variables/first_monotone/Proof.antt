@@ -15,56 +15,56 @@ use Rattle.rules.proofs.Monotone.{monotone_set, monotone_plus, monotone_minus, m
 use Rattle.rules.proofs.variables.first_monotone.Statement.{statement}
 use Rattle.rules.proofs.variables.first_monotone.Tie as tie
 
-abbrev invariant-loop : tie.invariant-loop
+abbrev invariant-loop : tie.invariant-loop-i
 invariant-loop prefix values occurs i₀ i = Left (monotone_in values occurs) prefix i
 
-abbrev decreases-loop : tie.decreases-loop
+abbrev decreases-loop : tie.decreases-loop-i
 decreases-loop prefix values occurs i₀ i = length prefix - i
 
 -- the word's variable has a place
-small : (c : tie.In-loop invariant-loop decreases-loop) → nat_abs (get_or c.before.before.args.prefix.now c.before.loop.i (pos 0)) ≤ limits.variables
-small c = word_small _ (bound_named c.before.before.requires) _ c.loop-test.true
+small : (c : tie.In-loop-i invariant-loop decreases-loop) → nat_abs (get_or c.before.before.args.prefix.now c.before.loop-i.i (pos 0)) ≤ limits.variables
+small c = word_small _ (bound_named c.before.before.requires) _ c.loop-i-test.true
 
-element-copy-out-if1 : tie.Need-element-copy-out-if1 invariant-loop decreases-loop
-element-copy-out-if1 c = placed _ _ _ (bound_named c.before.before.before.requires) c.before.loop-test.true c.size-at.ensures
+element-copy-out-if1 : tie.Need-bounds-values-v invariant-loop decreases-loop
+element-copy-out-if1 c = placed _ _ _ (bound_named c.before.before.before.before.requires) c.before.before.loop-i-test.true c.before.size_at-v.ensures
 
-signs-at-requires : tie.Need-signs-at-requires invariant-loop decreases-loop
+signs-at-requires : tie.Need-signs_at-signs-requires invariant-loop decreases-loop
 signs-at-requires c κs =
-    let sized = c.before.before in
-    omega (arith, sized.size-at.ensures, small sized.before)
+    let sized = c.before.before.before in
+    omega (arith, sized.size_at-v.ensures, small sized.before)
 
-returns : tie.Need-returns invariant-loop decreases-loop
+returns : tie.Need-returns-then-signs-eq1 invariant-loop decreases-loop
 returns c =
     let told = c.before.before in
-    let sized = told.before.before.before in
+    let sized = told.before.before.before.before in
     let turn = sized.before in
-    ap Is c.literal-at.ensures
-    ∙ left_here turn.before.loop.invariant turn.loop-test.true (monotone_plus _ _ _ sized.size-at.ensures told.before.if1.true _ _ told.signs_at.ensures c.before.if2.true)
+    ap Is c.literal_at.ensures
+    ∙ left_here turn.before.loop-i.invariant turn.loop-i-test.true (monotone_plus _ _ _ sized.size_at-v.ensures told.before.if-values-v-eq0.true _ _ told.signs_at-signs.ensures c.before.if-signs-eq1.true)
 
-opposite-at-requires : tie.Need-opposite-at-requires invariant-loop decreases-loop
-opposite-at-requires c κs = small c.before.before.before.before.before.before
+opposite-at-requires : tie.Need-opposite_at-requires invariant-loop decreases-loop
+opposite-at-requires c κs = small c.before.before.before.before.before.before.before
 
-returns-2 : tie.Need-returns-2 invariant-loop decreases-loop
+returns-2 : tie.Need-returns-then-signs-eq2 invariant-loop decreases-loop
 returns-2 c =
     let no_plus = c.before.before in
     let told = no_plus.before in
-    let sized = told.before.before.before in
+    let sized = told.before.before.before.before in
     let turn = sized.before in
-    ap Is c.opposite-at.ensures
-    ∙ left_here turn.before.loop.invariant turn.loop-test.true (monotone_minus _ _ _ sized.size-at.ensures told.before.if1.true _ _ told.signs_at.ensures no_plus.if2.false c.before.if3.true)
+    ap Is c.opposite_at.ensures
+    ∙ left_here turn.before.loop-i.invariant turn.loop-i-test.true (monotone_minus _ _ _ sized.size_at-v.ensures told.before.if-values-v-eq0.true _ _ told.signs_at-signs.ensures no_plus.if-signs-eq1.false c.before.if-signs-eq2.true)
 
-loop-again : tie.Need-loop-preserved invariant-loop decreases-loop
+loop-again : tie.Need-loop-i-preserved invariant-loop decreases-loop
 loop-again c =
-    let sized = c.before.before in
+    let sized = c.before.before.before in
     let turn = sized.before in
-    left_past turn.before.loop.invariant turn.loop-test.true
+    left_past turn.before.loop-i.invariant turn.loop-i-test.true
     (⊎_elim
-    (λ w. monotone_mixed _ _ _ sized.size-at.ensures w.0.taken _ _ w.1.ensures w.2.left w.3.left)
-    (λ w. monotone_set _ _ _ sized.size-at.ensures w.left _)
-    c.if1.branch)
+    (λ w. monotone_mixed _ _ _ sized.size_at-v.ensures w.if-values-v-eq0.true _ _ w.signs_at-signs.ensures w.if-signs-eq1.false w.if-signs-eq2.false)
+    (λ w. monotone_set _ _ _ sized.size_at-v.ensures w.if-values-v-eq0.false _)
+    c.if-values-v-eq0.branch-raw)
 
-pub first-monotone-spec : {M : Type 1} → statement M
-first-monotone-spec =
+pub first_monotone_spec : {M : Type 1} → statement M
+first_monotone_spec =
     tie.close
     (tie.spec invariant-loop decreases-loop (λ c. left_begin) (λ c κs. search rules) element-copy-out-if1 signs-at-requires (λ c κs. search rules) returns
-    opposite-at-requires returns-2 (λ c. omega arith) (λ c. omega arith) loop-again (λ c. left_end c.before.loop.invariant c.loop-test.false))
+    opposite-at-requires returns-2 (λ c. omega arith) (λ c. omega arith) loop-again (λ c. left_end c.before.loop-i.invariant c.loop-i-test.false))

@@ -12,68 +12,68 @@ use Rattle.session.proofs.Exits.{on_memory, step_stops, step_last, step_improper
 use Rattle.session.proofs.Session.step.Statement.{statement}
 use Rattle.session.proofs.Session.step.Tie as tie
 
-returns : tie.Need-returns
-returns c = step_stops _ _ _ _ _ c.before.session-refusal.ensures c.if1.true
+returns : tie.Need-returns-then-refused-ne0
+returns c = step_stops _ _ _ _ _ c.before.session_refusal-refused.ensures c.if-refused-ne0.true
 
-returns-2 : tie.Need-returns-2
-returns-2 c = let g = c.before in step_last _ _ _ _ _ g.before.session-refusal.ensures g.if1.false (omega (arith, c.if2.true))
+returns-2 : tie.Need-returns-then-revision
+returns-2 c = let g = c.before in step_last _ _ _ _ _ g.before.session_refusal-refused.ensures g.if-refused-ne0.false (omega (arith, c.if-revision.true))
 
-levels-requires : tie.Need-levels-requires
-levels-requires c κs = let g = c.before in (guarded limits _ _ _ _ (sym g.before.session-refusal.ensures ∙ g.if1.false)).on.block
+levels-requires : tie.Need-levels-levels-requires
+levels-requires c κs = let g = c.before in (guarded limits _ _ _ _ (sym g.before.session_refusal-refused.ensures ∙ g.if-refused-ne0.false)).on.block
 
-due-requires : tie.Need-due-requires
+due-requires : tie.Need-due-rule-requires
 due-requires c κs =
-    let l = c.before.before.before.before in
+    let l = c.before.before in
     let g = l.before.before in
-    ((guarded limits _ _ _ _ (sym g.before.session-refusal.ensures ∙ g.if1.false)).on, record { told = l.levels.ensures; blank = new_blank })
+    ((guarded limits _ _ _ _ (sym g.before.session_refusal-refused.ensures ∙ g.if-refused-ne0.false)).on, record { told = l.levels-levels.ensures; blank = new_blank })
 
 -- from the due rule on: the tables, and the rows before
-module _ (d : tie.After-due) where
-  abbrev levelled : tie.After-levels
-  levelled = d.before.before.before.before.before
+module _ (d : tie.After-due-rule) where
+  abbrev levelled : tie.After-levels-levels
+  levelled = d.before.before.before
 
-  abbrev v : tie.Else2
+  abbrev v : tie.Else-revision
   v = levelled.before
 
-  abbrev g : tie.Else1
+  abbrev g : tie.Else-refused-ne0
   g = v.before
 
-proposal-refusal-requires : tie.Need-proposal-refusal-requires
+proposal-refusal-requires : tie.Need-proposal_refusal-improper-requires
 proposal-refusal-requires c κs =
-    let d = c.before.before in
-    (held_on _ _ _ (guarded limits _ _ _ _ (sym (g d).before.session-refusal.ensures ∙ (g d).if1.false)).on, (levelled d).levels.ensures)
+    let d = c.before in
+    (held_on _ _ _ (guarded limits _ _ _ _ (sym (g d).before.session_refusal-refused.ensures ∙ (g d).if-refused-ne0.false)).on, (levelled d).levels-levels.ensures)
 
-returns-3 : tie.Need-returns-3
+returns-3 : tie.Need-returns-then-improper-ne0
 returns-3 c =
-    let d = c.before.before.before.before in
-    step_improper _ _ _ _ _ (g d).before.session-refusal.ensures (g d).if1.false (v d).if2.false (same_answer d.due.ensures) c.before.proposal-refusal.ensures c.if3.true
+    let d = c.before.before.before in
+    step_improper _ _ _ _ _ (g d).before.session_refusal-refused.ensures (g d).if-refused-ne0.false (v d).if-revision.false (same_answer d.due-rule.ensures) c.before.proposal_refusal-improper.ensures c.if-improper-ne0.true
 
-tell-requires : tie.Need-tell-requires
+tell-requires : tie.Need-tell-reason-requires
 tell-requires c κs =
-    let d = c.before.before.before.before.before in
-    rw (same_answer d.due.ensures) (tellable (on_memory _ _ _ _ (g d).before.session-refusal.ensures (g d).if1.false))
+    let d = c.before.before.before.before in
+    rw (same_answer d.due-rule.ensures) (tellable (on_memory _ _ _ _ (g d).before.session_refusal-refused.ensures (g d).if-refused-ne0.false))
 
-apply-requires : tie.Need-apply-requires
+apply-requires : tie.Need-apply-reached-requires
 apply-requires c κs =
-    let d = c.before.before.before.before.before.before.before.before.before.before in
-    let on = (guarded limits _ _ _ _ (sym (g d).before.session-refusal.ensures ∙ (g d).if1.false)).on in
-    (on, rw (same_answer d.due.ensures) (fitting on))
+    let d = c.before.before.before.before.before.before.before.before.before in
+    let on = (guarded limits _ _ _ _ (sym (g d).before.session_refusal-refused.ensures ∙ (g d).if-refused-ne0.false)).on in
+    (on, rw (same_answer d.due-rule.ensures) (fitting on))
 
-add-moved : tie.Need-overflow-add-moved
+add-moved : tie.Need-overflow_add-revision
 add-moved c =
     let a = c.before.before.before in
-    let d = a.before.before.before.before.before.before.before.before.before.before.before in
-    let start = (g d).before.before.before.before.before.before.before in
-    omega (arith, (v d).if2.false, start.good)
+    let d = a.before.before.before.before.before.before.before.before.before.before in
+    let start = (g d).before.before.before.before in
+    omega (arith, (v d).if-revision.false, start.well_formed)
 
-returns-4 : tie.Need-returns-4
+returns-4 : tie.Need-returns
 returns-4 c =
     let a = c.before.before.before.before in
     let w = a.before.before.before.before.before in
     let q = w.before.before in
-    let d = q.before.before.before.before in
-    step_moves _ _ _ _ _ (g d).before.session-refusal.ensures (g d).if1.false (v d).if2.false (same_answer d.due.ensures) q.before.proposal-refusal.ensures q.if3.false
-    _ _ a.apply.ensures c.moved.ensures _ _ w.tell.ensures
+    let d = q.before.before.before in
+    step_moves _ _ _ _ _ (g d).before.session_refusal-refused.ensures (g d).if-refused-ne0.false (v d).if-revision.false (same_answer d.due-rule.ensures) q.before.proposal_refusal-improper.ensures q.if-improper-ne0.false
+    _ _ a.apply-reached.ensures c.moved.ensures _ _ w.tell-reason.ensures
 
 pub step_spec : {M : Type 1} → statement M
 step_spec =

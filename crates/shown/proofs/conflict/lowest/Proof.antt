@@ -10,10 +10,10 @@ use Rattle.shown.proofs.conflict.lowest.Tie as tie
 due-requires : tie.Need-due-requires
 due-requires c κs =
     let l = c.before.before in
-    (l.before.before.requires, record { told = l.levels.ensures; blank = new_blank })
+    (l.before.before.requires, record { told = l.levels-levels.ensures; blank = new_blank })
 
 returns : tie.Need-returns
-returns c = c.of-rule.ensures ∙ ap conflict_of (same_answer c.before.due.ensures)
+returns c = c.of_rule.ensures ∙ ap conflict_of (same_answer c.before.due.ensures)
 
-pub lowest-spec : {M : Type 1} → statement M
-lowest-spec = tie.close (tie.spec (λ c κs. search rules) due-requires (λ c κs. search rules) returns)
+pub lowest_spec : {M : Type 1} → statement M
+lowest_spec = tie.close (tie.spec (λ c κs. search rules) due-requires (λ c κs. search rules) returns)

@@ -3,14 +3,14 @@ use borrow.Author.Rules.{rules}
 use Rattle.shown.proofs.conflict.of_rule.Statement.{statement}
 use Rattle.shown.proofs.conflict.of_rule.Tie as tie
 
-returns : tie.Need-returns
-returns c = rw c.before.rule.given.1
+returns : tie.Need-returns-in-BacktrackExists
+returns c = rw c.in-BacktrackExists.is
 
-returns-2 : tie.Need-returns-2
-returns-2 c = rw c.before.rule2.given.1
+returns-2 : tie.Need-returns-in-Fail
+returns-2 c = rw c.in-Fail.is
 
-pub of-rule-spec : {M : Type 1} → statement M
-of-rule-spec =
+pub of_rule_spec : {M : Type 1} → statement M
+of_rule_spec =
     tie.close
     (tie.spec
     (λ c. search rules)

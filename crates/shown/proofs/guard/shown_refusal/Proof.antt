@@ -4,32 +4,32 @@ use Rattle.shown.proofs.Guards.{shown_buffers, record_asked, shown_record, shown
 use Rattle.shown.proofs.guard.shown_refusal.Statement.{statement}
 use Rattle.shown.proofs.guard.shown_refusal.Tie as tie
 
-returns : tie.Need-returns
-returns c = let o = c.before in shown_buffers _ _ _ _ o.before.record-places.ensures o.open-refusal.ensures c.if1.true
+returns : tie.Need-returns-then-refused-ne0
+returns c = let o = c.before in shown_buffers _ _ _ _ o.before.record_places.ensures o.open_refusal-refused.ensures c.if-refused-ne0.true
 
-bad-record-requires : tie.Need-bad-record-requires
+bad-record-requires : tie.Need-bad_record-requires
 bad-record-requires c κs =
     let o = c.before in
     let start = o.before.before.before in
-    record_asked start.args.session _ _ start.args.room o.before.record-places.ensures o.open-refusal.ensures c.if1.false
+    record_asked start.args.session _ _ start.args.room o.before.record_places.ensures o.open_refusal-refused.ensures c.if-refused-ne0.false
 
-returns-2 : tie.Need-returns-2
+returns-2 : tie.Need-returns-then-bad_record
 returns-2 c =
     let z = c.before.before in
     let o = z.before in
-    shown_record _ _ _ _ o.before.record-places.ensures o.open-refusal.ensures z.if1.false c.before.bad-record.ensures c.if2.true
+    shown_record _ _ _ _ o.before.record_places.ensures o.open_refusal-refused.ensures z.if-refused-ne0.false c.before.bad_record.ensures c.if-bad_record.true
 
-returns-3 : tie.Need-returns-3
+returns-3 : tie.Need-returns-then-shows_nothing
 returns-3 c =
     let n = c.before.before in
     let cut = n.before in
     let g = cut.before in
     let z = g.before.before in
     let o = z.before in
-    shown_nothing _ _ _ _ o.before.record-places.ensures o.open-refusal.ensures z.if1.false g.before.bad-record.ensures g.if2.false
-    cut.prefix.ensures n.negative-at.ensures c.before.shows_nothing.ensures c.if3.true
+    shown_nothing _ _ _ _ o.before.record_places.ensures o.open_refusal-refused.ensures z.if-refused-ne0.false g.before.bad_record.ensures g.if-bad_record.false
+    cut.prefix-prefix.ensures n.negative_at.ensures c.before.shows_nothing.ensures c.if-shows_nothing.true
 
-returns-4 : tie.Need-returns-4
+returns-4 : tie.Need-returns-then-room-size_at
 returns-4 c =
     let w = c.before.before in
     let n = w.before.before in
@@ -37,10 +37,10 @@ returns-4 c =
     let g = cut.before in
     let z = g.before.before in
     let o = z.before in
-    shown_short _ _ _ _ o.before.record-places.ensures o.open-refusal.ensures z.if1.false g.before.bad-record.ensures g.if2.false
-    cut.prefix.ensures n.negative-at.ensures w.before.shows_nothing.ensures w.if3.false c.before.size-at.ensures c.if4.true
+    shown_short _ _ _ _ o.before.record_places.ensures o.open_refusal-refused.ensures z.if-refused-ne0.false g.before.bad_record.ensures g.if-bad_record.false
+    cut.prefix-prefix.ensures n.negative_at.ensures w.before.shows_nothing.ensures w.if-shows_nothing.false c.before.size_at.ensures c.if-room-size_at.true
 
-returns-5 : tie.Need-returns-5
+returns-5 : tie.Need-returns
 returns-5 c =
     let w = c.before.before in
     let n = w.before.before in
@@ -48,11 +48,11 @@ returns-5 c =
     let g = cut.before in
     let z = g.before.before in
     let o = z.before in
-    shown_passes _ _ _ _ o.before.record-places.ensures o.open-refusal.ensures z.if1.false g.before.bad-record.ensures g.if2.false
-    cut.prefix.ensures n.negative-at.ensures w.before.shows_nothing.ensures w.if3.false c.before.size-at.ensures c.if4.false
+    shown_passes _ _ _ _ o.before.record_places.ensures o.open_refusal-refused.ensures z.if-refused-ne0.false g.before.bad_record.ensures g.if-bad_record.false
+    cut.prefix-prefix.ensures n.negative_at.ensures w.before.shows_nothing.ensures w.if-shows_nothing.false c.before.size_at.ensures c.if-room-size_at.false
 
-pub shown-refusal-spec : {M : Type 1} → statement M
-shown-refusal-spec =
+pub shown_refusal_spec : {M : Type 1} → statement M
+shown_refusal_spec =
     tie.close
     (tie.spec
     (λ c κs. search rules)

@@ -10,27 +10,27 @@ use Rattle.shown.proofs.Shows.{holds_here, holds_later, holds_none}
 use Rattle.shown.proofs.values.holds.Statement.{statement}
 use Rattle.shown.proofs.values.holds.Tie as tie
 
-abbrev invariant-loop : tie.invariant-loop
+abbrev invariant-loop : tie.invariant-loop-i
 invariant-loop clause v i₀ i = (i ≤ length clause) × (mem (pos v) (drop i clause) ≡ mem (pos v) clause)
 
-abbrev decreases-loop : tie.decreases-loop
+abbrev decreases-loop : tie.decreases-loop-i
 decreases-loop clause v i₀ i = length clause - i
 
-returns : tie.Need-returns invariant-loop decreases-loop
+returns : tie.Need-returns-then-is_unnegated invariant-loop decreases-loop
 returns c =
     let l = c.before.before.before in
-    holds_here _ _ l.loop.i c.before.before.loop-test.true c.before.is-unnegated.ensures c.if1.true ∙ l.loop.invariant.1
+    holds_here _ _ l.loop-i.i c.before.before.loop-i-test.true c.before.is_unnegated.ensures c.if-is_unnegated.true ∙ l.loop-i.invariant.1
 
-loop-again : tie.Need-loop-preserved invariant-loop decreases-loop
+loop-again : tie.Need-loop-i-preserved invariant-loop decreases-loop
 loop-again c =
     let l = c.before.before.before in
-    (omega arith, holds_later _ _ l.loop.i c.before.before.loop-test.true c.before.is-unnegated.ensures c.if1.false ∙ l.loop.invariant.1)
+    (omega arith, holds_later _ _ l.loop-i.i c.before.before.loop-i-test.true c.before.is_unnegated.ensures c.if-is_unnegated.false ∙ l.loop-i.invariant.1)
 
-returns-2 : tie.Need-returns-2 invariant-loop decreases-loop
-returns-2 c = holds_none _ _ c.before.loop.i c.loop-test.false ∙ c.before.loop.invariant.1
+returns-2 : tie.Need-returns invariant-loop decreases-loop
+returns-2 c = holds_none _ _ c.before.loop-i.i c.loop-i-test.false ∙ c.before.loop-i.invariant.1
 
-pub holds-spec : {M : Type 1} → statement M
-holds-spec =
+pub holds_spec : {M : Type 1} → statement M
+holds_spec =
     tie.close
     (tie.spec
     invariant-loop

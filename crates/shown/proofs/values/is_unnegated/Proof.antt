@@ -5,11 +5,11 @@ use Rattle.shown.proofs.Shows.{is_word, no_word}
 use Rattle.shown.proofs.values.is_unnegated.Statement.{statement}
 use Rattle.shown.proofs.values.is_unnegated.Tie as tie
 
-returns : tie.Need-returns
-returns c = is_word _ _ (sym c.before.before.size-at.ensures ∙ c.before.if1.true) c.negative-at.ensures
+returns : tie.Need-returns-then-size_at-v
+returns c = is_word _ _ (sym c.before.before.size_at.ensures ∙ c.before.if-size_at-v.true) c.negative_at.ensures
 
-returns-2 : tie.Need-returns-2
-returns-2 c = no_word _ _ (λ e. c.if1.false (c.before.size-at.ensures ∙ e))
+returns-2 : tie.Need-returns
+returns-2 c = no_word _ _ (λ e. c.if-size_at-v.false (c.before.size_at.ensures ∙ e))
 
-pub is-unnegated-spec : {M : Type 1} → statement M
-is-unnegated-spec = tie.close (tie.spec (λ c κs. search rules) (λ c κs. search rules) returns returns-2)
+pub is_unnegated_spec : {M : Type 1} → statement M
+is_unnegated_spec = tie.close (tie.spec (λ c κs. search rules) (λ c κs. search rules) returns returns-2)
