@@ -1,3 +1,2 @@
 // The worked cases, as definitions and one claim: see specs/.
 #![tactic(auto)]
-

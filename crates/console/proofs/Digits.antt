@@ -1,16 +1,13 @@
 -- The value of a word's digits, one byte at a time: a byte that is no digit ends it, one that is goes on.
 use mathlib.Core.Path.{◌≡◌, refl}
-use mathlib.Core.Logic.{⊎_elim}
 use mathlib.Core.Bool.{true, false}
 use mathlib.Core.List.{List, [], ◌∷◌}
-use Prim.Native.Nat.{ℕ, ◌+◌, ◌-◌, ◌/◌, ◌^◌, ◌≤◌, ◌<◌}
-use native.Mathlib.Nat.{pow-le-pow_right}
+use Prim.Native.Nat.{ℕ, ◌+◌, ◌-◌, ◌/◌, ◌≤◌, ◌<◌}
 use native.Mathlib.Omega.{arith}
-use lib.Dec.{leb, eqb}
+use lib.Dec.{eqb}
 use lib.ListN.{length, get_or, take, drop}
-use borrow.Author.Tests.{le-leb, lt-leb, leb-true, leb-false}
+use borrow.Author.Tests.{le-leb, lt-leb}
 use lib.Seq.{take_all}
-use Rattle.words.specs.Laws.Bools.{look}
 use Rattle.words.specs.Laws.Lists.{next, ended}
 use Rattle.console.specs.declared.numbers.Natural.TheVariants.{Value, NoNatural}
 use Rattle.console.specs.Room.{long_most}
@@ -67,13 +64,3 @@ pub bare : (w : List ℕ) → length w ≤ 0 → signed false (natural_of w) ≡
 unfolding natural_of number_of
 bare [] h = refl
 bare (b ∷ bs) h = absurd (omega arith)
-
--- a number of 64 bits has at most 20 digits
-pub twenty : (n k : ℕ) → n ≤ long_most → (1 < k → 10 ^ (k - 1) ≤ n) → k ≤ 20
-twenty n k h f = ⊎_elim (λ e. leb-true k 20 e) (λ e. absurd (many (leb-false k 20 e))) (look (leb k 20))
-  where
-    many : 20 < k → ⊥
-    many m =
-        let low : 10 ^ 20 ≤ 10 ^ (k - 1) = pow-le-pow_right {n = 10} (omega arith) {i = 20} {j = k - 1} (omega arith) in
-        let high : 10 ^ (k - 1) ≤ n = f (omega arith) in
-        omega arith

@@ -6,10 +6,10 @@ use crate::desk::Counts;
 use crate::names::{NOTHING, Name, SHOWN, list, name_at};
 use crate::reply::{After, Reply};
 use crate::room::{
-    ANSWER_BYTES, ANSWER_NUMBERS, BLOCK_WORDS, DIGITS, NAMES_BYTES, NUMBER_WORDS, OUTPUT_WORDS,
+    ANSWER_BYTES, ANSWER_NUMBERS, BLOCK_WORDS, NAMES_BYTES, NUMBER_WORDS, OUTPUT_WORDS,
     REASON_WORDS, RECORD_PLACES, TEXT_BYTES,
 };
-use libc::STDOUT_FILENO;
+use itoa::Buffer;
 
 // Puts bytes as they are.
 fn put(text: &mut [u8; ANSWER_BYTES], at: usize, bytes: &[u8]) -> usize
@@ -29,13 +29,13 @@ fn number(text: &mut [u8; ANSWER_BYTES], at: usize, negative: bool, size: u64) -
     requires { at + number_bytes ≤ answer_bytes }
     ensures { result ≤ at + number_bytes }
 {
-    let mut digits = [0u8; DIGITS];
-    let k = io::decimal(size, &mut digits);
+    let mut buffer = Buffer::new();
+    let digits = buffer.format(size).as_bytes();
     text[at] = b' ';
     // Where the number has no sign, its first digit is put over this one.
     text[at + 1] = b'-';
     let first = if negative { at + 2 } else { at + 1 };
-    put(text, first, &digits[..k])
+    put(text, first, digits)
 }
 
 // A cast by a call asks for no proof that an element of an array fits.
@@ -206,15 +206,16 @@ fn words_after(
     }
 }
 
-// Writes the first bytes of the text.
-fn sent(text: &[u8], size: usize) -> bool
+// Writes the first bytes of the text, and answers whether they could be written.
+fn sent(rt: &impl Print, text: &[u8], size: usize) -> bool
     requires { size ≤ length text.now }
 {
-    io::write_all(STDOUT_FILENO, &text[0..size])
+    rt.write_all(&text[0..size]).is_ok()
 }
 
 // Puts `shown N L..` with its line feed, and writes it.
 pub(crate) fn write_shown(
+    rt: &impl Print,
     text: &mut [u8; ANSWER_BYTES],
     n: u32,
     values: &[i32],
@@ -226,11 +227,12 @@ pub(crate) fn write_shown(
     let from = number(text, named, false, n as u64);
     let end = words(text, from, values, count);
     let size = put(text, end, b"\n");
-    sent(text, size)
+    sent(rt, text, size)
 }
 
 // Puts an answer with its line feed, and writes it.
 pub(crate) fn write(
+    rt: &impl Print,
     text: &mut [u8; ANSWER_BYTES],
     reply: Reply,
     used: Counts,
@@ -255,5 +257,5 @@ pub(crate) fn write(
         text, from, after, used, block, literals, kinds, reasons, output, written, trues, opens,
     );
     let size = put(text, end, b"\n");
-    sent(text, size)
+    sent(rt, text, size)
 }

@@ -5,7 +5,7 @@ ghost use Rattle.console.specs.Room.{part_bytes};
 
 use crate::line::gather;
 use crate::room::{LINE_BYTES, PART_BYTES};
-use libc::STDIN_FILENO;
+use std::io::Read;
 
 // What of the part that was read last is still to be taken in, from one place up to another.
 #[derive(Clone, Copy)]
@@ -24,23 +24,33 @@ pub(crate) struct Taken {
     pub(crate) left: Left,
 }
 
-// Reads once, where nothing is left. Where nothing comes the input has ended, or can't be read.
-fn refill(part: &mut [u8; PART_BYTES], left: Left) -> Left
+// Reads once, and answers how many bytes came. Where nothing comes the input has ended, or can't be read.
+fn read(input: &mut impl Read, part: &mut [u8; PART_BYTES]) -> usize
+    ensures { result ≤ part_bytes }
+{
+    match input.read(part) {
+        Ok(size) => size,
+        Err(_) => 0,
+    }
+}
+
+// Reads where nothing is left.
+fn refill(input: &mut impl Read, part: &mut [u8; PART_BYTES], left: Left) -> Left
     requires { left.size ≤ part_bytes }
     ensures { result.size ≤ part_bytes }
 {
     if left.at < left.size {
         return left;
     }
-    let got = libc::read(STDIN_FILENO, part);
     Left {
         at: 0,
-        size: io::count(got, part),
+        size: read(input, part),
     }
 }
 
 // Takes in a line. The last one need not have its line feed.
 pub(crate) fn next_line(
+    input: &mut impl Read,
     part: &mut [u8; PART_BYTES],
     line: &mut [u8; LINE_BYTES],
     first: Left,
@@ -57,7 +67,7 @@ pub(crate) fn next_line(
     let mut turns = u64::MAX;
     while 0 < turns {
         turns -= 1;
-        let left = refill(part, taken.left);
+        let left = refill(input, part, taken.left);
         if left.size == 0 {
             return taken;
         }

@@ -28,9 +28,11 @@ use room::{
     ANSWER_BYTES, BLOCK_WORDS, INDEX_WORDS, LINE_BYTES, NUMBER_WORDS, OUTPUT_WORDS, PART_BYTES,
     PREFERRED_WORDS, REASON_WORDS, RECORD_PLACES, TEXT_BYTES,
 };
+use std::io::Read;
 
 // Answers a line.
 fn serve_line(
+    rt: &impl Print,
     bytes: &[u8],
     taken: Taken,
     desk: Desk,
@@ -60,7 +62,7 @@ fn serve_line(
         index,
     );
     let shown = witness::act(
-        asks, before, counts, block, literals, kinds, preferred, answer,
+        rt, asks, before, counts, block, literals, kinds, preferred, answer,
     );
     let first = act(
         asks, before, counts, line, block, literals, kinds, reasons, output, preferred, text,
@@ -69,7 +71,7 @@ fn serve_line(
         asks, first, counts, block, literals, kinds, reasons, preferred, trues, opens, index,
     );
     let written = answer::write(
-        answer, reply, counts, block, literals, kinds, reasons, output, text, trues, opens,
+        rt, answer, reply, counts, block, literals, kinds, reasons, output, text, trues, opens,
     );
     let session = reply.session;
     Desk {
@@ -81,6 +83,8 @@ fn serve_line(
 
 // A proved loop has to end, and nothing says that the input does. So the loop counts its turns down, from a number that no run uses up.
 fn serve(
+    rt: &impl Print,
+    input: &mut impl Read,
     part: &mut [u8; PART_BYTES],
     line: &mut [u8; LINE_BYTES],
     block: &mut [i32; BLOCK_WORDS],
@@ -100,9 +104,9 @@ fn serve(
     let mut turns = u64::MAX;
     while 0 < turns {
         turns -= 1;
-        let taken = next_line(part, line, left);
+        let taken = next_line(input, part, line, left);
         desk = serve_line(
-            line, taken, desk, block, literals, kinds, reasons, output, preferred, text, trues,
+            rt, line, taken, desk, block, literals, kinds, reasons, output, preferred, text, trues,
             opens, index, answer,
         );
         if !desk.on {
@@ -112,7 +116,8 @@ fn serve(
     }
 }
 
-fn main() {
+fn main(rt: HostRuntime) {
+    let mut input = rt.stdin();
     let mut part = [0; PART_BYTES];
     let mut line = [0; LINE_BYTES];
     let mut block = [0; BLOCK_WORDS];
@@ -127,6 +132,8 @@ fn main() {
     let mut index = [0; INDEX_WORDS];
     let mut answer = [0; ANSWER_BYTES];
     serve(
+        &rt,
+        &mut input,
         &mut part,
         &mut line,
         &mut block,

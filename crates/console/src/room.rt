@@ -33,9 +33,6 @@ pub(crate) const PART_BYTES: usize = LINE_BYTES / 4;
 // the 65,536 bytes of a text.
 pub(crate) const ANSWER_BYTES: usize = 1572864;
 
-// A number of 64 bits has at most so many digits.
-pub(crate) const DIGITS: usize = 20;
-
 // The numbers that stand in an answer before the words of a buffer: at most so many.
 pub(crate) const ANSWER_NUMBERS: usize = 6;
 

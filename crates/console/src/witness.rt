@@ -28,6 +28,7 @@ fn told(
 
 // `shown 0 L..`, or `shown N`; whether it could be written.
 fn answered(
+    rt: &impl Print,
     session: Session,
     counts: Counts,
     block: &[i32],
@@ -39,13 +40,14 @@ fn answered(
     requires { length values.old ≤ record_places }
 {
     match told(session, counts, block, literals, kinds, values) {
-        Told::Values(count) => write_shown(answer, 0, values, count),
-        Told::Refused(n) => write_shown(answer, n, values, 0),
+        Told::Values(count) => write_shown(rt, answer, 0, values, count),
+        Told::Refused(n) => write_shown(rt, answer, n, values, 0),
     }
 }
 
 // Answers the line if it asks for what is shown. There are as many words for the values as a record has places, which is room for every block's.
 pub(crate) fn act(
+    rt: &impl Print,
     command: Command,
     session: Session,
     counts: Counts,
@@ -59,6 +61,7 @@ pub(crate) fn act(
 {
     match command {
         Command::Shown => answered(
+            rt,
             session,
             counts,
             block,

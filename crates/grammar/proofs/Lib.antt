@@ -1,2 +1,4 @@
+-- What is proved for use in proofs.
 pub mod Laws
+-- what is read is what the grammar says
 pub mod Spelled

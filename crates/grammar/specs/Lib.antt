@@ -6,9 +6,7 @@ pub mod Grammar
 pub mod Machine
 pub mod Events
 pub mod Reads
--- what is read is what the grammar says
 -- a tree written as a text
 pub mod Written
 -- what each function promises, and that it leaves one answer
 pub mod Promises
--- what is proved for use in proofs

@@ -1,1 +1,2 @@
+-- What is proved for use in proofs.
 pub mod Laws

@@ -8,4 +8,3 @@ pub mod Byte
 pub mod Promises
 -- what functions say to each other
 pub mod Inner
--- what is proved for use in proofs

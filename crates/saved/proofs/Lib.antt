@@ -1,1 +1,2 @@
+-- What goes out comes back in.
 pub mod Back

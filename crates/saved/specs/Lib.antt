@@ -1,3 +1,3 @@
--- A reader's numbers; what each function promises; and that what goes out comes back in.
+-- A reader's numbers, and what each function promises.
 pub mod Numbers
 pub mod Promises

@@ -1,4 +1,6 @@
 // What the arguments ask for: `solve`, `plain`, `list` or `count`, known by the first letter; a budget; and, with any third word, progress.
+use std::env::{Env, FillError};
+
 #[derive(Clone, Copy)]
 pub(crate) enum Mode {
     Solve,
@@ -49,22 +51,32 @@ fn number_of(word: &[u8; WORD_BYTES], length: usize) -> u64 {
     number
 }
 
-fn mode_word() -> Mode {
+// Where there is no first word, its first letter is 0. Of a longer one than there is room for the first letter is there too.
+fn mode_word(rt: &impl Env) -> Mode {
     let mut word = [0; WORD_BYTES];
-    os::arg(1, &mut word);
+    let _ = rt.arg(1, &mut word);
     mode_of(&word)
 }
 
-fn budget() -> u64 {
+// A word that is missing, or longer than there is room for, is 0.
+fn budget(rt: &impl Env) -> u64 {
     let mut word = [0; WORD_BYTES];
-    let length = os::arg(2, &mut word);
-    number_of(&word, length)
+    match rt.arg(2, &mut word) {
+        Ok(length) => number_of(&word, length),
+        Err(_) => 0,
+    }
 }
 
-pub(crate) fn asked() -> Request {
+// Whether there is a third word, of any length.
+fn progress(rt: &impl Env) -> bool {
+    let mut word = [0; WORD_BYTES];
+    !matches!(rt.arg(3, &mut word), Err(FillError::NotPresent))
+}
+
+pub(crate) fn asked(rt: &impl Env) -> Request {
     Request {
-        mode: mode_word(),
-        budget: budget(),
-        progress: 3 < os::arg_count(),
+        mode: mode_word(rt),
+        budget: budget(rt),
+        progress: progress(rt),
     }
 }

@@ -1,9 +1,7 @@
 // A line of literals, byte by byte. Each function answers where the line goes on.
 use crate::room::LINE_BYTES;
-use libc::STDOUT_FILENO;
-
-// A number of 64 bits has at most so many digits.
-const DIGITS: usize = 20;
+use crate::said;
+use itoa::Buffer;
 
 // There is room for every line that is written here; a byte past it would be dropped.
 fn put(line: &mut [u8; LINE_BYTES], at: usize, byte: u8) -> usize {
@@ -14,15 +12,10 @@ fn put(line: &mut [u8; LINE_BYTES], at: usize, byte: u8) -> usize {
     at + 1
 }
 
-fn put_digits(
-    line: &mut [u8; LINE_BYTES],
-    from: usize,
-    digits: &[u8; DIGITS],
-    count: usize,
-) -> usize {
+fn put_digits(line: &mut [u8; LINE_BYTES], from: usize, digits: &[u8]) -> usize {
     let mut at = from;
     let mut i = 0;
-    while i < DIGITS && i < count {
+    while i < digits.len() {
         at = put(line, at, digits[i]);
         i += 1;
     }
@@ -31,9 +24,8 @@ fn put_digits(
 
 // A number and a space.
 fn put_number(line: &mut [u8; LINE_BYTES], at: usize, number: u64) -> usize {
-    let mut digits = [0; DIGITS];
-    let count = io::decimal(number, &mut digits);
-    let end = put_digits(line, at, &digits, count);
+    let mut buffer = Buffer::new();
+    let end = put_digits(line, at, buffer.format(number).as_bytes());
     put(line, end, b' ')
 }
 
@@ -49,15 +41,15 @@ pub(crate) fn put_literal(
 }
 
 // Writes the first bytes of a line.
-fn write(line: &[u8], size: usize) {
+fn write(rt: &impl Print, line: &[u8], size: usize) {
     if size <= line.len() {
-        io::write_all(STDOUT_FILENO, &line[0..size]);
+        said::put(rt, &line[0..size]);
     }
 }
 
 // Ends the line with 0, and writes it.
-pub(crate) fn send(line: &mut [u8; LINE_BYTES], at: usize) {
+pub(crate) fn send(rt: &impl Print, line: &mut [u8; LINE_BYTES], at: usize) {
     let zero = put(line, at, b'0');
     let end = put(line, zero, b'\n');
-    write(line, end);
+    write(rt, line, end);
 }

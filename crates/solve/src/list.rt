@@ -23,38 +23,46 @@ struct Listed {
 }
 
 // Writes the openings of a page.
-fn lines(block: &[i32], output: &[u32; OUTPUT_WORDS], entries: u32) {
+fn lines(rt: &impl Print, block: &[i32], output: &[u32; OUTPUT_WORDS], entries: u32) {
     let prefix = formula::prefix(block);
     let k = opening::group(prefix);
     let mut i = 0;
     while i < ENTRIES && i < entries as usize {
-        opening::write(prefix, k, output[2 * i]);
+        opening::write(rt, prefix, k, output[2 * i]);
         i += 1;
     }
 }
 
 // The last line: what all pages together have come to, and where they have paused.
-fn last(block: &[i32], count: u64, next: u32, paused: bool) {
+fn last(rt: &impl Print, block: &[i32], count: u64, next: u32, paused: bool) {
     if !paused {
-        said::all(count);
+        said::all(rt, count);
         return;
     }
     let prefix = formula::prefix(block);
-    said::paused(count, next);
-    opening::write(prefix, opening::group(prefix), next);
+    said::paused(rt, count, next);
+    opening::write(rt, prefix, opening::group(prefix), next);
 }
 
 // Only a page that is full leaves more to ask for.
-fn after(block: &[i32], old: u64, next: u32, entries: u32, paused: bool) -> Listed {
+fn after(
+    rt: &impl Print,
+    block: &[i32],
+    old: u64,
+    next: u32,
+    entries: u32,
+    paused: bool,
+) -> Listed {
     let count = std::num::wrapping_add_u64(old, entries as u64);
     let more = !paused && ENTRIES <= entries as usize;
     if !more {
-        last(block, count, next, paused);
+        last(rt, block, count, next, paused);
     }
     Listed { count, next, more }
 }
 
 fn page(
+    rt: &impl Print,
     block: &[i32],
     literals: &mut [i32; PLACES],
     kinds: &mut [u8; PLACES],
@@ -71,12 +79,12 @@ fn page(
             paused,
         } => {
             if shown {
-                lines(block, output, entries);
+                lines(rt, block, output, entries);
             }
-            after(block, from.count, next, entries, paused)
+            after(rt, block, from.count, next, entries, paused)
         }
         Paged::Refused(number) => {
-            said::refused(number);
+            said::refused(rt, number);
             Listed {
                 count: 0,
                 next: 0,
@@ -88,6 +96,7 @@ fn page(
 
 // The loop counts its turns down, from a number that no run uses up.
 fn pages(
+    rt: &(impl Print + Eprint),
     block: &[i32],
     literals: &mut [i32; PLACES],
     kinds: &mut [u8; PLACES],
@@ -104,16 +113,23 @@ fn pages(
     let mut turns = u64::MAX;
     while 0 < turns && listed.more {
         turns -= 1;
-        listed = page(block, literals, kinds, output, listed, budget, shown);
-        said::progress(listed.next as u64, progress);
+        listed = page(rt, block, literals, kinds, output, listed, budget, shown);
+        said::progress(rt, listed.next as u64, progress);
     }
 }
 
-pub(crate) fn winners(block: &[i32], budget: u64, shown: bool, progress: bool) {
+pub(crate) fn winners(
+    rt: &(impl Print + Eprint),
+    block: &[i32],
+    budget: u64,
+    shown: bool,
+    progress: bool,
+) {
     let mut literals = [0; PLACES];
     let mut kinds = [0; PLACES];
     let mut output = [0; OUTPUT_WORDS];
     pages(
+        rt,
         block,
         &mut literals,
         &mut kinds,

@@ -20,28 +20,29 @@ const MISFIT: u32 = 27;
 
 const ROW: u32 = 31;
 
-fn serve(asked: Request, block: &[i32]) {
+fn serve(rt: &(impl Print + Eprint), asked: Request, block: &[i32]) {
     let mode = asked.mode;
     match mode {
-        Mode::Solve => run::solve(block, asked.budget, asked.progress),
-        Mode::Plain => said::opinion(block, plain::solve(block)),
-        Mode::List => list::winners(block, asked.budget, true, asked.progress),
-        Mode::Count => list::winners(block, asked.budget, false, asked.progress),
-        Mode::Unknown => said::usage(),
+        Mode::Solve => run::solve(rt, block, asked.budget, asked.progress),
+        Mode::Plain => said::opinion(rt, block, plain::solve(block)),
+        Mode::List => list::winners(rt, block, asked.budget, true, asked.progress),
+        Mode::Count => list::winners(rt, block, asked.budget, false, asked.progress),
+        Mode::Unknown => said::usage(rt),
     }
 }
 
-fn answer(asked: Request, block: &[i32; BLOCK_WORDS], reading: Answer) {
+fn answer(rt: &(impl Print + Eprint), asked: Request, block: &[i32; BLOCK_WORDS], reading: Answer) {
     match reading {
-        Answer::Accepted(length) => serve(asked, words::take(block, length)),
-        Answer::Misfit(place) => said::refused_at(MISFIT, place),
-        Answer::Refused(number) => said::refused(number),
-        Answer::Row(row) => said::refused_at(ROW, row as u64),
+        Answer::Accepted(length) => serve(rt, asked, words::take(block, length)),
+        Answer::Misfit(place) => said::refused_at(rt, MISFIT, place),
+        Answer::Refused(number) => said::refused(rt, number),
+        Answer::Row(row) => said::refused_at(rt, ROW, row as u64),
     }
 }
 
-fn main() {
+fn main(rt: HostRuntime) {
+    let mut input = rt.stdin();
     let mut block = [0; BLOCK_WORDS];
-    let reading = intake::read(&mut block);
-    answer(ask::asked(), &block, reading);
+    let reading = intake::read(&mut input, &mut block);
+    answer(&rt, ask::asked(&rt), &block, reading);
 }

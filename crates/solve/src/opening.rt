@@ -50,7 +50,7 @@ pub(crate) fn group(prefix: &[i32]) -> usize
 }
 
 // Writes the literals of the opening n as a line.
-pub(crate) fn write(prefix: &[i32], k: usize, n: u32)
+pub(crate) fn write(rt: &impl Print, prefix: &[i32], k: usize, n: u32)
     requires { k ≤ max_group }
 {
     let mut line = [0; LINE_BYTES];
@@ -61,5 +61,5 @@ pub(crate) fn write(prefix: &[i32], k: usize, n: u32)
         at = line::put_literal(&mut line, at, literal.negative, literal.variable);
         i += 1;
     }
-    line::send(&mut line, at);
+    line::send(rt, &mut line, at);
 }

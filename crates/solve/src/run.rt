@@ -76,12 +76,13 @@ fn goes_on(reached: Reached) -> bool {
 }
 
 // The steps made are the revision, as it began at 0.
-fn tell(reached: Reached, progress: bool) {
+fn tell(rt: &impl Eprint, reached: Reached, progress: bool) {
     let revision = reached.session.revision;
-    said::progress(revision.0, progress);
+    said::progress(rt, revision.0, progress);
 }
 
 fn slices(
+    rt: &impl Eprint,
     first: Session,
     block: &[i32],
     literals: &mut [i32; PLACES],
@@ -107,7 +108,7 @@ fn slices(
         if !goes_on(reached) {
             return reached;
         }
-        tell(reached, progress);
+        tell(rt, reached, progress);
         left -= steps as u64;
     }
     reached
@@ -115,6 +116,7 @@ fn slices(
 
 // From an open session on. The numbers of a counted run are no one else's.
 fn decided(
+    rt: &impl Eprint,
     first: Session,
     block: &[i32],
     literals: &mut [i32; PLACES],
@@ -127,25 +129,31 @@ fn decided(
     let mut opens = [0; CLAUSES];
     let mut index = [0; INDEX_WORDS];
     slices(
-        first, block, literals, kinds, reasons, &mut trues, &mut opens, &mut index, budget,
+        rt, first, block, literals, kinds, reasons, &mut trues, &mut opens, &mut index, budget,
         progress,
     )
 }
 
 // The verdict, as far as the slices have come, and what the record shows.
-fn answered(block: &[i32], reached: Reached, literals: &[i32; PLACES], kinds: &[u8; PLACES]) {
+fn answered(
+    rt: &impl Print,
+    block: &[i32],
+    reached: Reached,
+    literals: &[i32; PLACES],
+    kinds: &[u8; PLACES],
+) {
     let session = reached.session;
     let state = session.state;
     if reached.refused == 0 {
-        said::verdict(block, state);
-        witness::write(session, block, literals, kinds);
+        said::verdict(rt, block, state);
+        witness::write(rt, session, block, literals, kinds);
     } else {
-        said::refused(reached.refused);
+        said::refused(rt, reached.refused);
     }
 }
 
 // The record is lent from here, for the verdict and the witness.
-pub(crate) fn solve(block: &[i32], budget: u64, progress: bool) {
+pub(crate) fn solve(rt: &(impl Print + Eprint), block: &[i32], budget: u64, progress: bool) {
     let mut literals = [0; PLACES];
     let mut kinds = [0; PLACES];
     let mut reasons = [0; PLACES];
@@ -153,6 +161,7 @@ pub(crate) fn solve(block: &[i32], budget: u64, progress: bool) {
     match opened {
         Answer::To(first) => {
             let reached = decided(
+                rt,
                 first,
                 block,
                 &mut literals,
@@ -161,8 +170,8 @@ pub(crate) fn solve(block: &[i32], budget: u64, progress: bool) {
                 budget,
                 progress,
             );
-            answered(block, reached, &literals, &kinds);
+            answered(rt, block, reached, &literals, &kinds);
         }
-        Answer::Refused(number) => said::refused(number),
+        Answer::Refused(number) => said::refused(rt, number),
     }
 }

@@ -1,89 +1,94 @@
 // The lines of an answer.
-use libc::{STDERR_FILENO, STDOUT_FILENO};
 use plain::Opinion;
 use record::State;
 
-// ` N`
-fn number(n: u64) {
-    io::write_all(STDOUT_FILENO, b" ");
-    io::print_decimal(STDOUT_FILENO, n);
+// Writes bytes on standard output. What can't be written is left out, and the program goes on.
+pub(crate) fn put(rt: &impl Print, bytes: &[u8]) {
+    let _ = rt.write_all(bytes);
 }
 
-fn ended() {
-    io::write_all(STDOUT_FILENO, b"\n");
+// Writes a number there.
+fn put_number(rt: &impl Print, n: u64) {
+    let _ = rt.print(n);
+}
+
+// ` N`
+fn number(rt: &impl Print, n: u64) {
+    put(rt, b" ");
+    put_number(rt, n);
+}
+
+fn ended(rt: &impl Print) {
+    put(rt, b"\n");
 }
 
 // `s cnf 1 V C` for true, `s cnf 0 V C` for false, `s cnf -1 V C` where the budget is used.
-pub(crate) fn verdict(block: &[i32], state: State) {
+pub(crate) fn verdict(rt: &impl Print, block: &[i32], state: State) {
     match state {
-        State::Valid => io::write_all(STDOUT_FILENO, b"s cnf 1"),
-        State::Unsat => io::write_all(STDOUT_FILENO, b"s cnf 0"),
-        State::Open => io::write_all(STDOUT_FILENO, b"s cnf -1"),
+        State::Valid => put(rt, b"s cnf 1"),
+        State::Unsat => put(rt, b"s cnf 0"),
+        State::Open => put(rt, b"s cnf -1"),
     };
-    number(words::size_at(block, 0) as u64);
-    number(words::size_at(block, 1) as u64);
-    ended();
+    number(rt, words::size_at(block, 0) as u64);
+    number(rt, words::size_at(block, 1) as u64);
+    ended(rt);
 }
 
 // `V LITERAL 0`
-pub(crate) fn value(negative: bool, variable: usize) {
-    io::write_all(STDOUT_FILENO, b"V ");
+pub(crate) fn value(rt: &impl Print, negative: bool, variable: usize) {
+    put(rt, b"V ");
     if negative {
-        io::write_all(STDOUT_FILENO, b"-");
+        put(rt, b"-");
     }
-    io::print_decimal(STDOUT_FILENO, variable as u64);
-    io::write_all(STDOUT_FILENO, b" 0\n");
+    put_number(rt, variable as u64);
+    put(rt, b" 0\n");
 }
 
-pub(crate) fn opinion(block: &[i32], opinion: Opinion) {
+pub(crate) fn opinion(rt: &impl Print, block: &[i32], opinion: Opinion) {
     match opinion {
-        Opinion::Valid => verdict(block, State::Valid),
-        Opinion::Unsat => verdict(block, State::Unsat),
-        Opinion::Refused(row) => refused(row),
+        Opinion::Valid => verdict(rt, block, State::Valid),
+        Opinion::Unsat => verdict(rt, block, State::Unsat),
+        Opinion::Refused(row) => refused(rt, row),
     }
 }
 
 // `refused N`
-pub(crate) fn refused(row: u32) {
-    io::write_all(STDOUT_FILENO, b"refused");
-    number(row as u64);
-    ended();
+pub(crate) fn refused(rt: &impl Print, row: u32) {
+    put(rt, b"refused");
+    number(rt, row as u64);
+    ended(rt);
 }
 
 // `refused 27 PLACE`, `refused 31 ROW`
-pub(crate) fn refused_at(row: u32, place: u64) {
-    io::write_all(STDOUT_FILENO, b"refused");
-    number(row as u64);
-    number(place);
-    ended();
+pub(crate) fn refused_at(rt: &impl Print, row: u32, place: u64) {
+    put(rt, b"refused");
+    number(rt, row as u64);
+    number(rt, place);
+    ended(rt);
 }
 
 // `all COUNT`
-pub(crate) fn all(count: u64) {
-    io::write_all(STDOUT_FILENO, b"all");
-    number(count);
-    ended();
+pub(crate) fn all(rt: &impl Print, count: u64) {
+    put(rt, b"all");
+    number(rt, count);
+    ended(rt);
 }
 
 // `paused COUNT OPENING `: the opening's literals end the line.
-pub(crate) fn paused(count: u64, opening: u32) {
-    io::write_all(STDOUT_FILENO, b"paused");
-    number(count);
-    number(opening as u64);
-    io::write_all(STDOUT_FILENO, b" ");
+pub(crate) fn paused(rt: &impl Print, count: u64, opening: u32) {
+    put(rt, b"paused");
+    number(rt, count);
+    number(rt, opening as u64);
+    put(rt, b" ");
 }
 
-pub(crate) fn usage() {
-    io::write_all(
-        STDOUT_FILENO,
-        b"usage: solve|plain|list|count BUDGET [progress]\n",
-    );
+pub(crate) fn usage(rt: &impl Print) {
+    put(rt, b"usage: solve|plain|list|count BUDGET [progress]\n");
 }
 
 // How far it is, on standard error, if that was asked for.
-pub(crate) fn progress(n: u64, asked: bool) {
+pub(crate) fn progress(rt: &impl Eprint, n: u64, asked: bool) {
     if asked {
-        io::print_decimal(STDERR_FILENO, n);
-        io::write_all(STDERR_FILENO, b"\n");
+        let _ = rt.eprintln(n);
     }
 }

@@ -4,16 +4,17 @@ use crate::said;
 use session::Session;
 use shown::Told;
 
-fn lines(values: &[i32; PLACES], count: usize) {
+fn lines(rt: &impl Print, values: &[i32; PLACES], count: usize) {
     let mut i = 0;
     while i < PLACES && i < count {
-        said::value(words::negative_at(values, i), words::size_at(values, i));
+        said::value(rt, words::negative_at(values, i), words::size_at(values, i));
         i += 1;
     }
 }
 
 // Where there is nothing to show, no line is written.
 pub(crate) fn write(
+    rt: &impl Print,
     session: Session,
     block: &[i32],
     literals: &[i32; PLACES],
@@ -22,7 +23,7 @@ pub(crate) fn write(
     let mut values = [0; PLACES];
     let told = shown::shown(session, block, literals, kinds, &mut values);
     match told {
-        Told::Values(count) => lines(&values, count),
+        Told::Values(count) => lines(rt, &values, count),
         Told::Refused(_) => {}
     }
 }

@@ -4,9 +4,7 @@
 pub mod Tree
 -- the reader in pieces
 pub mod Pieces
--- an accepted text: its block, and its meaning
 -- what each public function promises, and that it leaves one answer
 pub mod Promises
 -- what functions say to each other
 pub mod Inner
--- what is proved for use in proofs

@@ -1,3 +1,2 @@
 // Definitions and proofs only: see specs/.
 #![tactic(auto)]
-

@@ -1,5 +1,5 @@
--- A block written as a text: the text, its refusals, that it is read back, and cases.
+-- A block written as a text: the text, its refusals, and what the one public function promises.
 pub mod Write
 pub mod Promises
--- what functions say to each other; what is proved for use in proofs
+-- what functions say to each other
 pub mod Inner

@@ -6,8 +6,8 @@ use Rattle.mokihazureo.proofs.moki_open.Statement.{statement}
 use Rattle.mokihazureo.proofs.moki_open.Tie as tie
 
 returns : tie.Need-returns
-returns c = let o = c.before.before.before.before.before.before.before in tells opened_status opened_numbers _ o.open.ensures c.opened.ensures
+returns c = let o = c.before.before.before.before.before.before.before in tells opened_status opened_numbers _ o.open-outcome.ensures c.opened.ensures
 
-pub moki-open-spec : {M : Type 1} → statement M
-moki-open-spec =
+pub moki_open_spec : {M : Type 1} → statement M
+moki_open_spec =
     tie.close (tie.spec (λ c κs. search rules) (λ c κs. search rules) (λ c. search rules) (λ c. search rules) (λ c. search rules) returns)

@@ -6,7 +6,7 @@ use Rattle.mokihazureo.proofs.moki_read.Statement.{statement}
 use Rattle.mokihazureo.proofs.moki_read.Tie as tie
 
 returns : tie.Need-returns
-returns c = tells read_status read_numbers _ c.before.before.before.read.ensures c.told.ensures
+returns c = tells read_status read_numbers _ c.before.before.before.read-outcome.ensures c.told.ensures
 
-pub moki-read-spec : {M : Type 1} → statement M
-moki-read-spec = tie.close (tie.spec (λ c κs. search rules) (λ c κs. search rules) (λ c. search rules) returns)
+pub moki_read_spec : {M : Type 1} → statement M
+moki_read_spec = tie.close (tie.spec (λ c κs. search rules) (λ c κs. search rules) (λ c. search rules) returns)

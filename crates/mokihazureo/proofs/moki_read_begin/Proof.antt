@@ -7,7 +7,7 @@ use Rattle.mokihazureo.proofs.moki_read_begin.Statement.{statement}
 use Rattle.mokihazureo.proofs.moki_read_begin.Tie as tie
 
 returns : tie.Need-returns
-returns c = let b = c.before.before in c.write-reader.ensures ∙ ap (λ (r : Reader). written r b.before.args.state.now) b.begin.ensures
+returns c = let b = c.before.before in c.write_reader.ensures ∙ ap (λ (r : Reader). written r b.before.args.state.now) b.begin.ensures
 
-pub moki-read-begin-spec : {M : Type 1} → statement M
-moki-read-begin-spec = tie.close (tie.spec (λ c κs. search rules) (λ c κs. search rules) returns)
+pub moki_read_begin_spec : {M : Type 1} → statement M
+moki_read_begin_spec = tie.close (tie.spec (λ c κs. search rules) (λ c κs. search rules) returns)

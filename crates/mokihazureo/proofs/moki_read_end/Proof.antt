@@ -8,7 +8,7 @@ use Rattle.mokihazureo.proofs.moki_read_end.Tie as tie
 returns : tie.Need-returns
 returns c =
     let e = c.before.before.before in
-    tells read_status read_numbers _ (end_of_lem _ e.before.before.reader-of.ensures _ e.end.ensures) c.told.ensures
+    tells read_status read_numbers _ (end_of_lem _ e.before.before.reader_of-before.ensures _ e.end-outcome.ensures) c.told.ensures
 
-pub moki-read-end-spec : {M : Type 1} → statement M
-moki-read-end-spec = tie.close (tie.spec (λ c κs. search rules) (λ c κs. search rules) (λ c κs. search rules) (λ c. search rules) returns)
+pub moki_read_end_spec : {M : Type 1} → statement M
+moki_read_end_spec = tie.close (tie.spec (λ c κs. search rules) (λ c κs. search rules) (λ c κs. search rules) (λ c. search rules) returns)

@@ -7,7 +7,7 @@ use Rattle.mokihazureo.proofs.moki_read_piece.Tie as tie
 returns : tie.Need-returns
 returns c =
     let p = c.before.before.before in
-    pieced _ p.before.before.reader-of.ensures _ _ p.piece.ensures c.write-reader.ensures
+    pieced _ p.before.before.reader_of-before.ensures _ _ p.piece-after.ensures c.write_reader.ensures
 
-pub moki-read-piece-spec : {M : Type 1} → statement M
-moki-read-piece-spec = tie.close (tie.spec (λ c κs. search rules) (λ c κs. search rules) (λ c κs. search rules) (λ c. search rules) returns)
+pub moki_read_piece_spec : {M : Type 1} → statement M
+moki_read_piece_spec = tie.close (tie.spec (λ c κs. search rules) (λ c κs. search rules) (λ c κs. search rules) (λ c. search rules) returns)

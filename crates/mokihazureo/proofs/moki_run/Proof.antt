@@ -9,9 +9,9 @@ returns : tie.Need-returns
 returns c =
     let o = c.before.before.before.before.before.before.before in
     let s = o.before.before.before.before in
-    tells ran_status ran_numbers _ (run_of_lem s.session-of.ensures _ _ _ _ _ o.run.ensures) c.ran.ensures
+    tells ran_status ran_numbers _ (run_of_lem s.session_of-before.ensures _ _ _ _ _ o.run-outcome.ensures) c.ran.ensures
 
-pub moki-run-spec : {M : Type 1} → statement M
-moki-run-spec =
+pub moki_run_spec : {M : Type 1} → statement M
+moki_run_spec =
     tie.close
     (tie.spec (λ c κs. search rules) (λ c κs. search rules) (λ c κs. search rules) (λ c. search rules) (λ c. search rules) (λ c. search rules) returns)

@@ -9,7 +9,7 @@ returns : tie.Need-returns
 returns c =
     let o = c.before.before.before in
     let s = o.before.before in
-    tells showed_status showed_numbers _ (shown_of_lem s.session-of.ensures _ _ _ o.shown.ensures) c.showed.ensures
+    tells showed_status showed_numbers _ (shown_of_lem s.session_of-before.ensures _ _ _ o.shown-outcome.ensures) c.showed.ensures
 
-pub moki-shown-spec : {M : Type 1} → statement M
-moki-shown-spec = tie.close (tie.spec (λ c κs. search rules) (λ c κs. search rules) (λ c κs. search rules) (λ c. search rules) returns)
+pub moki_shown_spec : {M : Type 1} → statement M
+moki_shown_spec = tie.close (tie.spec (λ c κs. search rules) (λ c κs. search rules) (λ c κs. search rules) (λ c. search rules) returns)

@@ -13,10 +13,10 @@ returns c =
     let s = o.before.before.before.before in
     let start = s.before.before.before in
     let kept = to_z-of_z w32 start.args.proposal start.ranges.proposal in
-    tells stepped_status stepped_numbers _ (step_of s.session-of.ensures _ _ _ kept o.step.ensures) c.stepped.ensures
+    tells stepped_status stepped_numbers _ (step_of s.session_of-before.ensures _ _ _ kept o.step-outcome.ensures) c.stepped.ensures
 
-pub moki-step-spec : {M : Type 1} → statement M
-moki-step-spec =
+pub moki_step_spec : {M : Type 1} → statement M
+moki_step_spec =
     tie.close
     (tie.spec
     (λ c κs. search rules)

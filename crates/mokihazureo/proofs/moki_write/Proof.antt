@@ -6,7 +6,7 @@ use Rattle.mokihazureo.proofs.moki_write.Statement.{statement}
 use Rattle.mokihazureo.proofs.moki_write.Tie as tie
 
 returns : tie.Need-returns
-returns c = tells wrote_status wrote_numbers _ c.before.before.before.before.write.ensures c.wrote.ensures
+returns c = tells wrote_status wrote_numbers _ c.before.before.before.before.write-outcome.ensures c.wrote.ensures
 
-pub moki-write-spec : {M : Type 1} → statement M
-moki-write-spec = tie.close (tie.spec (λ c κs. search rules) (λ c κs. search rules) (λ c. search rules) returns)
+pub moki_write_spec : {M : Type 1} → statement M
+moki_write_spec = tie.close (tie.spec (λ c κs. search rules) (λ c κs. search rules) (λ c. search rules) returns)

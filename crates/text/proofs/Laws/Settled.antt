@@ -5,7 +5,7 @@ use Rattle.std.proofs.Math.Path.{ap}
 use Prim.Native.Nat.{ℕ, zero, suc, ◌+◌, ◌≤◌, ◌<◌, min}
 use Rattle.std.proofs.Math.Decide.{dec_le}
 use native.Mathlib.Omega.{arith}
-use Rattle.std.proofs.Math.ListN.{length, take}
+use Rattle.std.proofs.Math.ListN.{length, take, set}
 use Rattle.std.proofs.lemmas.List.{length-map}
 use Rattle.std.proofs.Math.Seq.{sets, length-sets, take-length}
 use Rattle.words.specs.Laws.Bools.{look, or_fl, or_fr}
@@ -27,7 +27,7 @@ use Rattle.reader.specs.Keep.{is_forall, capped}
 use Rattle.text.specs.Tree.{words_of, numbers_of, literals_of, ends_of, some_beyond, count_rows, text_refusal, block_of, tree_rows, row_of, zeros, text_of}
 use Rattle.text.specs.Pieces.{kept_words, kept_ends, kept_literals, kept_block, kept_row, settled}
 use Rattle.laid.specs.Laws.Stores.{drop_take, take_run, drop_run}
-use Rattle.text.proofs.Laws.Kept.{large, strange, put, length_put, put_clauses, tree_kept, tree_output}
+use Rattle.text.proofs.Laws.Kept.{large, strange, stored_is, put, length_put, put_clauses, tree_kept, tree_output}
 use Rattle.reader.proofs.Laws.Capped.{cap_is}
 use Rattle.text.proofs.Laws.Laid.{cap_small, words_stored, first_words, clauses_put}
 use Rattle.text.proofs.Laws.Block.{ends_length, tree_rows_lem}
@@ -210,7 +210,8 @@ module _ (L : Limits) (hidden : Hidden L) (t : Text) (o : List ℤ) (f : Fit L t
 clauses_length : (literals first : ℕ) (o : List ℤ) (n t : ℕ) (cs : List (List ℤ)) → length (put_clauses literals first o n t cs) ≡ length o
 unfolding put_clauses
 clauses_length literals first o n t [] = refl
-clauses_length literals first o n t (x ∷ cs) = clauses_length literals first _ (suc n) (t + length x) cs ∙ simp length-set (length_put literals o t _)
+clauses_length literals first o n t (x ∷ cs) =
+    clauses_length literals first (set (put literals o t (map stored_is x)) (first + capped n) (stored_is (pos (capped (t + length x))))) (suc n) (t + length x) cs ∙ simp length-set (length_put literals o t _)
 
 output_length : (t : Text) (o : List ℤ) → length (tree_output t o) ≡ length o
 unfolding tree_output

@@ -9,30 +9,30 @@ use Rattle.writer.proofs.write.Statement.{statement}
 use Rattle.writer.proofs.write.Tie as tie
 
 -- on the way on, the block is accepted
-passes : (c : tie.After-enum-told) → let s = c.before.before.before.before in refusal limits s.args.block.now ≡ 0
-passes c = checked_accepted _ (sym c.before.before.check.ensures ∙ c.enum_told.given.1)
+passes : (c : tie.In-Accepted) → let s = c.before.before.before in refusal limits s.args.block.now ≡ 0
+passes c = checked_accepted _ (sym c.before.check.ensures ∙ c.in-Accepted.is)
 
-text-requires : tie.Need-text-requires
+text-requires : tie.Need-text-length-requires
 text-requires c κs = passes c.before
 
-returns : tie.Need-returns
+returns : tie.Need-returns-then-output-length
 returns c =
     let t = c.before.before in
     let k = t.before.before in
-    write_short _ _ (passes k) _ t.text.ensures c.if1.true
+    write_short _ _ (passes k) _ t.text-length.ensures c.if-output-length.true
 
-text-requires-2 : tie.Need-text-requires-2
+text-requires-2 : tie.Need-text-requires
 text-requires-2 c κs = passes c.before.before.before.before.before
 
-returns-2 : tie.Need-returns-2
-returns-2 c = write_refused _ _ (sym c.before.before.before.check.ensures ∙ c.before.row.given.1)
+returns-2 : tie.Need-returns-in-Refused
+returns-2 c = write_refused _ _ (sym c.before.check.ensures ∙ c.in-Refused.is)
 
-returns-3 : tie.Need-returns-3
+returns-3 : tie.Need-returns-else-output-length
 returns-3 c =
     let q = c.before.before in
     let i = q.before.before in
     let t = i.before.before in
-    write_fits _ _ (passes t.before.before) _ t.text.ensures i.if1.false q.text2.ensures
+    write_fits _ _ (passes t.before.before) _ t.text-length.ensures i.if-output-length.false q.text.ensures
 
 pub write_spec : {M : Type 1} → statement M
 write_spec =

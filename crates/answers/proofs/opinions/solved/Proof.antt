@@ -4,17 +4,17 @@ use borrow.Author.Rules.{rules}
 use Rattle.answers.proofs.opinions.solved.Statement.{statement}
 use Rattle.answers.proofs.opinions.solved.Tie as tie
 
-returns : tie.Need-returns
-returns c = rw c.enum_told.given.1 refl
+returns : tie.Need-returns-in-Valid
+returns c = rw c.before.in-Valid.is refl
 
-returns-2 : tie.Need-returns-2
-returns-2 c = rw c.enum-told2.given.1 refl
+returns-2 : tie.Need-returns-in-Unsat
+returns-2 c = rw c.before.in-Unsat.is refl
 
-returns-3 : tie.Need-returns-3
-returns-3 c = rw c.before.outcome.given.1 refl
+returns-3 : tie.Need-returns-in-Refused
+returns-3 c = rw c.in-Refused.is refl
 
-pub solved-spec : {M : Type 1} → statement M
-solved-spec =
+pub solved_spec : {M : Type 1} → statement M
+solved_spec =
     tie.close
     (tie.spec
     (λ c. search rules)

@@ -5,14 +5,14 @@ use borrow.Author.Rules.{rules}
 use Rattle.answers.proofs.pages.paged.Statement.{statement}
 use Rattle.answers.proofs.pages.paged.Tie as tie
 
-returns : tie.Need-returns
-returns c = rw (c.before.outcome.given.1, bit) refl
+returns : tie.Need-returns-in-Page
+returns c = rw (c.before.in-Page.is, bit) refl
 
-returns-2 : tie.Need-returns-2
-returns-2 c = rw c.before.outcome2.given.1 refl
+returns-2 : tie.Need-returns-in-Refused
+returns-2 c = rw c.in-Refused.is refl
 
-pub paged-spec : {M : Type 1} → statement M
-paged-spec =
+pub paged_spec : {M : Type 1} → statement M
+paged_spec =
     tie.close
     (tie.spec
     (λ c. search rules)

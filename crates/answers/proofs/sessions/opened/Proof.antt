@@ -4,14 +4,14 @@ use borrow.Author.Rules.{rules}
 use Rattle.answers.proofs.sessions.opened.Statement.{statement}
 use Rattle.answers.proofs.sessions.opened.Tie as tie
 
-returns : tie.Need-returns
-returns c = rw (c.before.before.outcome.given.1, c.number_of.ensures) refl
+returns : tie.Need-returns-in-To
+returns c = rw (c.before.before.in-To.is, c.number_of.ensures) refl
 
-returns-2 : tie.Need-returns-2
-returns-2 c = rw c.before.outcome2.given.1 refl
+returns-2 : tie.Need-returns-in-Refused
+returns-2 c = rw c.in-Refused.is refl
 
-pub opened-spec : {M : Type 1} → statement M
-opened-spec =
+pub opened_spec : {M : Type 1} → statement M
+opened_spec =
     tie.close
     (tie.spec
     (λ c. search rules)

@@ -4,14 +4,14 @@ use borrow.Author.Rules.{rules}
 use Rattle.answers.proofs.sessions.ran.Statement.{statement}
 use Rattle.answers.proofs.sessions.ran.Tie as tie
 
-returns : tie.Need-returns
-returns c = rw (c.before.before.outcome.given.1, c.number_of.ensures) refl
+returns : tie.Need-returns-in-Until
+returns c = rw (c.before.before.in-Until.is, c.number_of.ensures) refl
 
-returns-2 : tie.Need-returns-2
-returns-2 c = rw c.before.outcome2.given.1 refl
+returns-2 : tie.Need-returns-in-Stopped
+returns-2 c = rw c.in-Stopped.is refl
 
-pub ran-spec : {M : Type 1} → statement M
-ran-spec =
+pub ran_spec : {M : Type 1} → statement M
+ran_spec =
     tie.close
     (tie.spec
     (λ c. search rules)

@@ -4,7 +4,7 @@ use Rattle.answers.proofs.sessions.session_of.Statement.{statement}
 use Rattle.answers.proofs.sessions.session_of.Tie as tie
 
 returns : tie.Need-returns
-returns c = rw c.state-of.ensures
+returns c = rw c.state_of.ensures
 
-pub session-of-spec : {M : Type 1} → statement M
-session-of-spec = tie.close (tie.spec (λ c κs. search rules) returns)
+pub session_of_spec : {M : Type 1} → statement M
+session_of_spec = tie.close (tie.spec (λ c κs. search rules) returns)

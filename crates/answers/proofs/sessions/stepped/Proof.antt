@@ -4,14 +4,14 @@ use borrow.Author.Rules.{rules}
 use Rattle.answers.proofs.sessions.stepped.Statement.{statement}
 use Rattle.answers.proofs.sessions.stepped.Tie as tie
 
-returns : tie.Need-returns
-returns c = rw (c.before.before.outcome.given.1, c.number_of.ensures) refl
+returns : tie.Need-returns-in-Next
+returns c = rw (c.before.before.in-Next.is, c.number_of.ensures) refl
 
-returns-2 : tie.Need-returns-2
-returns-2 c = rw c.before.outcome2.given.1 refl
+returns-2 : tie.Need-returns-in-Not
+returns-2 c = rw c.in-Not.is refl
 
-pub stepped-spec : {M : Type 1} → statement M
-stepped-spec =
+pub stepped_spec : {M : Type 1} → statement M
+stepped_spec =
     tie.close
     (tie.spec
     (λ c. search rules)

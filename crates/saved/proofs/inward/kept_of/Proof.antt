@@ -15,10 +15,10 @@ returns c =
     let k₂ = b₁.before.before in
     let k₁ = k₂.before.before in
     rw
-    (k₁.cap.ensures, k₂.cap2.ensures, b₁.bit-of.ensures, k₃.cap3.ensures, k₄.cap4.ensures, k₅.cap5.ensures, b₂.bit-of2.ensures, c.bit-of3.ensures)
+    (k₁.cap.ensures, k₂.cap-2.ensures, b₁.bit_of.ensures, k₃.cap-3.ensures, k₄.cap-4.ensures, k₅.cap-5.ensures, b₂.bit_of-2.ensures, c.bit_of-3.ensures)
 
-pub kept-of-spec : {M : Type 1} → statement M
-kept-of-spec =
+pub kept_of_spec : {M : Type 1} → statement M
+kept_of_spec =
     tie.close
     (tie.spec
     (λ c. search rules)

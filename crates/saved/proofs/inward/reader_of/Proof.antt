@@ -6,10 +6,10 @@ use Rattle.saved.proofs.inward.reader_of.Tie as tie
 
 returns : tie.Need-returns
 unfolding reader_of
-returns c = let k = c.before.before in let s = k.before.before in rw (s.state-of.ensures, k.cap.ensures, c.kept_of.ensures)
+returns c = let k = c.before.before in let s = k.before.before in rw (s.state_of.ensures, k.cap.ensures, c.kept_of.ensures)
 
-pub reader-of-spec : {M : Type 1} → statement M
-reader-of-spec =
+pub reader_of_spec : {M : Type 1} → statement M
+reader_of_spec =
     tie.close
     (tie.spec
     (λ c. search rules)

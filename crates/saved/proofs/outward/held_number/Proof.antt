@@ -4,11 +4,11 @@ use Rattle.saved.proofs.Back.{bit}
 use Rattle.saved.proofs.outward.held_number.Statement.{statement}
 use Rattle.saved.proofs.outward.held_number.Tie as tie
 
-returns : tie.Need-returns
-returns c = rw (c.before.state.given.1, bit)
+returns : tie.Need-returns-in-Fresh
+returns c = rw (c.in-Fresh.is, bit)
 
-pub held-number-spec : {M : Type 1} → statement M
-held-number-spec =
+pub held_number_spec : {M : Type 1} → statement M
+held_number_spec =
     tie.close
     (tie.spec
     (λ c. search rules)

@@ -6,11 +6,11 @@ use Rattle.saved.proofs.outward.write_kept.Tie as tie
 
 returns : tie.Need-returns
 returns c =
-    let k = c.before.before.before.before.before.before.before.before.args.kept in
+    let k = c.args.kept in
     rw (bit k.universal, bit k.large, bit k.over)
 
-pub write-kept-spec : {M : Type 1} → statement M
-write-kept-spec =
+pub write_kept_spec : {M : Type 1} → statement M
+write_kept_spec =
     tie.close
     (tie.spec
     (λ c. search rules)

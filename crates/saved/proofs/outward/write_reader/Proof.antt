@@ -4,12 +4,10 @@ use Rattle.saved.proofs.outward.write_reader.Statement.{statement}
 use Rattle.saved.proofs.outward.write_reader.Tie as tie
 
 returns : tie.Need-returns
-returns c =
-    let h = c.before.before.before in
-    rw (c.write-Kept.ensures, h.held_number.ensures, h.before.kind-number.ensures)
+returns c = rw (c.write_kept.ensures, c.held_number.ensures, c.kind_number.ensures)
 
-pub write-reader-spec : {M : Type 1} → statement M
-write-reader-spec =
+pub write_reader_spec : {M : Type 1} → statement M
+write_reader_spec =
     tie.close
     (tie.spec
     (λ c κs. search rules)

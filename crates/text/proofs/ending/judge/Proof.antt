@@ -9,8 +9,8 @@ use Rattle.text.proofs.ending.judge.Statement.{statement}
 use Rattle.text.proofs.ending.judge.Tie as tie
 
 -- the part that is checked
-part : (c : tie.After-check) → let s = c.before.before.before in take (s.args.n - 0) s.args.output.now ≡ take s.args.n s.args.output.now
-part c = let n = c.before.before.before.args.n in let e : n - 0 ≡ n = omega arith in rw e
+part : (c : tie.After-check) → let s = c.before.before in take (s.args.n - 0) s.args.output.now ≡ take s.args.n s.args.output.now
+part c = let n = c.before.before.args.n in let e : n - 0 ≡ n = omega arith in rw e
 
 returns : tie.Need-returns-in-Accepted
 returns c =

@@ -4,7 +4,7 @@ use mathlib.Core.List.{List}
 use Prim.Native.Nat.{ℕ, ◌+◌, min}
 use native.Mathlib.Omega.{arith}
 use lib.IntN.{ℤ}
-use lib.ListN.{length, take, drop}
+use lib.ListN.{length, take}
 use Rattle.words.specs.Rows.{refusal_of}
 use Rattle.formula.specs.Limits.{limits}
 use Rattle.formula.specs.Laws.Limits.{variables_are, clauses_are, literals_are}
@@ -27,14 +27,14 @@ passes c = sym c.before.count_row-refused.ensures ∙ c.if-refused-ne0.false
 
 -- the bound words, and their row
 abbrev else1 : tie.After-take → tie.Else-refused-ne0
-else1 c = c.before.before.before.before.before.before.before.before
+else1 c = c.before.before.before.before.before.before.before
 
 abbrev start : tie.After-take → tie.Start
 start c = (else1 c).before.before
 
 words-here : (c : tie.After-take) → c.take.result.now ≡ kept_words (start c).args.kept (start c).args.output.now
 unfolding kept_words
-words-here c = c.take.ensures ∙ ap₂ (λ (n : ℕ) (l : List ℤ). take n l) c.before.before.before.least.ensures c.before.drop.ensures
+words-here c = c.take.ensures ∙ ap₂ (λ (n : ℕ) (l : List ℤ). take n l) c.before.before.least-bound.ensures c.before.drop.ensures
 
 bound-row-requires : tie.Need-bound_row-row-requires
 bound-row-requires c κs = let a = (start c).args in (counted a.kept a.output.now (passes (else1 c))).variables
@@ -59,7 +59,7 @@ lay-requires c κs =
     let o = s.args.output.now in
     let z = passes (else1 k) in
     let f = counted a o z in (
-      subst (λ (b : ℕ). Ready o a.variables b (6 + a.variables + a.clauses) a.literals) (sym k.before.before.before.least.ensures) (ready a o z (clear c.before)),
+      subst (λ (b : ℕ). Ready o a.variables b (6 + a.variables + a.clauses) a.literals) (sym k.before.before.least-bound.ensures) (ready a o z (clear c.before)),
       record { room = omega (arith, f.fits); offsets = omega (arith, f.variables, f.clauses, variables_are, clauses_are); literals = omega (arith, f.literals, literals_are) },
     )
 
@@ -68,7 +68,7 @@ laid : (c : tie.After-lay) → let s = start c.before.before.before.before in le
 laid c =
     let k = c.before.before.before.before in
     let a = (start k).args.kept in
-    c.lay.ensures ∙ ap (λ (b : ℕ). laid_in (start k).args.output.now a.variables b a.clauses a.literals) k.before.before.before.least.ensures
+    c.lay.ensures ∙ ap (λ (b : ℕ). laid_in (start k).args.output.now a.variables b a.clauses a.literals) k.before.before.least-bound.ensures
 
 judge-requires : tie.Need-judge-requires
 judge-requires c κs =

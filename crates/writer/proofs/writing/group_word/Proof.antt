@@ -7,26 +7,26 @@ use borrow.Author.Rules.{rules}
 use Rattle.writer.proofs.writing.group_word.Statement.{statement}
 use Rattle.writer.proofs.writing.group_word.Tie as tie
 
-line-start-requires : tie.Need-line-start-requires
+line-start-requires : tie.Need-line_start-first-requires
 unfolding group_word
 line-start-requires c κs = let s = c.before.before in let a = s.args in near_first _ (line_start a.new a.universal) (spaced a.n ++ line_end a.last) s.requires
 
-number-spaced-requires : tie.Need-number-spaced-requires
+number-spaced-requires : tie.Need-number_spaced-end-requires
 unfolding group_word
 number-spaced-requires c κs =
     let p = c.before.before.before in
     let s = p.before.before.before in
     let a = s.args in
-    near_first _ (spaced a.n) (line_end a.last) (near_on _ _ (line_start a.new a.universal) (spaced a.n ++ line_end a.last) p.line-start.ensures s.requires)
+    near_first _ (spaced a.n) (line_end a.last) (near_on _ _ (line_start a.new a.universal) (spaced a.n ++ line_end a.last) p.line_start-first.ensures s.requires)
 
-line-end-requires : tie.Need-line-end-requires
+line-end-requires : tie.Need-line_end-requires
 unfolding group_word
 line-end-requires c κs =
     let q = c.before.before.before in
     let p = q.before.before.before.before in
     let s = p.before.before.before in
     let a = s.args in
-    near_on _ _ (spaced a.n) (line_end a.last) q.number-spaced.ensures (near_on _ _ (line_start a.new a.universal) (spaced a.n ++ line_end a.last) p.line-start.ensures s.requires)
+    near_on _ _ (spaced a.n) (line_end a.last) q.number_spaced-end.ensures (near_on _ _ (line_start a.new a.universal) (spaced a.n ++ line_end a.last) p.line_start-first.ensures s.requires)
 
 returns : tie.Need-returns
 unfolding group_word
@@ -35,7 +35,7 @@ returns c =
     let q = t.before.before.before.before in
     let p = q.before.before.before.before in
     let a = p.before.before.before.args in
-    t.line-end.ensures ∙ wrote_on _ _ (spaced a.n) (line_end a.last) q.number-spaced.ensures ∙ wrote_on _ _ (line_start a.new a.universal) (spaced a.n ++ line_end a.last) p.line-start.ensures
+    t.line_end.ensures ∙ wrote_on _ _ (spaced a.n) (line_end a.last) q.number_spaced-end.ensures ∙ wrote_on _ _ (line_start a.new a.universal) (spaced a.n ++ line_end a.last) p.line_start-first.ensures
 
-pub group-word-spec : {M : Type 1} → statement M
-group-word-spec = tie.close (tie.spec line-start-requires number-spaced-requires line-end-requires (λ c. search rules) returns)
+pub group_word_spec : {M : Type 1} → statement M
+group_word_spec = tie.close (tie.spec line-start-requires number-spaced-requires line-end-requires (λ c. search rules) returns)

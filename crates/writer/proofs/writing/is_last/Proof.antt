@@ -5,14 +5,14 @@ use borrow.Author.Rules.{rules}
 use Rattle.writer.proofs.writing.is_last.Statement.{statement}
 use Rattle.writer.proofs.writing.is_last.Tie as tie
 
-returns : tie.Need-returns
-returns c = rw (c.before.negative-at.ensures, c.negative-at2.ensures) (let s = c.before.before.before in sym (last_more s.args.prefix.now s.args.i c.before.before.if1.true))
+returns : tie.Need-returns-then-i-prefix
+returns c = rw (c.before.negative_at.ensures, c.negative_at-then-i-prefix.ensures) (let s = c.before.before.before in sym (last_more s.args.prefix.now s.args.i c.before.before.if-i-prefix.true))
 
-returns-2 : tie.Need-returns-2
-returns-2 c = sym (last_none c.before.args.prefix.now c.before.args.i c.if1.false)
+returns-2 : tie.Need-returns
+returns-2 c = sym (last_none c.before.args.prefix.now c.before.args.i c.if-i-prefix.false)
 
-pub is-last-spec : {M : Type 1} → statement M
-is-last-spec =
+pub is_last_spec : {M : Type 1} → statement M
+is_last_spec =
     tie.close
     (tie.spec
     (λ c. search rules)

@@ -6,22 +6,22 @@ use borrow.Author.Rules.{rules}
 use Rattle.writer.proofs.writing.line_end.Statement.{statement}
 use Rattle.writer.proofs.writing.line_end.Tie as tie
 
-put-requires : tie.Need-put-requires
-put-requires c κs = near_first _ (48 ∷ []) (10 ∷ []) (rw c.before.if1.true at c.before.before.before.requires)
+put-requires : tie.Need-put-end-requires
+put-requires c κs = near_first _ (48 ∷ []) (10 ∷ []) (rw c.before.if-last.true at c.before.before.before.requires)
 
-put-requires-2 : tie.Need-put-requires-2
+put-requires-2 : tie.Need-put-requires
 put-requires-2 c κs =
     let p = c.before.before.before in
-    near_on _ _ (48 ∷ []) (10 ∷ []) p.put.ensures (rw p.before.before.if1.true at p.before.before.before.before.requires)
+    near_on _ _ (48 ∷ []) (10 ∷ []) p.put-end.ensures (rw p.before.before.if-last.true at p.before.before.before.before.requires)
 
-returns : tie.Need-returns
+returns : tie.Need-returns-then-last
 returns c =
     let q = c.before.before in
     let p = q.before.before.before.before in
-    rw p.before.before.if1.true (q.put2.ensures ∙ wrote_on _ _ (48 ∷ []) (10 ∷ []) p.put.ensures)
+    rw p.before.before.if-last.true (q.put.ensures ∙ wrote_on _ _ (48 ∷ []) (10 ∷ []) p.put-end.ensures)
 
-returns-2 : tie.Need-returns-2
-returns-2 c = rw c.if1.false (nothing c.before.before.args.at c.before.before.args.output.now)
+returns-2 : tie.Need-returns
+returns-2 c = rw c.if-last.false (nothing c.before.before.args.at c.before.before.args.output.now)
 
-pub line-end-spec : {M : Type 1} → statement M
-line-end-spec = tie.close (tie.spec put-requires put-requires-2 (λ c. search rules) returns returns-2)
+pub line_end_spec : {M : Type 1} → statement M
+line_end_spec = tie.close (tie.spec put-requires put-requires-2 (λ c. search rules) returns returns-2)

@@ -9,18 +9,18 @@ use borrow.Author.Rules.{rules}
 use Rattle.writer.proofs.writing.literal.Statement.{statement}
 use Rattle.writer.proofs.writing.literal.Tie as tie
 
-sign-requires : tie.Need-sign-requires
+sign-requires : tie.Need-sign-first-requires
 sign-requires c κs =
     let s = c.before.before.before in
     let w = get_or s.args.ls.now s.args.i (pos 0) in
-    rw c.negative-at.ensures (near_first _ (sign_of (negative w)) (spaced (nat_abs w)) (rw (literal_parts w) at s.requires))
+    rw c.negative_at.ensures (near_first _ (sign_of (negative w)) (spaced (nat_abs w)) (rw (literal_parts w) at s.requires))
 
-number-spaced-requires : tie.Need-number-spaced-requires
+number-spaced-requires : tie.Need-number_spaced-requires
 number-spaced-requires c κs =
     let p = c.before.before.before.before in
     let s = p.before.before.before.before in
     let w = get_or s.args.ls.now s.args.i (pos 0) in
-    rw c.size-at.ensures (near_on _ _ (sign_of (negative w)) (spaced (nat_abs w)) (rw p.before.negative-at.ensures at p.sign.ensures) (rw (literal_parts w) at s.requires))
+    rw c.size_at.ensures (near_on _ _ (sign_of (negative w)) (spaced (nat_abs w)) (rw p.before.negative_at.ensures at p.sign-first.ensures) (rw (literal_parts w) at s.requires))
 
 returns : tie.Need-returns
 returns c =
@@ -28,9 +28,9 @@ returns c =
     let p = q.before.before.before.before.before in
     let s = p.before.before.before.before in
     let w = get_or s.args.ls.now s.args.i (pos 0) in
-    let e = rw q.before.size-at.ensures at q.number-spaced.ensures in
-    let d = rw p.before.negative-at.ensures at p.sign.ensures in
+    let e = rw q.before.size_at.ensures at q.number_spaced.ensures in
+    let d = rw p.before.negative_at.ensures at p.sign-first.ensures in
     rw (literal_parts w) (e ∙ wrote_on _ _ (sign_of (negative w)) (spaced (nat_abs w)) d)
 
-pub literal-spec : {M : Type 1} → statement M
-literal-spec = tie.close (tie.spec (λ c κs. search rules) sign-requires (λ c κs. search rules) number-spaced-requires (λ c. search rules) returns)
+pub literal_spec : {M : Type 1} → statement M
+literal_spec = tie.close (tie.spec (λ c κs. search rules) sign-requires (λ c κs. search rules) number-spaced-requires (λ c. search rules) returns)

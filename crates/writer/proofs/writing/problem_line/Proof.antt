@@ -12,7 +12,7 @@ use Rattle.writer.proofs.writing.problem_line.Tie as tie
 abbrev ending : ℕ → List ℕ
 ending n = numeral n ++ (10 ∷ [])
 
-number-spaced-requires : tie.Need-number-spaced-requires
+number-spaced-requires : tie.Need-number_spaced-end-requires
 number-spaced-requires c κs =
     let s6 = c.before.before.before in
     let s5 = s6.before.before.before.before in
@@ -22,10 +22,10 @@ number-spaced-requires c κs =
     let s1 = s2.before.before.before.before in
     let s = s1.before.before.before in
     let a = s.args in
-    let e = six_stores a.output.now s1.store.ensures s2.store2.ensures s3.store3.ensures s4.store4.ensures s5.store5.ensures s6.store6.ensures in
+    let e = six_stores a.output.now s1.store.ensures s2.store-2.ensures s3.store-3.ensures s4.store-4.ensures s5.store-5.ensures s6.store-6.ensures in
     near_first _ (spaced a.v) (ending a.c) (near_on _ _ problem_head (spaced a.v ++ ending a.c) e (rw (problem_parts a.v a.c) at s.requires))
 
-number-requires : tie.Need-number-requires
+number-requires : tie.Need-number-last-requires
 number-requires c κs =
     let n = c.before.before.before in
     let s6 = n.before.before.before.before in
@@ -36,8 +36,8 @@ number-requires c κs =
     let s1 = s2.before.before.before.before in
     let s = s1.before.before.before in
     let a = s.args in
-    let e = six_stores a.output.now s1.store.ensures s2.store2.ensures s3.store3.ensures s4.store4.ensures s5.store5.ensures s6.store6.ensures in
-    near_first _ (numeral a.c) (10 ∷ []) (near_on _ _ (spaced a.v) (ending a.c) n.number-spaced.ensures (near_on _ _ problem_head (spaced a.v ++ ending a.c) e (rw (problem_parts a.v a.c) at s.requires)))
+    let e = six_stores a.output.now s1.store.ensures s2.store-2.ensures s3.store-3.ensures s4.store-4.ensures s5.store-5.ensures s6.store-6.ensures in
+    near_first _ (numeral a.c) (10 ∷ []) (near_on _ _ (spaced a.v) (ending a.c) n.number_spaced-end.ensures (near_on _ _ problem_head (spaced a.v ++ ending a.c) e (rw (problem_parts a.v a.c) at s.requires)))
 
 put-requires : tie.Need-put-requires
 put-requires c κs =
@@ -51,8 +51,8 @@ put-requires c κs =
     let s1 = s2.before.before.before.before in
     let s = s1.before.before.before in
     let a = s.args in
-    let e = six_stores a.output.now s1.store.ensures s2.store2.ensures s3.store3.ensures s4.store4.ensures s5.store5.ensures s6.store6.ensures in
-    near_on _ _ (numeral a.c) (10 ∷ []) m.number.ensures (near_on _ _ (spaced a.v) (ending a.c) n.number-spaced.ensures (near_on _ _ problem_head (spaced a.v ++ ending a.c) e (rw (problem_parts a.v a.c) at s.requires)))
+    let e = six_stores a.output.now s1.store.ensures s2.store-2.ensures s3.store-3.ensures s4.store-4.ensures s5.store-5.ensures s6.store-6.ensures in
+    near_on _ _ (numeral a.c) (10 ∷ []) m.number-last.ensures (near_on _ _ (spaced a.v) (ending a.c) n.number_spaced-end.ensures (near_on _ _ problem_head (spaced a.v ++ ending a.c) e (rw (problem_parts a.v a.c) at s.requires)))
 
 returns : tie.Need-returns
 returns c =
@@ -66,12 +66,12 @@ returns c =
     let s2 = s3.before.before.before.before in
     let s1 = s2.before.before.before.before in
     let a = s1.before.before.before.args in
-    let e = six_stores a.output.now s1.store.ensures s2.store2.ensures s3.store3.ensures s4.store4.ensures s5.store5.ensures s6.store6.ensures in
+    let e = six_stores a.output.now s1.store.ensures s2.store-2.ensures s3.store-3.ensures s4.store-4.ensures s5.store-5.ensures s6.store-6.ensures in
     rw (problem_parts a.v a.c)
-    (q.put.ensures ∙ wrote_on _ _ (numeral a.c) (10 ∷ []) m.number.ensures ∙ wrote_on _ _ (spaced a.v) (ending a.c) n.number-spaced.ensures ∙ wrote_on _ _ problem_head (spaced a.v ++ ending a.c) e)
+    (q.put.ensures ∙ wrote_on _ _ (numeral a.c) (10 ∷ []) m.number-last.ensures ∙ wrote_on _ _ (spaced a.v) (ending a.c) n.number_spaced-end.ensures ∙ wrote_on _ _ problem_head (spaced a.v ++ ending a.c) e)
 
-pub problem-line-spec : {M : Type 1} → statement M
-problem-line-spec =
+pub problem_line_spec : {M : Type 1} → statement M
+problem_line_spec =
     tie.close
     (tie.spec
     (λ c κs. search rules)

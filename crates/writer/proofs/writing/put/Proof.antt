@@ -8,7 +8,7 @@ use borrow.Author.Rules.{rules}
 use Rattle.writer.proofs.writing.put.Statement.{statement}
 use Rattle.writer.proofs.writing.put.Tie as tie
 
-add-result : tie.Need-overflow-add-result
+add-result : tie.Need-overflow_add-result
 unfolding Near
 add-result c = omega (arith, c.before.before.before.before.before.requires)
 

@@ -29,24 +29,24 @@ third b = clause_lines (clauses_from (literals_of b) 0 (ends_of b))
 near : (b : List ℤ) → refusal limits b ≡ 0 → Near 0 (first b ++ (second b ++ third b))
 near b e = rw (written_parts b) at (text_near b e)
 
-problem-line-requires : tie.Need-problem-line-requires
+problem-line-requires : tie.Need-problem_line-first-requires
 problem-line-requires c κs =
     let p = c.before.before in
     let s = p.before.before in
     let b = s.args.block.now in
-    rw (p.prefix.ensures, c.before.ends.ensures) (near_first _ (first b) (second b ++ third b) (near b s.requires))
+    rw (p.prefix-prefix.ensures, c.before.ends-ends.ensures) (near_first _ (first b) (second b ++ third b) (near b s.requires))
 
-group-lines-requires : tie.Need-group-lines-requires
+group-lines-requires : tie.Need-group_lines-second-requires
 group-lines-requires c κs =
     let l = c.before.before.before in
     let k = l.before.before in
     let p = k.before in
     let s = p.before.before in
     let b = s.args.block.now in
-    let e = rw (p.prefix.ensures, k.ends.ensures) at l.problem-line.ensures in
-    rw p.prefix.ensures (near_first _ (second b) (third b) (near_on _ _ (first b) (second b ++ third b) e (near b s.requires)))
+    let e = rw (p.prefix-prefix.ensures, k.ends-ends.ensures) at l.problem_line-first.ensures in
+    rw p.prefix-prefix.ensures (near_first _ (second b) (third b) (near_on _ _ (first b) (second b ++ third b) e (near b s.requires)))
 
-clause-lines-requires : tie.Need-clause-lines-requires
+clause-lines-requires : tie.Need-clause_lines-requires
 clause-lines-requires c κs =
     let g = c.before.before.before.before in
     let l = g.before.before.before.before in
@@ -54,9 +54,9 @@ clause-lines-requires c κs =
     let p = k.before in
     let s = p.before.before in
     let b = s.args.block.now in
-    let e = rw (p.prefix.ensures, k.ends.ensures) at l.problem-line.ensures in
-    let f = rw p.prefix.ensures at g.group_lines.ensures in
-    rw (c.literals.ensures, k.ends.ensures) (near_on _ _ (second b) (third b) f (near_on _ _ (first b) (second b ++ third b) e (near b s.requires)))
+    let e = rw (p.prefix-prefix.ensures, k.ends-ends.ensures) at l.problem_line-first.ensures in
+    let f = rw p.prefix-prefix.ensures at g.group_lines-second.ensures in
+    rw (c.literals.ensures, k.ends-ends.ensures) (near_on _ _ (second b) (third b) f (near_on _ _ (first b) (second b ++ third b) e (near b s.requires)))
 
 returns : tie.Need-returns
 returns c =
@@ -67,13 +67,13 @@ returns c =
     let p = k.before in
     let s = p.before.before in
     let b = s.args.block.now in
-    let e = rw (p.prefix.ensures, k.ends.ensures) at l.problem-line.ensures in
-    let f = rw p.prefix.ensures at g.group_lines.ensures in
-    let d = rw (q.before.literals.ensures, k.ends.ensures) at q.clause_lines_lem.ensures in
+    let e = rw (p.prefix-prefix.ensures, k.ends-ends.ensures) at l.problem_line-first.ensures in
+    let f = rw p.prefix-prefix.ensures at g.group_lines-second.ensures in
+    let d = rw (q.before.literals.ensures, k.ends-ends.ensures) at q.clause_lines.ensures in
     rw (written_parts b) (d ∙ wrote_on _ _ (second b) (third b) f ∙ wrote_on _ _ (first b) (second b ++ third b) e)
 
-pub text-spec : {M : Type 1} → statement M
-text-spec =
+pub text_spec : {M : Type 1} → statement M
+text_spec =
     tie.close
     (tie.spec
     (λ c κs. search rules)

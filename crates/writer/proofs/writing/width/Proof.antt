@@ -8,31 +8,31 @@ use Rattle.grammar.proofs.Laws.Written.{numeral_one, numeral_longer}
 use Rattle.writer.proofs.writing.width.Statement.{statement}
 use Rattle.writer.proofs.writing.width.Tie as tie
 
-abbrev invariant-loop : tie.invariant-loop
+abbrev invariant-loop : tie.invariant-loop-rest
 invariant-loop n rest₀ digits₀ rest digits = (digits + length (numeral rest) ≡ 1 + length (numeral n)) × (digits + rest ≤ n + 1)
 
-abbrev decreases-loop : tie.decreases-loop
+abbrev decreases-loop : tie.decreases-loop-rest
 decreases-loop n rest₀ digits₀ rest digits = rest
 
-loop-holds : tie.Need-loop-init invariant-loop decreases-loop
+loop-holds : tie.Need-loop-rest-init invariant-loop decreases-loop
 loop-holds c = (refl, omega arith)
 
-add-digits : tie.Need-overflow-add-digits invariant-loop decreases-loop
-add-digits c = omega (arith, c.loop-test.true, c.before.loop.invariant.1, c.before.before.ranges.n)
+add-digits : tie.Need-overflow_add-digits invariant-loop decreases-loop
+add-digits c = omega (arith, c.loop-rest-test.true, c.before.loop-rest.invariant.1, c.before.before.ranges.n)
 
-loop-less : tie.Need-loop-smaller invariant-loop decreases-loop
-loop-less c = omega (arith, c.loop-test.true)
+loop-less : tie.Need-loop-rest-smaller invariant-loop decreases-loop
+loop-less c = omega (arith, c.loop-rest-test.true)
 
-loop-again : tie.Need-loop-preserved invariant-loop decreases-loop
+loop-again : tie.Need-loop-rest-preserved invariant-loop decreases-loop
 loop-again c =
-    let l = c.before.loop in
-    let e = numeral_longer l.rest c.loop-test.true in
-    (omega (arith, e, l.invariant.0), omega (arith, c.loop-test.true, l.invariant.1))
+    let l = c.before.loop-rest in
+    let e = numeral_longer l.rest c.loop-rest-test.true in
+    (omega (arith, e, l.invariant.0), omega (arith, c.loop-rest-test.true, l.invariant.1))
 
 returns : tie.Need-returns invariant-loop decreases-loop
 returns c =
-    let l = c.before.loop in
-    let e = ap length (numeral_one l.rest c.loop-test.false) in
+    let l = c.before.loop-rest in
+    let e = ap length (numeral_one l.rest c.loop-rest-test.false) in
     omega (arith, e, l.invariant.0)
 
 pub width_spec : {M : Type 1} → statement M
