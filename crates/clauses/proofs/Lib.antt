@@ -3,4 +3,5 @@
 -- the look at a clause, and what it makes due
 pub mod Looks
 pub mod Decision
+-- what is proved about the definitions
 pub mod Laws

@@ -13,6 +13,7 @@ pub mod Looked
 pub mod Passing
 -- the walks
 pub mod Walking
+-- what is proved about the definitions; a counted run is a run; any history
 pub mod Laws
 pub mod Runs
 pub mod History

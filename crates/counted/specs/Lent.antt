@@ -1,6 +1,6 @@
 -- [counted] The memory that is lent to a counted run beside the block: a run's own, the two numbers of each clause, and the index.
 use Rattle.std.specs.Prelude.{ℕ, List, drop}
-use Rattle.memory.specs.Memory.{Memory, memory}
+use Rattle.memory.specs.Memory.{Memory}
 
 pub record Lent : Type 0 where
   pub memory : Memory

@@ -9,6 +9,5 @@ pub mod Counted
 pub mod Promises
 -- which number a refused call is given
 pub mod Rows
--- it is a run; any history
--- what functions say to each other; what is proved of all these
+-- what functions say to each other
 pub mod Inner

@@ -4,10 +4,9 @@ use mathlib.Core.Bool.{Bool, true, false, not, ◌||◌}
 use Prim.Native.Nat.{ℕ}
 use lib.Dec.{eqb, ltb}
 use lib.IntN.{ℤ, pos, negsuc, nat_abs}
-use borrow.Author.Tests.{eq-eqb, ne_eqb}
 use Rattle.words.specs.Laws.Bools.{or_l, or_r}
 use Rattle.words.specs.Words.{negative, eq_z}
-use Rattle.formula.specs.Block.{is_not, no_variable}
+use Rattle.formula.specs.Block.{is_not}
 use Rattle.formula.specs.Laws.Ends.{bad_end}
 
 -- 3: a word that is not the number n is negative or of another size
@@ -15,17 +14,6 @@ pub not_number : (n : ℕ) (w : ℤ) → is_not n w ≡ negative w || not (eqb (
 unfolding eq_z
 not_number n (pos m) = refl
 not_number n (negsuc m) = refl
-
--- 5, 9
-module _ (n : ℕ) (w : ℤ) (s : ℕ) (is : s ≡ nat_abs w) where
-  pub zero_is_none : s ≡ 0 → no_variable n w ≡ true
-  zero_is_none z = or_l (ltb n (nat_abs w)) (eq-eqb (nat_abs w) 0 (sym is ∙ z))
-
-  pub over_is_none : ltb n s ≡ true → no_variable n w ≡ true
-  over_is_none o = or_r (eqb (nat_abs w) 0) (ap (ltb n) (sym is) ∙ o)
-
-  pub is_one : (s ≡ 0 → ⊥) → ltb n s ≡ false → no_variable n w ≡ false
-  is_one z o = rw (← is, ne_eqb s 0 z, o)
 
 -- 8
 module _ (total from : ℕ) (e : ℤ) (s : ℕ) (is : s ≡ nat_abs e) where

@@ -1,7 +1,7 @@
 -- Rows 10 and 23 in one clause, from its last literal to its first: the literals passed have the clause's stamp, no two of them are opposites,
 -- and 23 was found if two of them are the same.
 use mathlib.Core.Path.{◌≡◌, refl, sym, ap, ◌∙◌}
-use mathlib.Core.Bool.{true, false, cond, ◌||◌}
+use mathlib.Core.Bool.{false, cond, ◌||◌}
 use mathlib.Core.Logic.{◌⊎◌, inl, inr}
 use mathlib.Core.List.{List}
 use Prim.Native.Nat.{ℕ, ◌+◌, ◌-◌, ◌*◌, ◌≤◌, ◌<◌}

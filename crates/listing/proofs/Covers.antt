@@ -1,7 +1,7 @@
 -- The openings are all the ways to give the first group values: where the group is existential, the formula is true exactly if some opening wins,
 -- and the whole listing is empty exactly if it is false. From the recursive truth: an existential variable asks for one of its two values,
 -- and a number below 2^k has the bits of any k values.
-use Prim.Native.Nat.{ℕ, suc, ◌+◌, ◌-◌, ◌^◌, ◌/◌, ◌%◌, ◌<◌}
+use Prim.Native.Nat.{ℕ, suc, ◌+◌, ◌^◌, ◌/◌, ◌%◌, ◌<◌}
 use Rattle.std.specs.Prelude.{◌≡◌, ◌↔◌, Bool, false, cond, ◌&&◌, ◌||◌, eqb, ltb, ℤ, pos, negsuc, neg_ℤ, take, drop}
 use Rattle.std.proofs.Math.Path.{refl, sym, fun_ext}
 use Rattle.std.proofs.Common.{◌∙◌, ap, take-append-drop, lt-ltb}

@@ -7,9 +7,8 @@ pub mod Page
 pub mod Promises
 -- which number a refused page is given, and what it leaves
 pub mod Rows
--- an accepted page; any list of pages; all openings together; the one that an ended session shows
+-- what is claimed of an accepted page; the openings that win, and the listing of them
 pub mod Claims
--- a page's searches are runs, and what the work record held before doesn't matter
--- what functions say to each other; what is proved of all these
-pub mod Inner
 pub mod Wins
+-- what functions say to each other
+pub mod Inner

@@ -9,5 +9,5 @@ pub mod Reasons
 pub mod Refusals
 -- what each function promises, and that it leaves one result
 pub mod Promises
--- what functions say to each other; what is proved of all these
+-- what functions say to each other
 pub mod Inner

@@ -7,7 +7,7 @@ pub mod Promises
 -- which number a refused block is given
 pub mod Rows
 -- the session and the listing say the same
--- what functions say to each other; what is proved of all these
-pub mod Inner
 pub mod Agrees
 pub mod Openings
+-- what functions say to each other; what is proved of all these
+pub mod Inner

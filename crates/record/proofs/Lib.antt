@@ -4,4 +4,5 @@
 pub mod Values
 pub mod Places
 pub mod Row12
+-- what is proved about the definitions
 pub mod Laws

@@ -9,5 +9,3 @@ pub mod Check
 pub mod Promises
 -- what functions say to each other
 pub mod Inner
-
--- what is proved about the definitions, for use in proofs

@@ -1,12 +1,7 @@
 -- That a promise leaves one answer, where that rests on a law: of any kinds there is a record.
-use Rattle.std.specs.Prelude.{◌≡◌, List, ℕ, ◌≤◌, ℤ, length}
-use Rattle.words.specs.Outcomes.{only_one, outcome, Same, same}
-use Rattle.formula.specs.Formula.{formula_of}
-use Rattle.theory.specs.Record.{Record}
+use Rattle.std.specs.Prelude.{◌≡◌, List, ℕ, ◌≤◌, length}
+use Rattle.words.specs.Outcomes.{only_one}
 use Rattle.record.specs.declared.rule.Rule.{Rule}
-use Rattle.record.specs.Trail.{Trail, record_of}
-use Rattle.rules.specs.Due.{due, due_conflict}
-use Rattle.rules.specs.Inner.Tabled.{Tabled}
 use Rattle.rules.specs.Promises.{DueConflictPromise}
 use Rattle.rules.proofs.Laws.Kinds.{kinds_tabled}
 

@@ -6,5 +6,3 @@ pub mod Due
 pub mod Promises
 -- what functions say to each other
 pub mod Inner
-
--- what is proved about the definitions, for use in proofs

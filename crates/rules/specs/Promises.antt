@@ -1,7 +1,7 @@
 -- What each public function promises of everything at entry, r being its answer and s' the lent table as it leaves it; and [only] that the promise fits one
 -- answer and one content of each lent buffer. A promise is an equation with a definition.
-use Rattle.std.specs.Prelude.{◌≡◌, List, ℕ, ◌≤◌, ℤ, length}
-use Rattle.words.specs.Outcomes.{only_one, outcome, Same, same}
+use Rattle.std.specs.Prelude.{◌≡◌, List, ℕ, ℤ}
+use Rattle.words.specs.Outcomes.{outcome, Same, same}
 use Rattle.formula.specs.Formula.{formula_of}
 use Rattle.theory.specs.Record.{Record}
 use Rattle.record.specs.declared.rule.Rule.{Rule}

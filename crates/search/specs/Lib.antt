@@ -4,5 +4,3 @@
 pub mod Run
 -- what each function promises, and that it leaves one result
 pub mod Promises
-
--- what is proved about the definitions, for use in proofs

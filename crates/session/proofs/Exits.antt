@@ -1,8 +1,7 @@
 -- The ways out of opening and of a step: one law for each, from the facts on that path.
-use Prim.Native.Nat.{ℕ, ◌+◌, ◌-◌}
+use Prim.Native.Nat.{ℕ, ◌+◌}
 use mathlib.Core.Path.{◌≡◌, sym, ap, ◌∙◌}
 use mathlib.Core.List.{List}
-use native.Mathlib.Omega.{arith}
 use lib.IntN.{ℤ}
 use lib.ListN.{take}
 use borrow.Author.Tests.{eq-eqb, ne_eqb}

@@ -6,6 +6,3 @@ pub mod Tests
 pub mod Rules
 pub mod Start
 pub mod Witness
-
--- what is proved about them on the way
--- the theorems, and why the rules are as they are

@@ -1,2 +1,2 @@
-// Definitions and proofs only: see specs/.
+// Definitions and proofs only: see specs/ and proofs/.
 #![tactic(auto)]

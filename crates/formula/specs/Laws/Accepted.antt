@@ -1,5 +1,5 @@
 -- What an accepted block is, row by row and place by place: for whoever works on a block that was checked.
-use Rattle.std.specs.Prelude.{◌≡◌, refl, false, List, ◌+◌, ◌-◌, ◌≤◌, ◌<◌, eqb, ℤ, pos, length}
+use Rattle.std.specs.Prelude.{◌≡◌, refl, false, List, ◌+◌, ◌≤◌, ◌<◌, eqb, ℤ, pos, length}
 use Rattle.std.proofs.Math.Bool.{true}
 use Rattle.std.proofs.Common.{arith, ltb-false, lt-ltb, eqb-true}
 use Rattle.std.proofs.lemmas.Bool.{not-false}
@@ -12,7 +12,7 @@ use Rattle.formula.specs.Limits.{Limits}
 use Rattle.formula.specs.Formula.{word, variables_of, clause_count_of, literal_count_of, prefix_of, ends_of, literals_of, clauses_from, formula_of}
 use Rattle.formula.specs.Block.{no_variable, twice, bad_ends, both_signs, repeats, rows, refusal}
 use Rattle.formula.specs.Inner.Named.{AllNamed}
-use Rattle.formula.specs.Laws.Named.{named, in_named, all_named}
+use Rattle.formula.specs.Laws.Named.{in_named, all_named}
 use Rattle.formula.specs.Laws.Layout as layout
 use Rattle.formula.specs.Proper.{Proper}
 

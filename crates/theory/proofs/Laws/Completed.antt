@@ -1,6 +1,6 @@
 -- What completes an ended record: an entry more for each variable of the first group that it leaves unassigned. They leave a clause in conflict
 -- as it is, since none of them is in it; and with the record's own entries of level 0 they are the values that it shows.
-use Rattle.std.specs.Prelude.{◌≡◌, false, ◌&&◌, ◌||◌, ◌+◌, ◌<◌, ltb, eqb, pos, neg_ℤ, nat_abs}
+use Rattle.std.specs.Prelude.{◌≡◌, false, ◌&&◌, ◌||◌, ◌<◌, ltb, eqb, pos, neg_ℤ, nat_abs}
 use Rattle.std.proofs.Math.Path.{refl, sym, fun_ext}
 use Rattle.std.proofs.Common.{◌∙◌, ltb→lt, take-append-drop}
 use Rattle.std.proofs.Math.Logic.{inl, inr}

@@ -43,23 +43,16 @@ pair-in-requires c κs =
     let head = read.before.before in
     (named_part limits.variables head.before.args.literals.now (read.size_at-end.result - head.loop-i.from) head.loop-i.from head.before.requires.0, head.loop-i.invariant.fresh)
 
-returns : tie.Need-returns-then-found-eq10 invariant-loop decreases-loop
-returns c =
-    let called = c.before in
-    let read = called.before.before.before in
-    let turn = read.before in
-    hit _ _ _ _ _ _ turn.before.loop-i.invariant turn.loop-i-test.true _ read.size_at-end.ensures _ called.pair_in-found.ensures.0 c.if-found-eq10.true
-
 loop-again : tie.Need-loop-i-preserved invariant-loop decreases-loop
 loop-again c =
     let called = c.before in
     let read = called.before.before.before in
     let turn = read.before in
-    more _ _ _ _ _ _ turn.before.loop-i.invariant turn.loop-i-test.true _ read.size_at-end.ensures _ called.pair_in-found.ensures.0 c.if-found-eq10.false _
+    more _ _ _ _ _ _ turn.before.loop-i.invariant turn.loop-i-test.true _ read.size_at-end.ensures _ called.pair_in-found.ensures.0 (omega arith) _
     called.pair_in-found.ensures.1
 
-returns-2 : tie.Need-returns invariant-loop decreases-loop
-returns-2 c = end _ _ _ _ _ _ c.before.loop-i.invariant c.loop-i-test.false
+returns : tie.Need-returns invariant-loop decreases-loop
+returns c = end _ _ _ _ _ _ c.before.loop-i.invariant c.loop-i-test.false
 
 pub pair_row_spec : {M : Type 1} → statement M
 pair_row_spec =
@@ -75,8 +68,11 @@ pair_row_spec =
     part-pair-in-end
     (λ c. omega arith)
     pair-in-requires
-    returns
+    (λ c. let called = c.before in
+    let read = called.before.before.before in
+    let turn = read.before in
+    hit _ _ _ _ _ _ turn.before.loop-i.invariant turn.loop-i-test.true _ read.size_at-end.ensures _ called.pair_in-found.ensures.0 (omega arith))
     (λ c. omega arith)
     (λ c. omega arith)
     loop-again
-    returns-2)
+    returns)

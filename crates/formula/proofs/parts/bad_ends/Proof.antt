@@ -43,14 +43,14 @@ returns c =
     let r = c.before in
     let is = r.before.size_at-end.ensures in
     let bad : bad_end (total r) (from r) (end r) ≡ true =
-    ⊎_elim (λ t. end_negative _ _ _ _ is _ r.negative_at.ensures t.if-negative_at.true) (⊎_elim (λ t. end_falls _ _ _ _ is (lt-ltb _ _ t.if-end-from.true)) (λ t. end_over _ _ _ _ is (lt-ltb _ _ t.if-total-end.true))) c.then-negative_at.branch-raw in
+    ⊎_elim (λ t. end_negative _ _ _ _ is _ r.negative_at.ensures t.if-negative_at.true) (⊎_elim (λ t. end_falls _ _ _ _ is (lt-ltb _ _ (omega arith))) (λ t. end_over _ _ _ _ is (lt-ltb _ _ t.if-total-end.true))) c.then-negative_at.branch-raw in
     sym (ends_bad _ _ _ _ r.before.before.loop-i-test.true bad) ∙ r.before.before.before.loop-i.invariant.1
 
 loop-again : tie.Need-loop-i-preserved invariant-loop decreases-loop
 loop-again c =
     let r = c.before.before.before in
     let is = r.before.size_at-end.ensures in
-    let fine = end_fine (total r) (from r) (end r) _ is _ r.negative_at.ensures c.before.before.if-negative_at.false (le-ltb _ _ c.before.if-end-from.false) (le-ltb _ _ c.if-total-end.false) in
+    let fine = end_fine (total r) (from r) (end r) _ is _ r.negative_at.ensures c.before.before.if-negative_at.false (le-ltb _ _ (omega arith)) (le-ltb _ _ c.if-total-end.false) in
     (omega arith, rw is (ends_past _ _ _ _ r.before.before.loop-i-test.true fine) ∙ r.before.before.before.loop-i.invariant.1)
 
 returns-2 : tie.Need-returns invariant-loop decreases-loop

@@ -1,17 +1,15 @@
 -- From the word at i on, some word names no variable exactly if some word of all does.
 use mathlib.Core.Path.{◌≡◌, refl, sym, ◌∙◌}
-use mathlib.Core.Bool.{true}
-use mathlib.Core.Logic.{⊎_elim}
+use mathlib.Core.Bool.{true, false}
 use Prim.Native.Nat.{◌-◌, ◌≤◌}
 use native.Mathlib.Omega.{arith}
 use lib.IntN.{pos}
 use lib.ListN.{length, drop, get_or}
+use Rattle.std.proofs.lemmas.Bool.Decides.{nat_tests}
 use Rattle.words.specs.Lists.{any}
 use Rattle.words.specs.Laws.Lists.{any_found, any_past, any_ended}
 use Rattle.formula.specs.Block.{no_variable}
-use Rattle.formula.proofs.Rows.{zero_is_none, over_is_none, is_one}
 use borrow.Author.Rules.{rules}
-use borrow.Author.Tests.{lt-ltb, le-ltb}
 use Rattle.formula.proofs.parts.some_stranger.Statement.{statement}
 use Rattle.formula.proofs.parts.some_stranger.Tie as tie
 
@@ -24,17 +22,6 @@ decreases-loop ws n i₀ i = length ws - i
 loop-holds : tie.Need-loop-i-init invariant-loop decreases-loop
 loop-holds c = (omega arith, refl)
 
-returns : tie.Need-returns-then-v-eq0 invariant-loop decreases-loop
-returns c =
-    let read = c.before in
-    let turn = read.before in
-    let start = turn.before.before in
-    let n = start.args.n in
-    let w = get_or start.args.ws.now turn.before.loop-i.i (pos 0) in
-    let none : no_variable n w ≡ true =
-    ⊎_elim (λ t. zero_is_none n w _ read.size_at-v.ensures t.if-v-eq0.true) (λ t. over_is_none n w _ read.size_at-v.ensures (lt-ltb _ _ t.if-n-v.true)) c.then-v-eq0.branch-raw in
-    sym (any_found (no_variable n) start.args.ws.now turn.before.loop-i.i (pos 0) turn.loop-i-test.true none) ∙ turn.before.loop-i.invariant.1
-
 loop-again : tie.Need-loop-i-preserved invariant-loop decreases-loop
 loop-again c =
     let read = c.before.before in
@@ -42,7 +29,7 @@ loop-again c =
     let start = turn.before.before in
     let n = start.args.n in
     let w = get_or start.args.ws.now turn.before.loop-i.i (pos 0) in
-    let one = is_one n w _ read.size_at-v.ensures c.before.if-v-eq0.false (le-ltb _ _ c.if-n-v.false) in
+    let one : no_variable n w ≡ false = grind (arith, nat_tests) in
     (omega arith, any_past (no_variable n) start.args.ws.now turn.before.loop-i.i (pos 0) turn.loop-i-test.true one ∙ turn.before.loop-i.invariant.1)
 
 returns-2 : tie.Need-returns invariant-loop decreases-loop
@@ -58,7 +45,12 @@ some_stranger_spec =
     decreases-loop
     loop-holds
     (λ c κs. search rules)
-    returns
+    (λ c. let turn = c.before.before in
+    let start = turn.before.before in
+    let n = start.args.n in
+    let w = get_or start.args.ws.now turn.before.loop-i.i (pos 0) in
+    let none : no_variable n w ≡ true = grind (arith, nat_tests) in
+    sym (any_found (no_variable n) start.args.ws.now turn.before.loop-i.i (pos 0) turn.loop-i-test.true none) ∙ turn.before.loop-i.invariant.1)
     (λ c. search rules)
     (λ c. search rules)
     loop-again
