@@ -6,7 +6,7 @@ use std::path::Path;
 use std::process::exit;
 
 fn main() {
-    let built = format!("{}/../../target/staticlib", env!("CARGO_MANIFEST_DIR"));
+    let built = format!("{}/../../crates/mokihazureo/out", env!("CARGO_MANIFEST_DIR"));
     let folder = env::var("MOKIHAZUREO_LIB").unwrap_or(built);
     println!("cargo:rerun-if-env-changed=MOKIHAZUREO_LIB");
     println!("cargo:rerun-if-changed={folder}/libmokihazureo.a");

@@ -189,7 +189,9 @@ fn go_on(
     }
 }
 
-// The same from the record and the block alone: the tables are filled first.
+// The same from the record and the block alone: the tables are filled first. They lie on the stack only while it runs, and not beside what the call's
+// rows need.
+#[inline(never)]
 pub(crate) fn search(
     block: &[i32],
     lits: &mut [i32],
