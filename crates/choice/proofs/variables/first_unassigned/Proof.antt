@@ -26,21 +26,27 @@ true-at-requires c κs =
     let turn = c.before.before.before.before in
     word_small _ (bound_named turn.before.before.requires) _ turn.loop-i-test.true
 
-returns : tie.Need-returns-then-values-v-eq0 invariant-loop decreases-loop
-returns c =
-    let sized = c.before.before.before.before in
-    let turn = sized.before in
-    ap Is c.true_at.ensures
-    ∙ left_here turn.before.loop-i.invariant turn.loop-i-test.true (unassigned_here _ _ _ sized.size_at-v.ensures c.before.if-values-v-eq0.true)
-
 loop-again : tie.Need-loop-i-preserved invariant-loop decreases-loop
 loop-again c =
     let sized = c.before.before.before in
     let turn = sized.before in
-    left_past turn.before.loop-i.invariant turn.loop-i-test.true (unassigned_past _ _ _ sized.size_at-v.ensures c.if-values-v-eq0.false)
+    left_past turn.before.loop-i.invariant turn.loop-i-test.true (unassigned_past _ _ _ sized.size_at-v.ensures (omega arith))
 
 pub first_unassigned_spec : {M : Type 1} → statement M
 first_unassigned_spec =
     tie.close
-    (tie.spec invariant-loop decreases-loop (λ c. left_begin) (λ c κs. search rules) element-copy-out-if1 true-at-requires returns (λ c. omega arith)
-    (λ c. omega arith) loop-again (λ c. left_end c.before.loop-i.invariant c.loop-i-test.false))
+    (tie.spec
+    invariant-loop
+    decreases-loop
+    (λ c. left_begin)
+    (λ c κs. search rules)
+    element-copy-out-if1
+    true-at-requires
+    (λ c. let sized = c.before.before.before.before in
+    let turn = sized.before in
+    ap Is c.true_at.ensures
+    ∙ left_here turn.before.loop-i.invariant turn.loop-i-test.true (unassigned_here _ _ _ sized.size_at-v.ensures (omega arith)))
+    (λ c. omega arith)
+    (λ c. omega arith)
+    loop-again
+    (λ c. left_end c.before.loop-i.invariant c.loop-i-test.false))

@@ -14,20 +14,25 @@ invariant-loop kinds count kind i₀ i = (i ≤ count) × (last_kind kinds kind 
 abbrev decreases-loop : tie.decreases-loop-i
 decreases-loop kinds count kind i₀ i = i
 
-returns : tie.Need-returns-then-kinds-i invariant-loop decreases-loop
-returns c =
-    let turn = c.before.before in
-    sym (last_here _ _ _ turn.loop-i-test.true c.if-kinds-i.true) ∙ turn.before.loop-i.invariant.1
-
 loop-again : tie.Need-loop-i-preserved invariant-loop decreases-loop
 loop-again c =
     let turn = c.before.before in
-    (omega arith, last_past _ _ _ turn.loop-i-test.true c.if-kinds-i.false ∙ turn.before.loop-i.invariant.1)
+    (omega arith, last_past _ _ _ turn.loop-i-test.true (omega arith) ∙ turn.before.loop-i.invariant.1)
 
-returns-2 : tie.Need-returns invariant-loop decreases-loop
-returns-2 c = sym (last_end _ _ _ c.loop-i-test.false) ∙ c.before.loop-i.invariant.1
+returns : tie.Need-returns invariant-loop decreases-loop
+returns c = sym (last_end _ _ _ c.loop-i-test.false) ∙ c.before.loop-i.invariant.1
 
 pub last_kind_spec : {M : Type 1} → statement M
 last_kind_spec =
     tie.close
-    (tie.spec invariant-loop decreases-loop (λ c. search rules) (λ c. omega arith) (λ c. omega arith) returns (λ c. omega arith) loop-again returns-2)
+    (tie.spec
+    invariant-loop
+    decreases-loop
+    (λ c. search rules)
+    (λ c. omega arith)
+    (λ c. omega arith)
+    (λ c. let turn = c.before.before in
+    sym (last_here _ _ _ turn.loop-i-test.true (omega arith)) ∙ turn.before.loop-i.invariant.1)
+    (λ c. omega arith)
+    loop-again
+    returns)

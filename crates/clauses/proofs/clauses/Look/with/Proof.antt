@@ -49,14 +49,8 @@ module _ (c : tie.After-struct_known-2-1) where
       let k = c.status_at-status.ensures in
       λ C. with_universal _ _ _ a.self.place a.self.above _ C (λ z. c.if-status-eq0.false (k ∙ z)) (λ z. c.if-status-eq1.false (k ∙ z)) (λ z. c.if-status-eq2.false (k ∙ z)) a.self.over n (m ∙ ap (λ v. min a.self.above (get_or a.levels.now v 0)) c.size_at.ensures)
 
-returns-5 : tie.Need-returns-then-level-self
-returns-5 c = lowered c.before _ (omega (arith, c.if-level-self.true))
-
-returns-6 : tie.Need-returns-else-level-self
-returns-6 c = lowered c.before _ (omega (arith, c.if-level-self.false))
-
 pub with_spec : {M : Type 1} → statement M
 with_spec =
     tie.close
     (tie.spec (λ c κs. c.requires.0 c.args.j) returns returns-2 returns-3 returns-4 (λ c κs. search rules) mul-level element-copy-out-level
-    returns-5 returns-6)
+    (λ c. lowered c.before _ (omega arith)) (λ c. lowered c.before _ (omega arith)))
