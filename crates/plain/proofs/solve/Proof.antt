@@ -1,4 +1,5 @@
 -- The block's number, or row 22 where it is accepted; and with few variables the truth.
+use native.Mathlib.Omega.{arith}
 use borrow.Author.Rules.{rules}
 use Rattle.plain.proofs.Guards.{block_refused, too_many, ready, valid, unsat}
 use Rattle.plain.proofs.solve.Statement.{statement}
@@ -7,27 +8,22 @@ use Rattle.plain.proofs.solve.Tie as tie
 holds-requires : tie.Need-holds-requires
 holds-requires c κs =
     let a = c.before.before in
-    ready _ a.before.check.ensures a.in-Accepted.is c.before.size_at.ensures c.if-size_at-gt-MOST.false
+    ready _ a.before.check.ensures a.in-Accepted.is c.before.size_at.ensures (omega arith)
 
 returns : tie.Need-returns-in-Refused
 returns c = block_refused _ c.before.check.ensures _ c.in-Refused.is
 
-returns-2 : tie.Need-returns-then-size_at-gt-MOST
+returns-2 : tie.Need-returns-then-holds
 returns-2 c =
-    let a = c.before.before in
-    too_many _ a.before.check.ensures a.in-Accepted.is c.before.size_at.ensures c.if-size_at-gt-MOST.true
+    let s = c.before.before in
+    let a = s.before.before in
+    valid _ a.before.check.ensures a.in-Accepted.is s.before.size_at.ensures (omega arith) c.before.holds.ensures c.if-holds.true
 
-returns-3 : tie.Need-returns-then-holds
+returns-3 : tie.Need-returns-else-holds
 returns-3 c =
     let s = c.before.before in
     let a = s.before.before in
-    valid _ a.before.check.ensures a.in-Accepted.is s.before.size_at.ensures s.if-size_at-gt-MOST.false c.before.holds.ensures c.if-holds.true
-
-returns-4 : tie.Need-returns-else-holds
-returns-4 c =
-    let s = c.before.before in
-    let a = s.before.before in
-    unsat _ a.before.check.ensures a.in-Accepted.is s.before.size_at.ensures s.if-size_at-gt-MOST.false c.before.holds.ensures c.if-holds.false
+    unsat _ a.before.check.ensures a.in-Accepted.is s.before.size_at.ensures (omega arith) c.before.holds.ensures c.if-holds.false
 
 pub solve_spec : {M : Type 1} → statement M
 solve_spec =
@@ -39,6 +35,7 @@ solve_spec =
     (λ c κs. search rules)
     holds-requires
     returns
+    (λ c. let a = c.before.before in
+    too_many _ a.before.check.ensures a.in-Accepted.is c.before.size_at.ensures (omega arith))
     returns-2
-    returns-3
-    returns-4)
+    returns-3)
