@@ -25,26 +25,11 @@ use Rattle.session.specs.Witnessed.{Witnessed, history_shows}
 use Rattle.counted.specs.Lent.{Lent, lent}
 use Rattle.counted.specs.Counted.{counted_of}
 use Rattle.counted.proofs.Runs.{counted_is_run, counted_refused_leaves}
-
--- a step or a run, or a counted run with the buffers that it is lent besides
-pub data AnyCall : Type 0 where
-  plain : Call → AnyCall
-  counted : Revision → ℕ → List ℤ → List ℕ → List ℕ → List ℕ → AnyCall
+use Rattle.counted.specs.Mixed.{AnyCall, plain, counted, counted_at, any_call, play_any}
 
 module _ (L : Limits) (b : List ℤ) where
-  abbrev pub counted_at : Desk → Revision → ℕ → List ℤ → List ℕ → List ℕ → List ℕ → Outcome Lent Ran
-  counted_at d seen budget preferred ts os ix = counted_of L d.latest b (lent d.memory ts os ix) seen budget preferred
-
-  unfoldable pub any_call : Desk → AnyCall → Desk
-  any_call d (plain c) = call L b d c
-  any_call d (counted seen budget preferred ts os ix) = let o = counted_at d seen budget preferred ts os ix in after_run d o.answer o.memory.memory
-
-  unfoldable pub play_any : Desk → List AnyCall → Desk
-  play_any d [] = d
-  play_any d (c ∷ cs) = play_any (any_call d c) cs
-
   -- ---- any call is a step, a run, or none
-  pub is_call : (d : Desk) (c : AnyCall) → (calls : List Call) × (play L b d calls ≡ any_call d c)
+  pub is_call : (d : Desk) (c : AnyCall) → (calls : List Call) × (play L b d calls ≡ any_call L b d c)
   unfolding play any_call call
   is_call d (plain c) = (c ∷ [], refl)
   is_call d (counted seen budget preferred ts os ix) = go o.answer refl
@@ -53,7 +38,7 @@ module _ (L : Limits) (b : List ℤ) where
       w = lent d.memory ts os ix
 
       o : Outcome Lent Ran
-      o = counted_at d seen budget preferred ts os ix
+      o = counted_at L b d seen budget preferred ts os ix
 
       go : (a : Ran) → o.answer ≡ a → (calls : List Call) × (play L b d calls ≡ after_run d a o.memory.memory)
       go (Until s' n k) e =
@@ -66,12 +51,12 @@ module _ (L : Limits) (b : List ℤ) where
   play_more [] ds d = refl
   play_more (c ∷ cs) ds d = play_more cs ds (call L b d c)
 
-  pub are_calls : (cs : List AnyCall) (d : Desk) → (calls : List Call) × (play L b d calls ≡ play_any d cs)
+  pub are_calls : (cs : List AnyCall) (d : Desk) → (calls : List Call) × (play L b d calls ≡ play_any L b d cs)
   unfolding play play_any
   are_calls [] d = ([], refl)
   are_calls (c ∷ cs) d =
       let (first, e) = is_call d c in
-      let (more, f) = are_calls cs (any_call d c) in
+      let (more, f) = are_calls cs (any_call L b d c) in
       (first ++ more, play_more first more d ∙ ap (λ (x : Desk). play L b x more) e ∙ f)
 
 -- ---- after an accepted opening

@@ -11,3 +11,5 @@ pub mod Promises
 pub mod Rows
 -- what functions say to each other
 pub mod Inner
+-- any calls, counted runs among them
+pub mod Mixed

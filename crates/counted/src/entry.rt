@@ -2,7 +2,7 @@
 ghost use Rattle.std.specs.Prelude.{◌≡◌, ◌≤◌, ◌<◌, pos, get_or, take};
 ghost use Rattle.formula.specs.Inner.Places.{literal_places};
 ghost use Rattle.theory.specs.Record.{among};
-ghost use Rattle.theory.proofs.Laws.Assignment.{put};
+ghost use Rattle.theory.specs.Grown.{put};
 ghost use Rattle.counted.specs.Inner.Index.{start_at, part_at, Parts};
 ghost use Rattle.counted.specs.Inner.State.{SetFrom};
 ghost use Rattle.counted.specs.Inner.Entry.{Setting, Unsetting, Taking};

@@ -14,6 +14,7 @@ use Rattle.grammar.specs.Reads.{taken, Read, spelled, misfit, reads}
 use Rattle.grammar.proofs.Laws.Left.{sound}
 use Rattle.grammar.proofs.Laws.Taken.{complete}
 use Rattle.grammar.proofs.Laws.Viable.{last_is, fresh_state, dead_is, reach_append, reach_dead, viable}
+use Rattle.grammar.specs.Misfit.{Misfit}
 
 -- ---- the answer by the state
 no_misfit {ℓ} : {A : Type ℓ} {i : ℕ} {t : Text} → misfit i ≡ spelled t → A
@@ -41,14 +42,6 @@ reads_all bs t h = let (more, e) = complete h in rw (e, hear_say t)
 -- so no bytes spell two texts
 pub one_text : (bs : List ℕ) (t u : Text) → Spells bs t → Spells bs u → t ≡ u
 one_text bs t u h k = let e = reads_all bs t h in let f = reads_all bs u k in cc
-
--- ---- [row.27] the first byte at which no text can go on, or the length
-pub record Misfit (bs : List ℕ) (i : ℕ) : Type 0 where
-  -- the bytes do not spell a text; the first i begin one; the first i + 1, if there are so many, begin none
-  pub no_text : (t : Text) → Spells bs t → ⊥
-  pub in_text : i ≤ length bs
-  pub goes_on : (rest : List ℕ) × (t : Text) × Spells (take i bs ++ rest) t
-  pub stops : i < length bs → (rest : List ℕ) (t : Text) → Spells (take (suc i) bs ++ rest) t → ⊥
 
 -- how far the machine comes: through, or to a byte at which it dies
 pub data Course (s : State) (bs : List ℕ) (at : ℕ) : Type 0 where

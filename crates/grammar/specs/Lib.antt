@@ -10,3 +10,5 @@ pub mod Reads
 pub mod Written
 -- what each function promises, and that it leaves one answer
 pub mod Promises
+-- where a text stops being one
+pub mod Misfit

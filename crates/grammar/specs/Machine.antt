@@ -1,7 +1,7 @@
 -- The machine that reads a text byte by byte: a state, which remembers where in a line it is, and a number, the value of the digits so far. What it has
 -- read it says, in events. What may begin at a place is a table.
 use Rattle.std.specs.Prelude.{Bool, true, false, cond, ◌||◌, List, [], ◌∷◌, ◌++◌, ℕ, ◌+◌, ◌*◌, ◌-◌, eqb, ℤ, pos, neg_ℤ}
-use Rattle.grammar.specs.Grammar.{Quantifier, forall, exists, tab, feed, space, '_', '0', 'a', 'c', 'e', 'f', 'n', 'p', digit, nonzero, printable}
+use Rattle.grammar.specs.Grammar.{Quantifier, forall, exists, tab, feed, space, '-', '0', 'a', 'c', 'e', 'f', 'n', 'p', digit, nonzero, printable}
 use Rattle.grammar.specs.declared.Place.{Place}
 use Rattle.grammar.specs.declared.Place.TheVariants.{AtHead, AtCnf, AtFirst, AtSecond, AtLine, AtNumber, AtNumbers, AtLiterals, AtEnd}
 use Rattle.grammar.specs.declared.Slot.{Slot}
@@ -32,7 +32,7 @@ pub data Row : Type 0 where
   starts : Slot → Row
 
 abbrev pub clause_rows : List Row → List Row
-clause_rows rs = starts (OfClause false) ∷ on '0' (saying Ends (Before (AtEnd false))) ∷ on '_' (silent AfterMinus) ∷ rs
+clause_rows rs = starts (OfClause false) ∷ on '0' (saying Ends (Before (AtEnd false))) ∷ on '-' (silent AfterMinus) ∷ rs
 
 unfoldable pub rows : Place → List Row
 rows AtHead = on 'c' (silent Remark) ∷ on 'p' (silent (Parted AtCnf)) ∷ []

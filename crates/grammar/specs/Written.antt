@@ -1,6 +1,6 @@
 -- [write] A tree written as a text: the problem line, a line for each group, a line for each clause, and nothing else.
 use Rattle.std.specs.Prelude.{cond, List, [], ◌∷◌, ◌++◌, map, ℕ, zero, suc, ◌+◌, ◌/◌, ◌%◌, leb, ℤ, pos, negsuc}
-use Rattle.grammar.specs.Grammar.{Quantifier, forall, exists, Group, Text, feed, space, '_', '0', 'a', 'c', 'e', 'f', 'n', 'p'}
+use Rattle.grammar.specs.Grammar.{Quantifier, forall, exists, Group, Text, feed, space, '-', '0', 'a', 'c', 'e', 'f', 'n', 'p'}
 
 -- [write.number] the digits of n; the first number bounds how many there are
 unfoldable pub digits_of : ℕ → ℕ → List ℕ
@@ -12,7 +12,7 @@ numeral n = digits_of (suc n) n
 
 unfoldable pub literal : ℤ → List ℕ
 literal (pos n) = numeral n
-literal (negsuc n) = '_' ∷ numeral (suc n)
+literal (negsuc n) = '-' ∷ numeral (suc n)
 
 -- [write.lines] a line that 0 ends: its words, each with a space behind it, then 0 and a line feed
 unfoldable pub line : List (List ℕ) → List ℕ

@@ -16,11 +16,7 @@ use Rattle.listing.specs.Opening.{openings, opening_end}
 use Rattle.listing.specs.Page.{PageMemory, page_refusal, paged, page_from, sheet_of, page_of}
 use Rattle.listing.specs.Rows.{page_guarded, page_binds}
 use Rattle.listing.proofs.Laws.Beyond.{same_end}
-
--- the same answer, and the same output
-pub record SamePage (o o' : Outcome PageMemory Paged) : Type 0 where
-  pub answer : o.answer ≡ o'.answer
-  pub output : o.memory.output ≡ o'.memory.output
+use Rattle.listing.specs.Pages.{SamePage}
 
 -- two memories with the same output, of which both or none break row 11
 module _ (L : Limits) (b : List ℤ) (m m' : PageMemory) (buffers : short b (record_places m.work) ≡ short b (record_places m'.work)) (output : m.output ≡ m'.output) (start : ℕ) where

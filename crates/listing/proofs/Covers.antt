@@ -22,6 +22,7 @@ use Rattle.listing.specs.Opening.{openings, values_of}
 use Rattle.listing.specs.Page.{first_universal}
 use Rattle.listing.proofs.Laws.Values.{values_one, values_zero, below_both, group_length}
 use Rattle.listing.specs.Wins.{wins, winners, entries, listing, winners_exactly}
+use Rattle.listing.specs.Onto.{onto}
 
 -- ---- truth depends on which literals are true, and not on their order
 truth_among : (p : List ℤ) (m : List (List ℤ)) (σ τ : List ℤ) → among σ ≡ among τ → truth p m σ ≡ truth p m τ
@@ -31,11 +32,6 @@ truth_among (q ∷ p) m σ τ e = rw (truth_among p m (q ∷ σ) (q ∷ τ) (gro
   where
     grow : (l : ℤ) → among (l ∷ σ) ≡ among (l ∷ τ)
     grow l = fun_ext (λ x. ap (λ (ρ : ℤ → Bool). eq_z x l || ρ x) e)
-
--- literals made true one after the other, so the newest stands first
-unfoldable pub onto : List ℤ → List ℤ → List ℤ
-onto [] σ = σ
-onto (v ∷ vs) σ = onto vs (v ∷ σ)
 
 onto_among : (vs σ : List ℤ) (x : ℤ) → mem x (onto vs σ) ≡ (mem x vs || mem x σ)
 unfolding onto mem

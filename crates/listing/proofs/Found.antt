@@ -19,13 +19,7 @@ use Rattle.session.specs.Witnessed.{history_shows}
 use Rattle.listing.specs.Opening.{openings, values_of}
 use Rattle.listing.specs.Wins.{wins}
 use Rattle.listing.proofs.Laws.Values.{number_of, group_length}
-
--- the values that the desk's record shows are those of an opening, which wins or loses as v says
-pub record Found (b : List ℤ) (d : Desk) (v : Bool) : Type 0 where
-  pub opening : ℕ
-  pub below : opening < openings (formula_of b)
-  pub values : values_of opening (group_of (formula_of b)) ≡ witness_of (formula_of b) (record_in (search_at d))
-  pub won : wins (formula_of b) opening ≡ v
+use Rattle.listing.specs.Found.{Found}
 
 module _ (L : Limits) (b : List ℤ) (m : Memory) (rev : Revision) (s : Session) (a : (open_outcome L b m rev).answer ≡ To s) (calls : List Call) where
   found : (v : Bool) → let d = play L b (fresh_desk L b m rev s) calls in d.latest.state ≡ verdict_of v → Found b d v

@@ -10,5 +10,9 @@ pub mod Rows
 -- what is claimed of an accepted page; the openings that win, and the listing of them
 pub mod Claims
 pub mod Wins
+-- any list of pages, and what is claimed of it; the opening that an ended session shows
+pub mod Pages
+pub mod Found
 -- what functions say to each other
+pub mod Onto
 pub mod Inner

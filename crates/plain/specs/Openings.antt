@@ -8,8 +8,10 @@ use Rattle.formula.specs.Formula.{Formula, first_group, formula_of}
 use Rattle.theory.specs.Witness.{group_of}
 use Rattle.listing.specs.Opening.{openings, values_of}
 use Rattle.listing.specs.Wins.{winners, entries, winners_exactly}
-use Rattle.listing.proofs.AllPages.{Given, pages_from0, any_pages}
-use Rattle.listing.proofs.Covers.{onto, wins_onto}
+use Rattle.listing.proofs.AllPages.{any_pages}
+use Rattle.listing.specs.Pages.{Given, pages_from0}
+use Rattle.listing.proofs.Covers.{wins_onto}
+use Rattle.listing.specs.Onto.{onto}
 use Rattle.plain.specs.Solve.{holds_from}
 
 -- an entry of the opening n is among those of a listing's words

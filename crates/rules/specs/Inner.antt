@@ -6,3 +6,5 @@ pub mod Variables
 pub mod Lent
 -- what the tables say of the record
 pub mod Tabled
+-- what they mean of a clause
+pub mod Meant

@@ -16,6 +16,7 @@ use Rattle.reader.specs.Keep.{capped, keep, keeps}
 use Rattle.reader.specs.Byte.{byte_of}
 use Rattle.text.specs.Pieces.{piece_of, begun}
 use Rattle.saved.specs.Numbers.{bit_of, bit_number, place_of, place_number, slot_of, slot_number, state_of, kind_number, held_number, kept_of, reader_numbers, reader_of, written}
+use Rattle.saved.specs.Within.{KeptWithin, Within}
 
 -- a truth as a byte
 pub bit : (p : Bool) → bit_number p ≡ bool_byte p
@@ -60,18 +61,6 @@ state_back AfterC = refl
 state_back AfterCn = refl
 state_back AfterMinus = refl
 state_back Dead = refl
-
--- ---- a reader whose numbers are within the cap, as all are that the calls give
-pub record KeptWithin (k : Kept) : Type 0 where
-  pub variables : capped k.variables ≡ k.variables
-  pub count : capped k.count ≡ k.count
-  pub bound : capped k.bound ≡ k.bound
-  pub clauses : capped k.clauses ≡ k.clauses
-  pub literals : capped k.literals ≡ k.literals
-
-pub record Within (r : Reader) : Type 0 where
-  pub number : capped r.number ≡ r.number
-  pub kept : KeptWithin r.kept
 
 pub comes_back : (r : Reader) (s : List ℕ) → Within r → 12 ≤ length s → reader_of (written r s) ≡ r
 unfolding reader_of kept_of

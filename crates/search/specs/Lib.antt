@@ -4,3 +4,5 @@
 pub mod Run
 -- what each function promises, and that it leaves one result
 pub mod Promises
+-- what a due rule names is there
+pub mod Named

@@ -26,7 +26,8 @@ use Rattle.session.specs.History.{fresh_desk, history_kept}
 use Rattle.listing.specs.Opening.{openings, values_of}
 use Rattle.listing.specs.Page.{first_universal}
 use Rattle.listing.specs.Wins.{wins}
-use Rattle.listing.proofs.Found.{Found, valid_wins, unsat_loses}
+use Rattle.listing.proofs.Found.{valid_wins, unsat_loses}
+use Rattle.listing.specs.Found.{Found}
 use Rattle.shown.specs.declared.Told.TheVariants.{Values}
 use Rattle.shown.specs.Shown.{no_witness, of_shown, shown_refusal, shown_of}
 

@@ -25,6 +25,7 @@ use Rattle.laid.specs.Laws.Completed.{those_in, completed_length}
 use Rattle.laid.specs.Laws.Parts.{laid_length}
 use Rattle.text.proofs.Laws.Block.{ends_length, tree_formula, tree_rows_lem}
 use Rattle.text.proofs.Laws.Settled.{Fit, fit, Bound, bound}
+use Rattle.text.specs.Accepted.{AcceptedText}
 
 -- ---- a variable that no clause names: both of its values come to the same
 apart : (l w : ℤ) (ws : List ℤ) → (nat_abs l ≡ nat_abs w → ⊥) → mem l (w ∷ ws) ≡ mem l ws
@@ -80,17 +81,6 @@ module _ (t : Text) (b : Bound t) where
           let u = those_in (idle (words_of t.groups) (literals_of t.clauses)) 1 t.variables w i in
           let v = u.number in
           rw u.word (record { some = refl; unnamed = not_t (any (names v) (literals_of t.clauses)) (and_r (not (any (names v) (words_of t.groups))) (not (any (names v) (literals_of t.clauses))) u.passes) })
-
--- ---- an accepted text
-pub record AcceptedText (L : Limits) (bs : List ℕ) (o : List ℤ) (n : ℕ) : Type 0 where
-  pub tree : Text
-  pub spells : Spells bs tree
-  -- the whole output: the block, and 0 past it
-  pub output : (read_of L bs o).memory ≡ block_of tree ++ zeros (length o - n)
-  pub long : length (block_of tree) ≡ n
-  -- it passes the block's check, and has the text's meaning
-  pub passes : refusal L (block_of tree) ≡ 0
-  pub meaning : true? (formula_of (block_of tree)) ≡ true? (own_formula tree)
 
 block_length : (t : Text) → Bound t → length (block_of t) ≡ 6 + t.variables + length t.clauses + length (literals_of t.clauses)
 unfolding block_of

@@ -8,3 +8,5 @@ pub mod Pieces
 pub mod Promises
 -- what functions say to each other
 pub mod Inner
+-- what is claimed of an accepted text
+pub mod Accepted

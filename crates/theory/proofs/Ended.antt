@@ -18,7 +18,8 @@ use Rattle.theory.specs.Tests.{in_conflict, conflict}
 use Rattle.theory.specs.Rules.{going, valid, unsat, verdict, MonotoneTest, Within, StepBy, fail, succeed, PathBy}
 use Rattle.theory.specs.Start.{true_under}
 use Rattle.theory.specs.Witness.{group_of, rest_of, below, conflicting, shown_true, signed, witness_of}
-use Rattle.theory.proofs.Laws.Assignment.{after, true_append}
+use Rattle.theory.proofs.Laws.Assignment.{true_append}
+use Rattle.theory.specs.Grown.{after}
 use Rattle.theory.proofs.Laws.Value.{value_rest, value_under, value_of}
 use Rattle.theory.proofs.Laws.Tested.{dead_e, dead_i}
 use Rattle.theory.proofs.Laws.Conflict.{conflict_law, leaf_law}

@@ -28,17 +28,9 @@ use Rattle.theory.proofs.Laws.Monotone.{open_within, whole_within}
 use Rattle.theory.proofs.Laws.Invariant.{invariant_start, holds_path}
 use Rattle.theory.proofs.Laws.Moves.{good_none, path_append, path_snoc}
 use Rattle.theory.proofs.Laws.Work.{free, good_taken, nodes_up, work, forced_owed, step_less, path_work}
-use Rattle.theory.proofs.Laws.First.{Last, last, First, first, first_open_lem}
-
--- [order] What is claimed of the paths from a start: fewer than `limit` rules, and the answer is `answer`.
-pub record AnyOrder (μ : MonotoneTest) (F : Formula) (start : Record) (limit : ℕ) (answer : Bool) : Type 0 where
-  -- [order.ends] Every such path is finite, and has fewer rules still while it is open.
-  pub short : {n : ℕ} {s : State} → PathBy μ F n (going start) s → n < limit
-  pub fewer : {n : ℕ} {r : Record} → PathBy μ F n (going start) (going r) → suc n < limit
-  -- [order.right] Its end agrees with the truth: if it ended valid the answer is true, if unsat false.
-  pub right : (b : Bool) {n : ℕ} → PathBy μ F n (going start) (verdict b) → answer ≡ b
-  -- [order.ends] And it can be continued until it ends.
-  pub goes_on : {n : ℕ} {s : State} → PathBy μ F n (going start) s → (m : ℕ) × PathBy μ F m s (verdict answer)
+use Rattle.theory.proofs.Laws.First.{last, first, first_open_lem}
+use Rattle.theory.specs.Met.{Last, First}
+use Rattle.theory.specs.Order.{AnyOrder}
 
 -- ---- finite: a path from k forced entries of distinct variables of the prefix has at most 2^(V+1-k) - 1 rules
 pub finite : {μ : MonotoneTest} → Within μ → (F : Formula) (r : Record) → Good F r → forced r ≡ true

@@ -6,3 +6,8 @@ pub mod Tests
 pub mod Rules
 pub mod Start
 pub mod Witness
+-- what is claimed of the rules in any order
+pub mod Order
+-- assignments that grow; what a test that is met says
+pub mod Grown
+pub mod Met

@@ -8,7 +8,7 @@ use Rattle.words.specs.Laws.Lists.{all_i}
 use Rattle.words.specs.declared.Literal.{Literal}
 use Rattle.theory.specs.Record.{Assignment, assigned}
 use Rattle.theory.specs.Tests.{is_open, all_assigned}
-use Rattle.theory.proofs.Laws.First.{First}
+use Rattle.theory.specs.Met.{First}
 use Rattle.record.specs.Found.{literal}
 use Rattle.choice.specs.First.{on_picked, first_of, first_unassigned}
 use Rattle.choice.specs.Preferred.{first_open}

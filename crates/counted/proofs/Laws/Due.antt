@@ -27,7 +27,7 @@ use Rattle.record.specs.Inner.Ready.{Bound}
 use Rattle.rules.specs.Inner.Tabled.{Tabled}
 use Rattle.record.proofs.Laws.Accepted.{kept_true, kept_written, prefix_few, accepted_bound}
 use Rattle.rules.proofs.Laws.ClausesReady.{kept_tabled}
-use Rattle.rules.proofs.Laws.ClausesMean.{Meant}
+use Rattle.rules.specs.Inner.Meant.{Meant}
 use Rattle.tables.specs.Laws.Levels.{level_at_lem}
 use Rattle.record.specs.declared.rule.Rule.{Rule}
 use Rattle.record.specs.declared.rule.Rule.TheVariants.{Unit}

@@ -16,7 +16,8 @@ use Rattle.formula.specs.Inner.Places.{place_of}
 use Rattle.formula.specs.Laws.Permuted.{quantifier}
 use Rattle.formula.specs.Laws.Prefix.{stands, fresh_at}
 use Rattle.theory.specs.Record.{among, assigned}
-use Rattle.theory.proofs.Laws.Assignment.{put, assigned_among}
+use Rattle.theory.proofs.Laws.Assignment.{assigned_among}
+use Rattle.theory.specs.Grown.{put}
 use Rattle.tables.specs.Inner.ByLiteral.{status_in}
 use Rattle.counted.specs.Fresh.{bit}
 use Rattle.counted.specs.Inner.Entry.{Setting, Taking, Unsetting}

@@ -15,7 +15,8 @@ use Rattle.formula.specs.Formula.{existential, level}
 use Rattle.formula.specs.Block.{repeats}
 use Rattle.theory.specs.Record.{Assignment, assigned}
 use Rattle.theory.specs.Tests.{unassigned_existential, unassigned_universal, in_conflict, is_only, is_deeper, unit_on}
-use Rattle.theory.proofs.Laws.Assignment.{put, assigned_var, assigned_put}
+use Rattle.theory.proofs.Laws.Assignment.{assigned_var, assigned_put}
+use Rattle.theory.specs.Grown.{put}
 use Rattle.theory.proofs.Laws.Tested.{unassigned_existential_i, unit_e}
 use Rattle.rules.specs.Due.{candidate, is_unit}
 use Rattle.counted.specs.Fresh.{opens, bit, count_if, trues}

@@ -1,7 +1,7 @@
 -- The steps of a counted search: one entry counted, one step, the numbers at the end.
 use Rattle.std.specs.Prelude.{ℕ, ◌≡◌, refl, true, false, List, ℤ, pos, get_or, take}
 use Rattle.theory.specs.Record.{among}
-use Rattle.theory.proofs.Laws.Assignment.{put}
+use Rattle.theory.specs.Grown.{put}
 use Rattle.record.specs.declared.rule.State.{State}
 use Rattle.search.specs.Run.{over}
 use Rattle.counted.specs.Inner.Entry.{Setting}

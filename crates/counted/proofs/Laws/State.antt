@@ -12,7 +12,7 @@ use Rattle.formula.specs.Formula.{existential}
 use Rattle.formula.specs.Inner.Places.{place_of}
 use Rattle.theory.specs.Record.{Assignment, assigned}
 use Rattle.theory.specs.Tests.{unassigned_existential, in_conflict}
-use Rattle.theory.proofs.Laws.Assignment.{put}
+use Rattle.theory.specs.Grown.{put}
 use Rattle.clauses.specs.Lowest.{lowest}
 use Rattle.rules.specs.Due.{is_unit}
 use Rattle.rules.specs.Inner.Tabled.{Sorted}

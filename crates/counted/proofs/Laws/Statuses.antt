@@ -14,7 +14,8 @@ use Rattle.formula.specs.Laws.Places.{place_within, place_opposite}
 use Rattle.formula.specs.Laws.Prefix.{existential_neg, universal_neg}
 use Rattle.theory.specs.Record.{Assignment, assigned}
 use Rattle.theory.specs.Tests.{unassigned_existential, unassigned_universal}
-use Rattle.theory.proofs.Laws.Assignment.{assigned_neg, put_new, put, assigned_own}
+use Rattle.theory.proofs.Laws.Assignment.{assigned_neg, put_new, assigned_own}
+use Rattle.theory.specs.Grown.{put}
 use Rattle.tables.specs.Inner.ByLiteral.{status_in}
 use Rattle.rules.specs.Inner.Tabled.{Sorted, as_false, Sorts, as_true, as_existential, as_universal}
 use Rattle.counted.proofs.Laws.Held.{place_same}

@@ -14,7 +14,7 @@ use Rattle.formula.specs.Block.{repeats}
 use Rattle.formula.specs.Inner.Named.{Named}
 use Rattle.formula.specs.Laws.Clauses.{clauses_in}
 use Rattle.theory.specs.Record.{Assignment, among, assigned}
-use Rattle.theory.proofs.Laws.Assignment.{put}
+use Rattle.theory.specs.Grown.{put}
 use Rattle.clauses.specs.Lowest.{lowest}
 use Rattle.rules.specs.Due.{is_unit}
 use Rattle.clauses.proofs.Laws.Lowest.{lowest_none}

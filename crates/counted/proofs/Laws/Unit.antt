@@ -13,7 +13,8 @@ use Rattle.theory.specs.Tests.{unassigned_existential, unassigned_universal}
 use Rattle.rules.specs.Due.{candidate, is_unit}
 use Rattle.rules.specs.Inner.Tabled.{Sorted, as_false, as_true, as_existential, as_universal}
 use Rattle.record.specs.Inner.Tables.{places}
-use Rattle.rules.proofs.Laws.ClausesMean.{Meant, AllMeant, ltb_min}
+use Rattle.rules.proofs.Laws.ClausesMean.{ltb_min}
+use Rattle.rules.specs.Inner.Meant.{Meant, AllMeant}
 use Rattle.counted.specs.Fresh.{count_if}
 use Rattle.counted.specs.Inner.Numbers.{with_status}
 use Rattle.counted.specs.Inner.Unit.{above, last_open}

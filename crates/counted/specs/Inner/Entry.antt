@@ -4,7 +4,7 @@ use Rattle.formula.specs.Limits.{limits}
 use Rattle.formula.specs.Block.{twice}
 use Rattle.formula.specs.Inner.Named.{Named}
 use Rattle.theory.specs.Record.{Assignment, among, assigned}
-use Rattle.theory.proofs.Laws.Assignment.{put}
+use Rattle.theory.specs.Grown.{put}
 use Rattle.record.specs.Inner.Ready.{Bound}
 use Rattle.record.specs.Inner.Tables.{Quantifiers}
 use Rattle.counted.specs.Inner.Index.{Index}

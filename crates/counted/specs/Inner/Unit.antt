@@ -8,7 +8,7 @@ use Rattle.record.specs.Found.{literal}
 use Rattle.tables.specs.Inner.ByLiteral.{status_in}
 use Rattle.clauses.specs.Inner.Clauses.{level_by, Clauses}
 use Rattle.record.specs.Inner.Tables.{places}
-use Rattle.rules.proofs.Laws.ClausesMean.{AllMeant}
+use Rattle.rules.specs.Inner.Meant.{AllMeant}
 use Rattle.choice.specs.declared.found.Picked.{Picked}
 use Rattle.choice.specs.declared.found.Picked.TheVariants.{Is, NoLiteral}
 use Rattle.counted.specs.Inner.State.{AllOnce, Counted}

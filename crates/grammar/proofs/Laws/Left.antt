@@ -7,7 +7,7 @@ use Rattle.std.proofs.Math.Bool.{true, false}
 use mathlib.Core.List.{List, [], ◌∷◌, ◌++◌}
 use Rattle.std.proofs.Math.Dec.{eqb}
 use Rattle.words.specs.Laws.Bools.{or_e, eqb_eq}
-use Rattle.grammar.specs.Grammar.{Quantifier, Group, Text, tab, feed, space, '_', '0', 'c', 'f', 'n', 'p', digit, nonzero, printable}
+use Rattle.grammar.specs.Grammar.{Quantifier, Group, Text, tab, feed, space, '-', '0', 'c', 'f', 'n', 'p', digit, nonzero, printable}
 use Rattle.grammar.specs.Grammar.{Blank, a_space, a_tab, Blanks, no_blank, a_blank, Gap, gap, Close, close, Digits, no_digit, a_digit, Positive, positive, Number, nought, above, Literal, plain, minus, Printables, no_more, a_byte, Comment, comment, problem, Numbers, no_number, a_number, Letter, all, some, GroupLine, group, Literals, no_literal, a_literal, ClauseLine, clause, no_comment, a_comment, Groups, no_group, a_group, Clauses, no_clause, a_clause, Spells, text}
 use Rattle.grammar.specs.declared.Place.{Place}
 use Rattle.grammar.specs.declared.Place.TheVariants.{AtHead, AtCnf, AtFirst, AtSecond, AtLine, AtNumber, AtNumbers, AtLiterals, AtEnd}
@@ -68,7 +68,7 @@ remark_at (left_remark p b a) = at_comment p b a
 cnf_at : {v : ℕ} {bs : List ℕ} {es : List Event} → Left AfterC v bs es → At AtCnf ('c' ∷ bs) es
 cnf_at (left_c g a) = at_cnf g a
 
-minus_at : {v : ℕ} {bs : List ℕ} {es : List Event} → Left AfterMinus v bs es → At AtLiterals ('_' ∷ bs) es
+minus_at : {v : ℕ} {bs : List ℕ} {es : List Event} → Left AfterMinus v bs es → At AtLiterals ('-' ∷ bs) es
 minus_at (left_minus p g a) = at_literal (minus p) g a
 
 ending_at : {v : ℕ} {more : Bool} {bs : List ℕ} {es : List Event} → Left (Fresh more) v bs es → At (AtEnd more) (feed ∷ bs) es

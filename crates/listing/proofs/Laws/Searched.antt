@@ -10,7 +10,8 @@ use Rattle.theory.specs.Start.{true_under}
 use Rattle.theory.proofs.Laws.Group.{rest_group}
 use Rattle.theory.specs.Rules.{going, Path}
 use Rattle.theory.proofs.Laws.Monotone.{open_within}
-use Rattle.theory.proofs.Theorem.{AnyOrder, any_order_from}
+use Rattle.theory.proofs.Theorem.{any_order_from}
+use Rattle.theory.specs.Order.{AnyOrder}
 use Rattle.theory.specs.Witness.{group_of}
 use Rattle.record.specs.declared.rule.State.TheVariants.{Open, Valid, Unsat}
 use Rattle.record.specs.Search.{standing_of}

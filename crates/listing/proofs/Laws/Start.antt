@@ -11,7 +11,8 @@ use Rattle.formula.specs.Laws.Prefix.{stands, stands_i, stands_append, stands_bo
 use Rattle.theory.specs.Record.{entry, Record, forced}
 use Rattle.theory.specs.Start.{suits, all_suit, Good}
 use Rattle.theory.specs.Witness.{group_of}
-use Rattle.theory.proofs.Laws.Assignment.{given, given_literals}
+use Rattle.theory.proofs.Laws.Assignment.{given_literals}
+use Rattle.theory.specs.Grown.{given}
 use Rattle.theory.proofs.Laws.Group.{twice_take}
 use Rattle.record.specs.Trail.{Trail, wiped, no_entry}
 use Rattle.record.specs.Search.{record_in}

@@ -29,6 +29,7 @@ use Rattle.choice.specs.declared.found.Picked.TheVariants.{Is, NoLiteral}
 use Rattle.record.specs.declared.found.Found.TheVariants.{At}
 use Rattle.clauses.specs.declared.found.UnitFound.TheVariants.{On, NoUnit}
 use Rattle.record.specs.Inner.Tables.{places}
+use Rattle.rules.specs.Inner.Meant.{Meant, AllMeant}
 
 pub ltb_min : (a b c : ℕ) → ltb a (min b c) ≡ (ltb a b && ltb a c)
 ltb_min a b c = go (look (ltb a b)) (look (ltb a c))
@@ -80,14 +81,6 @@ module _ (p : List ℤ) (ρ : Assignment) (st : ℤ → ℕ) where
 
 -- and lev its level
 module _ (p : List ℤ) (ρ : Assignment) (st lev : ℤ → ℕ) where
-  pub record Meant (x : ℤ) : Type 0 where
-    pub sorted : Sorted p ρ st x
-    pub at : lev x ≡ level p x
-    pub low : level p x < places
-
-  abbrev pub AllMeant : List ℤ → Type 0
-  AllMeant C = (x : ℤ) → In x C → Meant x
-
   -- every unassigned existential literal is l; every unassigned universal one is at a higher level than l
   abbrev only_existential : ℤ → List ℤ → Bool
   only_existential l C = all (λ x. not (unassigned_existential p ρ x) || eq_z x l) C
@@ -95,7 +88,7 @@ module _ (p : List ℤ) (ρ : Assignment) (st lev : ℤ → ℕ) where
   abbrev higher_universal : ℤ → List ℤ → Bool
   higher_universal l C = all (λ x. not (unassigned_universal p ρ x) || ltb (level p l) (level p x)) C
 
-  stays_means : (l : ℤ) → lev l ≡ level p l → (above : ℕ) (C : List ℤ) → mem l C ≡ false → AllMeant C → stays_unit st lev l above C ≡ (not (any ρ C) && only_existential l C && (ltb (level p l) above && higher_universal l C))
+  stays_means : (l : ℤ) → lev l ≡ level p l → (above : ℕ) (C : List ℤ) → mem l C ≡ false → AllMeant p ρ st lev C → stays_unit st lev l above C ≡ (not (any ρ C) && only_existential l C && (ltb (level p l) above && higher_universal l C))
   unfolding stays_unit any all
   stays_means l q above [] o h = rw q (sym (and-true (ltb (level p l) above)))
   stays_means l q above (x ∷ C) o h = go (h x (here refl)).sorted (h x (here refl)).at (λ n. stays_means l q n C later (λ y i. h y (there i)))
@@ -132,7 +125,7 @@ module _ (p : List ℤ) (ρ : Assignment) (st lev : ℤ → ℕ) where
   abbrev stated : ℕ → ℤ → List ℤ → ℤ → Type 0
   stated above x C z = unit_literal (sight_from st lev above (x ∷ C)) ≡ taken (unit_in above (x ∷ C) z) z
 
-  from_means : (above : ℕ) (C : List ℤ) → repeats C ≡ false → AllMeant C → unit_literal (sight_from st lev above C) ≡ taken (unit_in above C (candidate p ρ C)) (candidate p ρ C)
+  from_means : (above : ℕ) (C : List ℤ) → repeats C ≡ false → AllMeant p ρ st lev C → unit_literal (sight_from st lev above C) ≡ taken (unit_in above C (candidate p ρ C)) (candidate p ρ C)
   unfolding sight_from candidate any all repeats
   from_means above [] o h = refl
   from_means above (x ∷ C) o h = go (h x (here refl)).sorted (h x (here refl)).at (λ n. from_means n C (or_fr (mem x C) (repeats C) o) (λ y i. h y (there i)))
@@ -156,7 +149,7 @@ module _ (p : List ℤ) (ρ : Assignment) (st lev : ℤ → ℕ) where
       go (inl e) ih = rw e (here refl, e)
       go (inr e) ih = let r = ih (rw e at h) in rw e (there r.0, r.1)
 
-  unit_in_lem : (C : List ℤ) → AllMeant C → unit_in places C (candidate p ρ C) ≡ is_unit p ρ C
+  unit_in_lem : (C : List ℤ) → AllMeant p ρ st lev C → unit_in places C (candidate p ρ C) ≡ is_unit p ρ C
   unfolding unit_on
   unit_in_lem C h = go (look (any (unassigned_existential p ρ) C))
     where
@@ -169,11 +162,11 @@ module _ (p : List ℤ) (ρ : Assignment) (st lev : ℤ → ℕ) where
           let none = to_false (mem l C && unassigned_existential p ρ l) (λ b. clash (any_i (unassigned_existential p ρ) (mem_e l C (and_l (mem l C) (unassigned_existential p ρ l) b)) (and_r (mem l C) (unassigned_existential p ρ l) b)) e) in
           rw (e, none, and-false (not (any ρ C)))
 
-  unit_means : (C : List ℤ) → repeats C ≡ false → AllMeant C → unit_literal (sight_from st lev places C) ≡ taken (is_unit p ρ C) (candidate p ρ C)
+  unit_means : (C : List ℤ) → repeats C ≡ false → AllMeant p ρ st lev C → unit_literal (sight_from st lev places C) ≡ taken (is_unit p ρ C) (candidate p ρ C)
   unit_means C o h = from_means places C o h ∙ ap (λ b. taken b (candidate p ρ C)) (unit_in_lem C h)
 
   -- the lowest unit clause. G is the candidate by the clause's number
-  lowest_from : (n : ℕ) (m : List (List ℤ)) → any repeats m ≡ false → ((C : List ℤ) → In C m → AllMeant C) → (G : ℕ → ℤ) → ((i : ℕ) → G (n + i) ≡ candidate p ρ (get_or m i [])) → lowest_unit_by st lev n m ≡ on_found (lowest (is_unit p ρ) n m) (λ c. On (literal (G c)) c) NoUnit
+  lowest_from : (n : ℕ) (m : List (List ℤ)) → any repeats m ≡ false → ((C : List ℤ) → In C m → AllMeant p ρ st lev C) → (G : ℕ → ℤ) → ((i : ℕ) → G (n + i) ≡ candidate p ρ (get_or m i [])) → lowest_unit_by st lev n m ≡ on_found (lowest (is_unit p ρ) n m) (λ c. On (literal (G c)) c) NoUnit
   unfolding lowest_unit_by lowest any
   lowest_from n [] o h G e = refl
   lowest_from n (C ∷ m) o h G e = rw (unit_means C (or_fl (repeats C) (any repeats m) o) (h C (here refl))) (go (is_unit p ρ C) (lowest_from (suc n) m (or_fr (repeats C) (any repeats m) o) (λ D i. h D (there i)) G (λ i. let z : suc n + i ≡ n + suc i = omega arith in rw z (e (suc i)))))
@@ -185,6 +178,6 @@ module _ (p : List ℤ) (ρ : Assignment) (st lev : ℤ → ℕ) where
       go true ih = ap (λ x. On (literal x) n) (sym first)
       go false ih = ih
 
-  pub lowest_unit_means : (m : List (List ℤ)) → any repeats m ≡ false → ((C : List ℤ) → In C m → AllMeant C) → lowest_unit_by st lev 0 m ≡ lowest_unit p ρ m
+  pub lowest_unit_means : (m : List (List ℤ)) → any repeats m ≡ false → ((C : List ℤ) → In C m → AllMeant p ρ st lev C) → lowest_unit_by st lev 0 m ≡ lowest_unit p ρ m
   unfolding lowest_unit
   lowest_unit_means m o h = lowest_from 0 m o h (λ c. candidate p ρ (get_or m c [])) (λ i. let z : 0 + i ≡ i = omega arith in rw z)

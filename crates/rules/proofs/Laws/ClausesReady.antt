@@ -36,7 +36,8 @@ use Rattle.tables.specs.Inner.ByLiteral.{status_by, status_in, Statuses}
 use Rattle.rules.specs.Inner.Occurrences.{true_by}
 use Rattle.rules.specs.Inner.Tabled.{Consistent, Tabled, Sorted, as_false, as_true, as_existential, as_universal, Sorts}
 use Rattle.tables.specs.Laws.Levels.{level_at_lem}
-use Rattle.rules.proofs.Laws.ClausesMean.{Meant, untrue_means, lowest_conflict_means, lowest_unit_means}
+use Rattle.rules.proofs.Laws.ClausesMean.{untrue_means, lowest_conflict_means, lowest_unit_means}
+use Rattle.rules.specs.Inner.Meant.{Meant}
 use Rattle.clauses.specs.declared.found.Deciding.{Deciding}
 use Rattle.clauses.specs.declared.found.Deciding.TheVariants.{Conflict, Quiet}
 use Rattle.record.specs.declared.found.Found.{Found}

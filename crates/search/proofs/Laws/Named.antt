@@ -36,21 +36,12 @@ use Rattle.rules.proofs.Laws.Steps.{due_fits}
 use Rattle.memory.specs.Memory.{Memory}
 use Rattle.memory.specs.Reasons.{reason_of}
 use Rattle.memory.specs.Inner.Reasons.{PlaceFits, Tellable, OnMemory}
+use Rattle.search.specs.Named.{Names}
 
 -- the due rule has a place to write to, where rows 1 to 12 have passed
 pub fitting : {L : Limits} {b : List ℤ} {t : Trail} {n : ℕ} → OnBlock L b t n → Fitting (prefix_of b) n (due (formula_of b) (record_of t n))
 unfolding formula_of
 fitting {L} {b} {t} {n} o = due_fits (formula_of b) (search t n Open) o.kept
-
--- a clause of the formula; of a unit, one that decides its literal
-abbrev pub Names : Formula → Record → Rule → Type 0
-Names F r (BacktrackExists i c) = c < length F.clauses
-Names F r (Fail c) = c < length F.clauses
-Names F r (Unit l c) = (c < length F.clauses) × (unit_on F.prefix (true_in r) (get_or F.clauses c []) l.0 ≡ true)
-Names F r (Monotone l) = 0 ≤ 0
-Names F r (Decide l) = 0 ≤ 0
-Names F r (BacktrackForall i) = 0 ≤ 0
-Names F r Succeed = 0 ≤ 0
 
 module _ (F : Formula) (r : Record) where
   by_last : (c : ℕ) → c < length F.clauses → (o : Found) → Names F r (on_found o (λ i. BacktrackExists i c) (Fail c))

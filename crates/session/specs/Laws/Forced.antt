@@ -18,7 +18,8 @@ use Rattle.formula.specs.Laws.Accepted.{accepted}
 use Rattle.formula.specs.Laws.Clauses.{clauses_in}
 use Rattle.formula.specs.Laws.Permuted.{quantified}
 use Rattle.theory.specs.Record.{entry, Record, Assignment, true_in, assigned}
-use Rattle.theory.proofs.Laws.Tested.{unassigned_existential_i, unassigned_universal_i, UnitAt, unit_e}
+use Rattle.theory.proofs.Laws.Tested.{unassigned_existential_i, unassigned_universal_i, unit_e}
+use Rattle.theory.specs.Met.{UnitAt}
 use Rattle.record.specs.declared.rule.Rule.TheVariants.{Unit}
 use Rattle.record.specs.Search.{Search, record_in}
 use Rattle.rules.specs.Due.{due}
@@ -27,7 +28,8 @@ use Rattle.record.specs.Inner.Ready.{OnBlock}
 use Rattle.record.proofs.Laws.Accepted.{prefix_length, accepted_binds}
 use Rattle.memory.specs.Reasons.{noted}
 use Rattle.session.specs.Forced.{Aside, Forced, Explained}
-use Rattle.search.proofs.Laws.Named.{fitting, Names, due_names}
+use Rattle.search.proofs.Laws.Named.{fitting, due_names}
+use Rattle.search.specs.Named.{Names}
 use Rattle.session.specs.Laws.Each.{Each, each_after}
 
 module _ (L : Limits) (b : List ℤ) (block : refusal L b ≡ 0) where

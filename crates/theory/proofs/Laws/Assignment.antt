@@ -11,15 +11,7 @@ use Rattle.formula.specs.Laws.Prefix.{stands, stands_mem}
 use Rattle.formula.specs.Truth.{asked}
 use Rattle.theory.specs.Record.{Entry, entry, Record, literals, Assignment, among, true_in, assigned}
 use Rattle.theory.proofs.Laws.Asked.{asked_exchange}
-
--- l becomes true
-unfoldable pub put : ℤ → Assignment → Assignment
-put l ρ x = eq_z x l || ρ x
-
--- the literals of the entries become true
-unfoldable pub after : Assignment → Record → Assignment
-after ρ [] = ρ
-after ρ (e ∷ s) = after (put e.literal ρ) s
+use Rattle.theory.specs.Grown.{put, after, given}
 
 -- ---- which literals are true
 pub put_new : (l : ℤ) (ρ : Assignment) → put l ρ l ≡ true
@@ -82,11 +74,6 @@ pub literals_append : (a b : Record) → literals (a ++ b) ≡ literals a ++ lit
 unfolding literals
 literals_append [] b = refl
 literals_append (e ∷ a) b = ap (λ (xs : List ℤ). e.literal ∷ xs) (literals_append a b)
-
--- a record of forced literals
-unfoldable pub given : List ℤ → Record
-given [] = []
-given (l ∷ ls) = entry 0 l ∷ given ls
 
 pub given_literals : (vs : List ℤ) → literals (given vs) ≡ vs
 unfolding given literals

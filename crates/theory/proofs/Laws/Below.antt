@@ -17,9 +17,11 @@ use Rattle.formula.specs.Proper.{Proper}
 use Rattle.theory.specs.Record.{Entry, Record, literals, Assignment, true_in, assigned, without}
 use Rattle.theory.specs.Tests.{is_open}
 use Rattle.theory.specs.Witness.{below}
-use Rattle.theory.proofs.Laws.Assignment.{put, after, put_comm, assigned_var, assigned_put}
+use Rattle.theory.proofs.Laws.Assignment.{put_comm, assigned_var, assigned_put}
+use Rattle.theory.specs.Grown.{put, after}
 use Rattle.theory.proofs.Laws.Value.{value_of}
-use Rattle.theory.proofs.Laws.Tested.{still_unassigned, UnitAt, open_e, MonotoneAt, monotone_stands}
+use Rattle.theory.proofs.Laws.Tested.{still_unassigned, open_e, monotone_stands}
+use Rattle.theory.specs.Met.{UnitAt, MonotoneAt}
 use Rattle.theory.proofs.Laws.Decide.{Above}
 use Rattle.theory.proofs.Laws.Forced.{unit_put, monotone_put, unit_law, monotone_law}
 use Rattle.theory.proofs.Laws.Invariant.{Placed, chosen, by_unit, by_monotone, Carried, none, more, flipped, passed_up}

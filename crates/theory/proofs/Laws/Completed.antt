@@ -21,9 +21,11 @@ use Rattle.theory.specs.Record.{Record, literals, Assignment, among, true_in, as
 use Rattle.theory.specs.Tests.{all_assigned}
 use Rattle.theory.specs.Start.{suits, all_suit, Good, rest}
 use Rattle.theory.specs.Witness.{group_of, rest_of, below, shown_true, signed_as, signed}
-use Rattle.theory.proofs.Laws.Assignment.{put, after, assigned_var, assigned_other, literals_append, given, given_literals}
+use Rattle.theory.proofs.Laws.Assignment.{assigned_var, assigned_other, literals_append, given_literals}
+use Rattle.theory.specs.Grown.{put, after, given}
 use Rattle.theory.proofs.Laws.Value.{rest_set, rest_e, rest_i}
-use Rattle.theory.proofs.Laws.Tested.{Dead, dead_put}
+use Rattle.theory.proofs.Laws.Tested.{dead_put}
+use Rattle.theory.specs.Met.{Dead}
 use Rattle.theory.proofs.Laws.Moves.{suits_stands}
 use Rattle.theory.proofs.Laws.Below.{below_true, Fresh, no_more, one_more}
 use Rattle.theory.proofs.Laws.Group.{group_level, rest_level, twice_take, signed_variable, signed_i, signed_e}

@@ -14,10 +14,12 @@ use Rattle.formula.specs.Proper.{Proper}
 use Rattle.formula.specs.Laws.Prefix.{stands_e, existential_neg, existential_stands, both_signs_lem, Ordered, more, ordered}
 use Rattle.theory.specs.Record.{Assignment, assigned}
 use Rattle.theory.specs.Tests.{unassigned_existential, in_conflict, conflict, all_assigned}
-use Rattle.theory.proofs.Laws.Assignment.{put, assigned_neg, assigned_var}
+use Rattle.theory.proofs.Laws.Assignment.{assigned_neg, assigned_var}
+use Rattle.theory.specs.Grown.{put}
 use Rattle.theory.proofs.Laws.Value.{value, value_of, value_set, value_ask, value_full}
 use Rattle.theory.proofs.Laws.Asked.{asked_false, asked_both_false}
-use Rattle.theory.proofs.Laws.Tested.{unassigned_existential_e, unassigned_existential_i, Dead, dead_e, dead_i, dead_put}
+use Rattle.theory.proofs.Laws.Tested.{unassigned_existential_e, unassigned_existential_i, dead_e, dead_i, dead_put}
+use Rattle.theory.specs.Met.{Dead}
 
 -- a dead clause, down the prefix. Here `plain` is used: at a universal variable the clause does not have both literals, so one of them sets
 -- nothing in it

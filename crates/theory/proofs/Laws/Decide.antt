@@ -14,9 +14,11 @@ use Rattle.formula.specs.Truth.{asked}
 use Rattle.theory.specs.Record.{Assignment, assigned}
 use Rattle.theory.specs.Tests.{is_open}
 use Rattle.theory.proofs.Laws.Asked.{asked_exchange}
-use Rattle.theory.proofs.Laws.Assignment.{put, unset_put, put_comm, assigned_var, assigned_still}
+use Rattle.theory.proofs.Laws.Assignment.{unset_put, put_comm, assigned_var, assigned_still}
+use Rattle.theory.specs.Grown.{put}
 use Rattle.theory.proofs.Laws.Value.{value, value_of, value_set, value_ask, value_at_lem, value_own}
-use Rattle.theory.proofs.Laws.Tested.{still_unassigned, Lowest, open_e}
+use Rattle.theory.proofs.Laws.Tested.{still_unassigned, open_e}
+use Rattle.theory.specs.Met.{Lowest}
 
 -- an unassigned word q of the prefix P that stands above l's, and a literal y of it
 pub record Above (P : List ℤ) (l : ℤ) (ρ : Assignment) (q y : ℤ) : Type 0 where

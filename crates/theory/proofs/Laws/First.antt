@@ -11,15 +11,9 @@ use Rattle.formula.specs.Laws.Prefix.{stands_i, level_var, Ordered, more, ordere
 use Rattle.theory.specs.Record.{entry, Record, Assignment, assigned, without}
 use Rattle.theory.specs.Tests.{is_open, all_assigned}
 use Rattle.theory.proofs.Laws.Assignment.{assigned_var}
-use Rattle.theory.proofs.Laws.Tested.{Lowest, open_i}
-
--- the last entry of a kind
-pub record Last (k : ℕ) (r : Record) : Type 0 where
-  pub before : Record
-  pub literal : ℤ
-  pub later : Record
-  pub whole : r ≡ before ++ entry k literal ∷ later
-  pub none_later : without k later ≡ true
+use Rattle.theory.proofs.Laws.Tested.{open_i}
+use Rattle.theory.specs.Met.{Lowest}
+use Rattle.theory.specs.Met.{Last, First}
 
 pub last : (k : ℕ) (r : Record) → (without k r ≡ true) ⊎ Last k r
 unfolding without all
@@ -31,15 +25,6 @@ last k (e ∷ r) = elim (last k r) [
     | inr b ↦ inl (and_i (not_f b) h)
   ]
 ]
-
--- the first unassigned word of a prefix
-pub record First (p : List ℤ) (ρ : Assignment) : Type 0 where
-  pub before : List ℤ
-  pub word : ℤ
-  pub after : List ℤ
-  pub whole : p ≡ before ++ word ∷ after
-  pub set : all_assigned before ρ ≡ true
-  pub unset : assigned ρ word ≡ false
 
 pub first : (p : List ℤ) (ρ : Assignment) → all_assigned p ρ ≡ false → First p ρ
 unfolding all_assigned all

@@ -15,10 +15,12 @@ use Rattle.formula.specs.Laws.Prefix.{stands_bound, existential_var, existential
 use Rattle.formula.specs.Truth.{asked}
 use Rattle.theory.specs.Record.{Assignment, assigned}
 use Rattle.theory.specs.Tests.{unassigned_existential}
-use Rattle.theory.proofs.Laws.Assignment.{put, put_new, put_old, put_e, assigned_var, assigned_own, assigned_put, assigned_other, assigned_sign}
+use Rattle.theory.proofs.Laws.Assignment.{put_new, put_old, put_e, assigned_var, assigned_own, assigned_put, assigned_other, assigned_sign}
+use Rattle.theory.specs.Grown.{put}
 use Rattle.theory.proofs.Laws.Asked.{asked_first, asked_more}
 use Rattle.theory.proofs.Laws.Value.{value, value_of, value_set, value_ask}
-use Rattle.theory.proofs.Laws.Tested.{unassigned_existential_e, unassigned_existential_i, unassigned_universal_i, unassigned_existential_put, unassigned_universal_put, untrue_put, true_put, Dead, UnitAt, Absent, absent_put, MonotoneAt, monotone_stands}
+use Rattle.theory.proofs.Laws.Tested.{unassigned_existential_e, unassigned_existential_i, unassigned_universal_i, unassigned_existential_put, unassigned_universal_put, untrue_put, true_put, absent_put, monotone_stands}
+use Rattle.theory.specs.Met.{Dead, UnitAt, Absent, MonotoneAt}
 use Rattle.theory.proofs.Laws.Decide.{Above, descend}
 use Rattle.theory.proofs.Laws.Conflict.{dead_false}
 

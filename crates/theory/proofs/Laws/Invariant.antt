@@ -17,9 +17,11 @@ use Rattle.formula.specs.Truth.{asked}
 use Rattle.theory.specs.Record.{Entry, entry, Record, Assignment, true_in, without, forced}
 use Rattle.theory.specs.Tests.{is_open}
 use Rattle.theory.specs.Rules.{State, going, valid, unsat, MonotoneTest, Within, StepBy, backtrack_exists, fail, unit, monotone, decide_exists, decide_forall, backtrack_forall, succeed, PathBy, stop, take}
-use Rattle.theory.proofs.Laws.Assignment.{put, after, true_append}
+use Rattle.theory.proofs.Laws.Assignment.{true_append}
+use Rattle.theory.specs.Grown.{put, after}
 use Rattle.theory.proofs.Laws.Value.{value_of}
-use Rattle.theory.proofs.Laws.Tested.{UnitAt, unit_e, open_neg, MonotoneAt, monotone_e}
+use Rattle.theory.proofs.Laws.Tested.{unit_e, open_neg, monotone_e}
+use Rattle.theory.specs.Met.{UnitAt, MonotoneAt}
 use Rattle.theory.proofs.Laws.Decide.{decide_law}
 use Rattle.theory.proofs.Laws.Conflict.{conflict_law, leaf_law}
 use Rattle.theory.proofs.Laws.Forced.{unit_law, monotone_law}

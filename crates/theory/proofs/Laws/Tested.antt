@@ -10,7 +10,9 @@ use Rattle.formula.specs.Formula.{existential, universal, level}
 use Rattle.formula.specs.Laws.Prefix.{stands, stands_neg, stands_bound, existential_stands, universal_stands, level_var}
 use Rattle.theory.specs.Record.{Assignment, assigned}
 use Rattle.theory.specs.Tests.{unassigned_existential, unassigned_universal, in_conflict, is_only, is_deeper, unit_on, absent, monotone_wide, not_below, is_open}
-use Rattle.theory.proofs.Laws.Assignment.{put, put_old, put_e, assigned_neg, assigned_still}
+use Rattle.theory.proofs.Laws.Assignment.{put_old, put_e, assigned_neg, assigned_still}
+use Rattle.theory.specs.Grown.{put}
+use Rattle.theory.specs.Met.{Dead, UnitAt, Lowest, OpenAt, Absent, MonotoneAt}
 
 -- ---- an unassigned literal of a quantifier
 parts : (b a : Bool) → (b && not a) ≡ true → (b ≡ true) × (a ≡ false)
@@ -54,11 +56,6 @@ untrue_put C y ρ out h = any_f (put y ρ) C (λ x i. to_false _ (λ e. go x i (
 pub true_put : (C : List ℤ) (y : ℤ) (ρ : Assignment) → any ρ C ≡ true → any (put y ρ) C ≡ true
 true_put C y ρ h = any_more ρ (put y ρ) C (λ x i. put_old y x ρ) h
 
--- ---- a clause in conflict
-pub record Dead (p : List ℤ) (ρ : Assignment) (C : List ℤ) : Type 0 where
-  pub untrue : any ρ C ≡ false
-  pub helpless : any (unassigned_existential p ρ) C ≡ false
-
 pub dead_e : (p : List ℤ) (ρ : Assignment) (C : List ℤ) → in_conflict p ρ C ≡ true → Dead p ρ C
 unfolding in_conflict
 dead_e p ρ C h = record {
@@ -76,15 +73,6 @@ dead_put p C y ρ out d = record {
   untrue = untrue_put C y ρ out d.untrue;
   helpless = any_f (unassigned_existential p (put y ρ)) C (λ x i. to_false _ (λ e. clash (any_i (unassigned_existential p ρ) i (unassigned_existential_put p y ρ x e)) d.helpless));
 }
-
--- ---- the clause of a unit
-pub record UnitAt (p : List ℤ) (C : List ℤ) (l : ℤ) (ρ : Assignment) : Type 0 where
-  pub untrue : any ρ C ≡ false
-  pub inside : In l C
-  pub exists : existential p l ≡ true
-  pub unset : assigned ρ l ≡ false
-  pub only : (x : ℤ) → In x C → unassigned_existential p ρ x ≡ true → x ≡ l
-  pub deeper : (x : ℤ) → In x C → unassigned_universal p ρ x ≡ true → level p l < level p x
 
 pub unit_e : (p : List ℤ) (ρ : Assignment) (C : List ℤ) (l : ℤ) → unit_on p ρ C l ≡ true → UnitAt p C l ρ
 unfolding unit_on
@@ -109,16 +97,6 @@ unit_e p ρ C l h =
 
     c : Bool
     c = all (is_only p ρ l) C
-
--- ---- an open literal: unassigned, of the prefix, and no unassigned variable has a lower level
--- no unassigned variable of the part p has a lower level than l's
-abbrev pub Lowest : List ℤ → Assignment → ℤ → List ℤ → Type 0
-Lowest P ρ l p = (x : ℤ) → In x p → assigned ρ x ≡ false → level P l ≤ level P x
-
-pub record OpenAt (p : List ℤ) (ρ : Assignment) (l : ℤ) : Type 0 where
-  pub bound : stands p l ≡ true
-  pub unset : assigned ρ l ≡ false
-  pub lowest : Lowest p ρ l p
 
 unassigned_e : (p : List ℤ) (ρ : Assignment) (l : ℤ) → (unassigned_existential p ρ l ≡ true) ⊎ (unassigned_universal p ρ l ≡ true) → (stands p l ≡ true) × (assigned ρ l ≡ false)
 unassigned_e p ρ l (inl h) = let u = unassigned_existential_e p ρ l h in (existential_stands p l u.0, u.1)
@@ -148,10 +126,6 @@ pub open_neg : (p : List ℤ) (ρ : Assignment) (l : ℤ) → is_open p ρ l ≡
 open_neg p ρ l h = let o = open_e p ρ l h in
     open_i p ρ (neg_ℤ l) (stands_neg p l ∙ o.bound) (assigned_neg ρ l ∙ o.unset) (λ x i a. rw (level_var p (neg_ℤ l) l (nat_abs_neg l)) (o.lowest x i a))
 
--- ---- a literal that stands in no clause without a true literal
-abbrev pub Absent : List (List ℤ) → ℤ → Assignment → Type 0
-Absent m a ρ = (C : List ℤ) → In C m → (any ρ C ≡ true) ⊎ (In a C → ⊥)
-
 pub absent_e : (m : List (List ℤ)) (ρ : Assignment) (a : ℤ) → absent m ρ a ≡ true → Absent m a ρ
 unfolding absent
 absent_e m ρ a h C i = elim (or_e (any ρ C) (not (mem a C)) (all_e (λ C. any ρ C || not (mem a C)) m h i)) [
@@ -161,11 +135,6 @@ absent_e m ρ a h C i = elim (or_e (any ρ C) (not (mem a C)) (all_e (λ C. any 
 
 pub absent_put : (m : List (List ℤ)) (a y : ℤ) (ρ : Assignment) → Absent m a ρ → Absent m a (put y ρ)
 absent_put m a y ρ h C i = elim (h C i) [ inl e ↦ inl (true_put C y ρ e) | inr f ↦ inr f ]
-
--- ---- a monotone literal: the sign that it gives up is so absent
-pub record MonotoneAt (p : List ℤ) (m : List (List ℤ)) (l : ℤ) (ρ : Assignment) : Type 0 where
-  pub unset : assigned ρ l ≡ false
-  pub spare : ((existential p l ≡ true) × Absent m (neg_ℤ l) ρ) ⊎ ((universal p l ≡ true) × Absent m l ρ)
 
 pub monotone_e : (p : List ℤ) (m : List (List ℤ)) (ρ : Assignment) (l : ℤ) → monotone_wide p m ρ l ≡ true → MonotoneAt p m l ρ
 unfolding monotone_wide

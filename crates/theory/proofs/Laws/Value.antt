@@ -14,7 +14,8 @@ use Rattle.formula.specs.Truth.{asked, truth, true?}
 use Rattle.theory.specs.Record.{Record, literals, Assignment, among, true_in, assigned}
 use Rattle.theory.specs.Tests.{all_assigned}
 use Rattle.theory.specs.Start.{rest, true_under}
-use Rattle.theory.proofs.Laws.Assignment.{put, assigned_var, assigned_own, assigned_other}
+use Rattle.theory.proofs.Laws.Assignment.{assigned_var, assigned_own, assigned_other}
+use Rattle.theory.specs.Grown.{put}
 use Rattle.theory.proofs.Laws.Asked.{asked_comm}
 
 unfoldable pub value : List ℤ → List (List ℤ) → Assignment → Bool

@@ -16,7 +16,8 @@ use Rattle.formula.specs.Laws.Prefix.{stands, stands_cons, stands_none, twice_he
 use Rattle.theory.specs.Record.{Entry, entry, Record, literals, Assignment, among, true_in, assigned, forced}
 use Rattle.theory.specs.Rules.{State, going, valid, unsat, MonotoneTest, Within, StepBy, PathBy, stop, take}
 use Rattle.theory.specs.Start.{suits, all_suit, Good, rest}
-use Rattle.theory.proofs.Laws.Assignment.{put, after, true_snoc, true_append, assigned_var, assigned_own, assigned_still, assigned_sign, assigned_among}
+use Rattle.theory.proofs.Laws.Assignment.{true_snoc, true_append, assigned_var, assigned_own, assigned_still, assigned_sign, assigned_among}
+use Rattle.theory.specs.Grown.{put, after}
 use Rattle.theory.proofs.Laws.Value.{rest_same, rest_unset}
 use Rattle.theory.proofs.Laws.Moves.{suits_stands, Move, grows, cuts, ends, move}
 

@@ -3,7 +3,7 @@ use Rattle.std.specs.Prelude.{Bool, true, false, List, [], ◌∷◌, ◌++◌, 
 use Rattle.std.proofs.lemmas.List.Edits.{sets}
 use Rattle.words.specs.Outcomes.{Outcome, outcome}
 use Rattle.words.specs.Words.{negative}
-use Rattle.grammar.specs.Grammar.{feed, space, '_', '0', 'a', 'e'}
+use Rattle.grammar.specs.Grammar.{feed, space, '-', '0', 'a', 'e'}
 use Rattle.grammar.specs.Written.{numeral}
 use Rattle.writer.specs.Write.{last_of_group}
 
@@ -20,7 +20,7 @@ abbrev pub spaced : ℕ → List ℕ
 spaced n = numeral n ++ (space ∷ [])
 
 abbrev pub sign_of : Bool → List ℕ
-sign_of true = '_' ∷ []
+sign_of true = '-' ∷ []
 sign_of false = []
 
 -- what a quantifier's line begins with, for one that is universal or not, and what a line ends with

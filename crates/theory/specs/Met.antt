@@ -1,0 +1,73 @@
+-- What a test that is met says: the entries, words and clauses that it is about.
+use Rattle.std.specs.Prelude.{◌≡◌, refl, ◌⊎◌, true, false, List, [], ◌∷◌, ◌++◌, ℕ, eqb, ℤ, nat_abs}
+use Rattle.std.proofs.Common.{sym, ◌∙◌, ap, subst, inl, inr, arith}
+use Rattle.words.specs.Laws.Bools.{clash, look, and_l, and_r, and_i, not_f, eqb_eq}
+use Rattle.words.specs.Lists.{In, here, there, all}
+use Rattle.words.specs.Laws.Lists.{in_middle}
+use Rattle.formula.specs.Formula.{Formula}
+use Rattle.formula.specs.Proper.{Proper}
+use Rattle.formula.specs.Laws.Prefix.{stands_i, level_var, Ordered, more, ordered}
+use Rattle.theory.specs.Record.{entry, Record, Assignment, assigned, without}
+use Rattle.theory.specs.Tests.{is_open, all_assigned}
+use Rattle.std.specs.Prelude.{◌≡◌, ◌⊎◌, Bool, true, false, not, ◌&&◌, ◌||◌, List, ◌≤◌, ◌<◌, leb, ℤ, neg_ℤ}
+use Rattle.std.proofs.Common.{◌∙◌, inl, inr, leb→le, ltb→lt, le→leb}
+use Rattle.words.specs.Laws.Bools.{clash, look, T→eq, eq→T, and_l, and_r, and_i, or_e, or_l, or_r, not_t, to_false}
+use Rattle.words.specs.Lists.{In, all, any}
+use Rattle.words.specs.Laws.Lists.{all_e, all_i, any_i, any_f, any_more}
+use Rattle.words.specs.Words.{mem}
+use Rattle.words.specs.Laws.Words.{eq_z_eq, mem_i, mem_e, nat_abs_neg}
+use Rattle.formula.specs.Formula.{existential, universal, level}
+use Rattle.formula.specs.Laws.Prefix.{stands, stands_neg, stands_bound, existential_stands, universal_stands, level_var}
+use Rattle.theory.specs.Record.{Assignment, assigned}
+use Rattle.theory.specs.Tests.{unassigned_existential, unassigned_universal, in_conflict, is_only, is_deeper, unit_on, absent, monotone_wide, not_below, is_open}
+use Rattle.theory.specs.Grown.{put}
+
+-- the last entry of a kind
+pub record Last (k : ℕ) (r : Record) : Type 0 where
+  pub before : Record
+  pub literal : ℤ
+  pub later : Record
+  pub whole : r ≡ before ++ entry k literal ∷ later
+  pub none_later : without k later ≡ true
+
+-- the first unassigned word of a prefix
+pub record First (p : List ℤ) (ρ : Assignment) : Type 0 where
+  pub before : List ℤ
+  pub word : ℤ
+  pub after : List ℤ
+  pub whole : p ≡ before ++ word ∷ after
+  pub set : all_assigned before ρ ≡ true
+  pub unset : assigned ρ word ≡ false
+
+-- ---- a clause in conflict
+pub record Dead (p : List ℤ) (ρ : Assignment) (C : List ℤ) : Type 0 where
+  pub untrue : any ρ C ≡ false
+  pub helpless : any (unassigned_existential p ρ) C ≡ false
+
+-- ---- the clause of a unit
+pub record UnitAt (p : List ℤ) (C : List ℤ) (l : ℤ) (ρ : Assignment) : Type 0 where
+  pub untrue : any ρ C ≡ false
+  pub inside : In l C
+  pub exists : existential p l ≡ true
+  pub unset : assigned ρ l ≡ false
+  pub only : (x : ℤ) → In x C → unassigned_existential p ρ x ≡ true → x ≡ l
+  pub deeper : (x : ℤ) → In x C → unassigned_universal p ρ x ≡ true → level p l < level p x
+
+-- ---- an open literal: unassigned, of the prefix, and no unassigned variable has a lower level
+-- no unassigned variable of the part p has a lower level than l's
+abbrev pub Lowest : List ℤ → Assignment → ℤ → List ℤ → Type 0
+Lowest P ρ l p = (x : ℤ) → In x p → assigned ρ x ≡ false → level P l ≤ level P x
+
+pub record OpenAt (p : List ℤ) (ρ : Assignment) (l : ℤ) : Type 0 where
+  pub bound : stands p l ≡ true
+  pub unset : assigned ρ l ≡ false
+  pub lowest : Lowest p ρ l p
+
+-- ---- a literal that stands in no clause without a true literal
+abbrev pub Absent : List (List ℤ) → ℤ → Assignment → Type 0
+Absent m a ρ = (C : List ℤ) → In C m → (any ρ C ≡ true) ⊎ (In a C → ⊥)
+
+-- ---- a monotone literal: the sign that it gives up is so absent
+pub record MonotoneAt (p : List ℤ) (m : List (List ℤ)) (l : ℤ) (ρ : Assignment) : Type 0 where
+  pub unset : assigned ρ l ≡ false
+  pub spare : ((existential p l ≡ true) × Absent m (neg_ℤ l) ρ) ⊎ ((universal p l ≡ true) × Absent m l ρ)
