@@ -23,7 +23,6 @@ use Rattle.session.specs.Forced.{Forced}
 use Rattle.session.specs.History.{verdict_of, Demand, fresh_desk, history_path, reasons_forced, any_history}
 use Rattle.session.specs.Witnessed.{Witnessed, history_shows}
 use Rattle.counted.specs.Lent.{Lent, lent}
-use Rattle.counted.specs.Counted.{counted_of}
 use Rattle.counted.proofs.Runs.{counted_is_run, counted_refused_leaves}
 use Rattle.counted.specs.Mixed.{AnyCall, plain, counted, counted_at, any_call, play_any}
 

@@ -1,26 +1,11 @@
 -- Any calls, counted runs among them.
-use Rattle.std.specs.Prelude.{ℕ, suc, ◌<◌, ◌≡◌, Bool, ℤ, pos, get_or}
-use Rattle.std.proofs.Math.Path.{refl, ap}
-use Rattle.std.proofs.Common.{◌∙◌}
-use mathlib.Core.List.{List, [], ◌∷◌, ◌++◌}
+use Rattle.std.specs.Prelude.{ℕ, ℤ}
+use mathlib.Core.List.{List, [], ◌∷◌}
 use Rattle.words.specs.Outcomes.{Outcome}
 use Rattle.formula.specs.Limits.{Limits}
-use Rattle.formula.specs.Formula.{formula_of}
-use Rattle.theory.specs.Rules.{going, Path}
-use Rattle.record.specs.Search.{standing_of}
-use Rattle.record.specs.Trail.{record_of}
 use Rattle.session.specs.declared.Revision.{Revision}
-use Rattle.session.specs.declared.Session.{Session}
-use Rattle.session.specs.declared.Answer.TheVariants.{To}
 use Rattle.session.specs.declared.Ran.{Ran}
-use Rattle.session.specs.declared.Ran.TheVariants.{Until, Stopped}
-use Rattle.memory.specs.Memory.{Memory}
-use Rattle.session.specs.Outcome.{open_outcome}
-use Rattle.session.specs.Calls.{Desk, Call, run, after_run, call, play}
-use Rattle.session.specs.RunSteps.{search_at}
-use Rattle.session.specs.Forced.{Forced}
-use Rattle.session.specs.History.{verdict_of, Demand, fresh_desk, history_path, reasons_forced, any_history}
-use Rattle.session.specs.Witnessed.{Witnessed, history_shows}
+use Rattle.session.specs.Calls.{Desk, Call, after_run, call}
 use Rattle.counted.specs.Lent.{Lent, lent}
 use Rattle.counted.specs.Counted.{counted_of}
 

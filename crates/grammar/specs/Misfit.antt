@@ -1,15 +1,6 @@
 -- [row.27] Where a text stops being one.
-use Rattle.std.specs.Prelude.{◌≡◌, refl, ◌⊎◌, ◌↔◌, true, false, List, [], ◌∷◌, ◌++◌, ℕ, suc, ◌+◌, ◌-◌, ◌≤◌, ◌<◌, length, take, drop}
-use Rattle.std.proofs.Common.{sym, ◌∙◌, ap, inl, inr, append_assoc, arith, take-add}
-use Rattle.std.proofs.Math.Decide.{dec_lt}
-use Rattle.std.proofs.Math.Seq.{take-length}
-use Rattle.words.specs.Laws.Bools.{clash, look}
+use Rattle.std.specs.Prelude.{List, ◌++◌, ℕ, suc, ◌≤◌, ◌<◌, length, take}
 use Rattle.grammar.specs.Grammar.{Text, Spells}
-use Rattle.grammar.specs.declared.State.{State}
-use Rattle.grammar.specs.declared.State.TheVariants.{Dead, Fresh}
-use Rattle.grammar.specs.Machine.{alive, fresh, move, start, reach, trace}
-use Rattle.grammar.specs.Events.{heard, hear_say}
-use Rattle.grammar.specs.Reads.{taken, Read, spelled, misfit, reads}
 
 -- ---- [row.27] the first byte at which no text can go on, or the length
 pub record Misfit (bs : List ℕ) (i : ℕ) : Type 0 where

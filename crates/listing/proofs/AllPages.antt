@@ -1,6 +1,6 @@
 -- Any list of pages. Each takes the listing below its start to the listing below its next; so after any pages what was written is the listing
 -- below next.
-use Rattle.std.specs.Prelude.{ℕ, ◌+◌, ◌*◌, ◌-◌, ◌^◌, ◌≤◌, ◌<◌, ◌≡◌, false, ℤ, take}
+use Rattle.std.specs.Prelude.{◌+◌, ◌*◌, ◌≤◌, ◌<◌, ◌≡◌, false, ℤ, take}
 use Rattle.std.proofs.Math.Path.{refl}
 use Rattle.std.proofs.Common.{sym, ◌∙◌, ap}
 use mathlib.Core.List.{List, [], ◌∷◌, ◌++◌}
@@ -22,7 +22,6 @@ use Rattle.listing.specs.Rows.{PageGuarded, page_passes}
 use Rattle.listing.proofs.Refused.{page_accepted}
 use Rattle.listing.proofs.Accepted.{claimed, accepted_page}
 use Rattle.record.specs.Trail.{wiped_trail}
-use Rattle.record.specs.Inner.Ready.{Room}
 use Rattle.words.specs.Outcomes.{Outcome}
 use Rattle.listing.specs.Pages.{Given, Ledger, ledger, after_page, next_page, pages, pages_from0, Listed, Ample}
 

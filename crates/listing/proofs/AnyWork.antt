@@ -4,13 +4,12 @@ use Prim.Native.Nat.{ℕ, zero, suc, ◌-◌}
 use Rattle.std.specs.Prelude.{◌≡◌, List, ℤ}
 use Rattle.std.proofs.Math.Path.{refl, fun_ext}
 use Rattle.std.proofs.Common.{ap}
-use Rattle.words.specs.Outcomes.{Outcome, unless}
+use Rattle.words.specs.Outcomes.{unless}
 use Rattle.formula.specs.Formula.{formula_of}
 use Rattle.formula.specs.Limits.{Limits}
 use Rattle.record.specs.declared.rule.State.{State}
 use Rattle.memory.specs.Memory.{record_places}
 use Rattle.memory.specs.Refusals.{short}
-use Rattle.listing.specs.declared.Paged.{Paged}
 use Rattle.listing.specs.declared.Paged.TheVariants.{Refused}
 use Rattle.listing.specs.Opening.{openings, opening_end}
 use Rattle.listing.specs.Page.{PageMemory, page_refusal, paged, page_from, sheet_of, page_of}

@@ -1,6 +1,6 @@
 -- [witness] What a session that has ended shows is an opening: the values of the first group by its record are those of a number below 2^k, and that
 -- opening wins if the session is Valid and loses if it is Unsat.
-use Rattle.std.specs.Prelude.{ℕ, ◌<◌, ◌≡◌, Bool, true, false, List, ℤ}
+use Rattle.std.specs.Prelude.{◌≡◌, Bool, true, false, List, ℤ}
 use Rattle.formula.specs.Limits.{Limits}
 use Rattle.formula.specs.Formula.{formula_of}
 use Rattle.theory.specs.Record.{true_in}
@@ -12,11 +12,10 @@ use Rattle.session.specs.declared.Revision.{Revision}
 use Rattle.session.specs.declared.Session.{Session}
 use Rattle.session.specs.declared.Answer.TheVariants.{To}
 use Rattle.session.specs.Outcome.{open_outcome}
-use Rattle.session.specs.Calls.{Desk, Call, play}
+use Rattle.session.specs.Calls.{Call, play}
 use Rattle.session.specs.RunSteps.{search_at}
 use Rattle.session.specs.History.{verdict_of, fresh_desk}
 use Rattle.session.specs.Witnessed.{history_shows}
-use Rattle.listing.specs.Opening.{openings, values_of}
 use Rattle.listing.specs.Wins.{wins}
 use Rattle.listing.proofs.Laws.Values.{number_of, group_length}
 use Rattle.listing.specs.Found.{Found}

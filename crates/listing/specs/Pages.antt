@@ -1,38 +1,22 @@
 -- [demand.3.pages] Any list of pages, each begun where the last one stopped, and what is claimed of it.
-use Rattle.std.specs.Prelude.{ℕ, ◌+◌, ◌*◌, ◌-◌, ◌^◌, ◌≤◌, ◌<◌, ◌≡◌, false, ℤ, take}
-use Rattle.std.proofs.Math.Path.{refl}
-use Rattle.std.proofs.Common.{sym, ◌∙◌, ap}
+use Rattle.std.specs.Prelude.{ℕ, ◌+◌, ◌*◌, ◌-◌, ◌^◌, ◌≤◌, ◌≡◌, ℤ, take}
 use mathlib.Core.List.{List, [], ◌∷◌, ◌++◌}
-use Rattle.std.proofs.Math.Decide.{dec_lt}
-use native.Mathlib.Omega.{arith}
 use Rattle.std.proofs.Math.ListN.{length}
-use Rattle.words.specs.Laws.Bools.{clash}
-use Rattle.words.specs.Lists.{In, here, there}
 use Rattle.formula.specs.Limits.{Limits}
 use Rattle.formula.specs.Formula.{formula_of, variables_of, prefix_of, first_group}
-use Rattle.formula.specs.Block.{refusal}
 use Rattle.listing.specs.declared.Paged.{Paged}
 use Rattle.listing.specs.declared.Paged.TheVariants.{Page, Refused}
-use Rattle.listing.specs.Page.{Sheet, first_universal, page_of, sheet_of, PageMemory}
-use Rattle.listing.specs.Opening.{openings, opening_end}
-use Rattle.listing.specs.Wins.{winners, entries, listing}
-use Rattle.listing.specs.Claims.{Stops, at_end, no_room, unended, PageClaims}
-use Rattle.listing.specs.Rows.{PageGuarded, page_passes}
-use Rattle.record.specs.Trail.{wiped_trail}
+use Rattle.listing.specs.Page.{page_of, PageMemory}
+use Rattle.listing.specs.Opening.{openings}
+use Rattle.listing.specs.Wins.{listing}
 use Rattle.record.specs.Inner.Ready.{Room}
 use Rattle.words.specs.Outcomes.{Outcome}
-use Prim.Native.Nat.{ℕ, zero, suc, ◌-◌}
+use Prim.Native.Nat.{ℕ, ◌-◌}
 use Rattle.std.specs.Prelude.{◌≡◌, List, ℤ}
-use Rattle.std.proofs.Math.Path.{refl, fun_ext}
-use Rattle.std.proofs.Common.{ap}
-use Rattle.words.specs.Outcomes.{Outcome, unless}
+use Rattle.words.specs.Outcomes.{Outcome}
 use Rattle.formula.specs.Formula.{formula_of}
-use Rattle.record.specs.declared.rule.State.{State}
-use Rattle.memory.specs.Memory.{record_places}
-use Rattle.memory.specs.Refusals.{short}
 use Rattle.listing.specs.declared.Paged.TheVariants.{Refused}
-use Rattle.listing.specs.Page.{PageMemory, page_refusal, paged, page_from, sheet_of, page_of}
-use Rattle.listing.specs.Rows.{page_guarded, page_binds}
+use Rattle.listing.specs.Page.{PageMemory, page_of}
 
 -- ---- [demand.3.pages] what a page is given besides the block and its start: a work record, preferences, a budget and an output, each its own
 pub record Given : Type 0 where

@@ -1,6 +1,6 @@
 -- The theorems on an accepted text. [text.accepted] What stands in the output is the block of the tree that the bytes spell, `check` accepts it, and past
 -- it all is 0. [text.meaning] The block's formula is as true as the text's own, which is made from the tree alone.
-use Rattle.std.specs.Prelude.{◌≡◌, refl, ◌⊎◌, Bool, true, false, not, ◌||◌, ℕ, zero, suc, ◌+◌, ◌-◌, ℤ, neg_ℤ, nat_abs, length}
+use Rattle.std.specs.Prelude.{◌≡◌, refl, ◌⊎◌, Bool, true, false, not, ◌||◌, ℕ, zero, suc, ◌+◌, ℤ, neg_ℤ, nat_abs, length}
 use Rattle.std.proofs.Common.{sym, ◌∙◌, inl, inr, arith}
 use mathlib.Core.List.{List, [], ◌∷◌, ◌++◌}
 use Rattle.words.specs.Laws.Bools.{clash, and_r, not_t, or_fl, or_fr, eqb_i}
@@ -16,7 +16,7 @@ use Rattle.formula.specs.Truth.{asked, truth, true?}
 use Rattle.formula.specs.Block.{names, refusal}
 use Rattle.text.specs.declared.Answer.{Answer}
 use Rattle.text.specs.declared.Answer.TheVariants.{Accepted, Misfit, Refused, Row as AtRow}
-use Rattle.grammar.specs.Grammar.{Text, Spells}
+use Rattle.grammar.specs.Grammar.{Text}
 use Rattle.grammar.specs.Reads.{Read, spelled, misfit, reads}
 use Rattle.laid.specs.Block.{those, free, idle, completed}
 use Rattle.text.specs.Tree.{words_of, literals_of, ends_of, block_of, text_refusal, row_of, tree_rows, zeros, filled, text_of, answered, read_of, own_formula}

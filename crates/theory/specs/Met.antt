@@ -1,26 +1,14 @@
 -- What a test that is met says: the entries, words and clauses that it is about.
-use Rattle.std.specs.Prelude.{◌≡◌, refl, ◌⊎◌, true, false, List, [], ◌∷◌, ◌++◌, ℕ, eqb, ℤ, nat_abs}
-use Rattle.std.proofs.Common.{sym, ◌∙◌, ap, subst, inl, inr, arith}
-use Rattle.words.specs.Laws.Bools.{clash, look, and_l, and_r, and_i, not_f, eqb_eq}
-use Rattle.words.specs.Lists.{In, here, there, all}
-use Rattle.words.specs.Laws.Lists.{in_middle}
-use Rattle.formula.specs.Formula.{Formula}
-use Rattle.formula.specs.Proper.{Proper}
-use Rattle.formula.specs.Laws.Prefix.{stands_i, level_var, Ordered, more, ordered}
+use Rattle.std.specs.Prelude.{◌≡◌, ◌⊎◌, true, false, List, ◌∷◌, ◌++◌, ℕ, ℤ}
+use Rattle.words.specs.Lists.{In}
 use Rattle.theory.specs.Record.{entry, Record, Assignment, assigned, without}
-use Rattle.theory.specs.Tests.{is_open, all_assigned}
-use Rattle.std.specs.Prelude.{◌≡◌, ◌⊎◌, Bool, true, false, not, ◌&&◌, ◌||◌, List, ◌≤◌, ◌<◌, leb, ℤ, neg_ℤ}
-use Rattle.std.proofs.Common.{◌∙◌, inl, inr, leb→le, ltb→lt, le→leb}
-use Rattle.words.specs.Laws.Bools.{clash, look, T→eq, eq→T, and_l, and_r, and_i, or_e, or_l, or_r, not_t, to_false}
-use Rattle.words.specs.Lists.{In, all, any}
-use Rattle.words.specs.Laws.Lists.{all_e, all_i, any_i, any_f, any_more}
-use Rattle.words.specs.Words.{mem}
-use Rattle.words.specs.Laws.Words.{eq_z_eq, mem_i, mem_e, nat_abs_neg}
+use Rattle.theory.specs.Tests.{all_assigned}
+use Rattle.std.specs.Prelude.{◌≡◌, ◌⊎◌, true, false, List, ◌≤◌, ◌<◌, ℤ, neg_ℤ}
+use Rattle.words.specs.Lists.{In, any}
 use Rattle.formula.specs.Formula.{existential, universal, level}
-use Rattle.formula.specs.Laws.Prefix.{stands, stands_neg, stands_bound, existential_stands, universal_stands, level_var}
+use Rattle.formula.specs.Laws.Prefix.{stands}
 use Rattle.theory.specs.Record.{Assignment, assigned}
-use Rattle.theory.specs.Tests.{unassigned_existential, unassigned_universal, in_conflict, is_only, is_deeper, unit_on, absent, monotone_wide, not_below, is_open}
-use Rattle.theory.specs.Grown.{put}
+use Rattle.theory.specs.Tests.{unassigned_existential, unassigned_universal}
 
 -- the last entry of a kind
 pub record Last (k : ℕ) (r : Record) : Type 0 where

@@ -29,7 +29,7 @@ use Rattle.choice.specs.declared.found.Picked.TheVariants.{Is, NoLiteral}
 use Rattle.record.specs.declared.found.Found.TheVariants.{At}
 use Rattle.clauses.specs.declared.found.UnitFound.TheVariants.{On, NoUnit}
 use Rattle.record.specs.Inner.Tables.{places}
-use Rattle.rules.specs.Inner.Meant.{Meant, AllMeant}
+use Rattle.rules.specs.Inner.Meant.{AllMeant}
 
 pub ltb_min : (a b c : ℕ) → ltb a (min b c) ≡ (ltb a b && ltb a c)
 ltb_min a b c = go (look (ltb a b)) (look (ltb a c))

@@ -1,5 +1,5 @@
 -- The due rule names a clause of the block, so that its reason is at most C; and it has a place to write a reason to. By the cases of the searches.
-use Rattle.std.specs.Prelude.{ℕ, ◌+◌, ◌≤◌, ◌<◌, ◌≡◌, Bool, true, length, get_or, drop}
+use Rattle.std.specs.Prelude.{ℕ, ◌+◌, ◌≤◌, ◌<◌, ◌≡◌, Bool, length, get_or, drop}
 use Rattle.std.proofs.Math.Path.{refl}
 use Rattle.std.proofs.Common.{ap, ◌∙◌, arith, length-drop, length-take-le}
 use mathlib.Core.List.{List, []}
@@ -12,7 +12,7 @@ use Rattle.formula.specs.Block.{refusal}
 use Rattle.formula.specs.Laws.Accepted.{accepted}
 use Rattle.formula.specs.Laws.Clauses.{clauses_length}
 use Rattle.theory.specs.Record.{Record, true_in}
-use Rattle.theory.specs.Tests.{in_conflict, unit_on}
+use Rattle.theory.specs.Tests.{in_conflict}
 use Rattle.record.specs.declared.rule.Rule.{Rule}
 use Rattle.record.specs.declared.rule.Rule.TheVariants.{BacktrackExists, Fail, Unit, Monotone, Decide, BacktrackForall, Succeed}
 use Rattle.record.specs.declared.found.Found.{Found}

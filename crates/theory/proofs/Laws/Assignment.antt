@@ -9,7 +9,7 @@ use Rattle.words.specs.Words.{eq_z, mem}
 use Rattle.words.specs.Laws.Words.{eq_z_refl, eq_z_eq, mem_append, negneg, nat_abs_neg, var_cases, same_variable}
 use Rattle.formula.specs.Laws.Prefix.{stands, stands_mem}
 use Rattle.formula.specs.Truth.{asked}
-use Rattle.theory.specs.Record.{Entry, entry, Record, literals, Assignment, among, true_in, assigned}
+use Rattle.theory.specs.Record.{Entry, Record, literals, Assignment, among, true_in, assigned}
 use Rattle.theory.proofs.Laws.Asked.{asked_exchange}
 use Rattle.theory.specs.Grown.{put, after, given}
 

@@ -1,5 +1,5 @@
 -- What the tests say, taken apart, and what one more literal leaves of it. Each from its definition in Tests.
-use Rattle.std.specs.Prelude.{◌≡◌, ◌⊎◌, Bool, true, false, not, ◌&&◌, ◌||◌, List, ◌≤◌, ◌<◌, leb, ℤ, neg_ℤ}
+use Rattle.std.specs.Prelude.{◌≡◌, ◌⊎◌, Bool, true, false, not, ◌&&◌, ◌||◌, List, leb, ℤ, neg_ℤ}
 use Rattle.std.proofs.Common.{◌∙◌, inl, inr, leb→le, ltb→lt, le→leb}
 use Rattle.words.specs.Laws.Bools.{clash, look, T→eq, eq→T, and_l, and_r, and_i, or_e, or_l, or_r, not_t, to_false}
 use Rattle.words.specs.Lists.{In, all, any}
