@@ -13,6 +13,7 @@ pub mod Wins
 -- any list of pages, and what is claimed of it; the opening that an ended session shows
 pub mod Pages
 pub mod Found
--- what functions say to each other
+-- values put before values
 pub mod Onto
+-- what functions say to each other
 pub mod Inner

@@ -11,12 +11,6 @@ use Rattle.listing.specs.Opening.{openings}
 use Rattle.listing.specs.Wins.{listing}
 use Rattle.record.specs.Inner.Ready.{Room}
 use Rattle.words.specs.Outcomes.{Outcome}
-use Prim.Native.Nat.{ℕ, ◌-◌}
-use Rattle.std.specs.Prelude.{◌≡◌, List, ℤ}
-use Rattle.words.specs.Outcomes.{Outcome}
-use Rattle.formula.specs.Formula.{formula_of}
-use Rattle.listing.specs.declared.Paged.TheVariants.{Refused}
-use Rattle.listing.specs.Page.{PageMemory, page_of}
 
 -- ---- [demand.3.pages] what a page is given besides the block and its start: a work record, preferences, a budget and an output, each its own
 pub record Given : Type 0 where

@@ -1,14 +1,10 @@
 -- What a test that is met says: the entries, words and clauses that it is about.
-use Rattle.std.specs.Prelude.{◌≡◌, ◌⊎◌, true, false, List, ◌∷◌, ◌++◌, ℕ, ℤ}
-use Rattle.words.specs.Lists.{In}
-use Rattle.theory.specs.Record.{entry, Record, Assignment, assigned, without}
-use Rattle.theory.specs.Tests.{all_assigned}
-use Rattle.std.specs.Prelude.{◌≡◌, ◌⊎◌, true, false, List, ◌≤◌, ◌<◌, ℤ, neg_ℤ}
+use Rattle.std.specs.Prelude.{◌≡◌, ◌⊎◌, ◌≤◌, ◌<◌, true, false, List, ◌∷◌, ◌++◌, ℕ, ℤ, neg_ℤ}
 use Rattle.words.specs.Lists.{In, any}
 use Rattle.formula.specs.Formula.{existential, universal, level}
 use Rattle.formula.specs.Laws.Prefix.{stands}
-use Rattle.theory.specs.Record.{Assignment, assigned}
-use Rattle.theory.specs.Tests.{unassigned_existential, unassigned_universal}
+use Rattle.theory.specs.Record.{entry, Record, Assignment, assigned, without}
+use Rattle.theory.specs.Tests.{all_assigned, unassigned_existential, unassigned_universal}
 
 -- the last entry of a kind
 pub record Last (k : ℕ) (r : Record) : Type 0 where

@@ -42,36 +42,12 @@ module _ (c : tie.After-place_at-own invariant-loop decreases-loop) where
 sub-other : tie.Need-overflow_sub-other invariant-loop decreases-loop
 sub-other c = omega (arith, placed c)
 
-mul-if1 : tie.Need-offset_bounds-marks-other invariant-loop decreases-loop
-mul-if1 c = omega (arith, placed c)
-
-element-copy-out-if1 : tie.Need-bounds-marks-other invariant-loop decreases-loop
-element-copy-out-if1 c = omega (arith, placed c.before)
-
-returns : tie.Need-returns-then-marks-other invariant-loop decreases-loop
-returns c =
-    let at = c.before.before.before in
-    let inv = at.before.before.loop-i.invariant in
-    (hit _ _ _ _ _ _ inv _ (step at) (literal-small at.before) _ at.place_at-own.ensures _ (other-is at) c.if-marks-other.true, inv.fresh)
-
-mul-if2 : tie.Need-offset_bounds-marks-own invariant-loop decreases-loop
-mul-if2 c = omega (arith, placed c.before.before.before)
-
-element-copy-out-if2 : tie.Need-bounds-marks-own invariant-loop decreases-loop
-element-copy-out-if2 c = omega (arith, placed c.before.before.before)
-
-mul-marks : tie.Need-offset_bounds-marks-own-in-loop-i invariant-loop decreases-loop
-mul-marks c = omega (arith, placed c.before.before.before.before.before)
-
-element-write-marks : tie.Need-bounds-marks-own-in-loop-i invariant-loop decreases-loop
-element-write-marks c = placed c.before.before.before.before.before.before
-
 loop-again : tie.Need-loop-i-preserved invariant-loop decreases-loop
 loop-again c =
     let passed = c.before.before.before in
     let at = passed.before.before.before in
-    more _ _ _ _ _ _ at.before.before.loop-i.invariant _ (step at) (literal-small at.before) _ at.place_at-own.ensures _ (other-is at) passed.if-marks-other.false _
-    (⊎_elim (λ w. inl (w.if-marks-own.true, w.found-is)) (λ w. inr (w.if-marks-own.false, w.found-is)) c.before.if-marks-own.branch-raw)
+    more _ _ _ _ _ _ at.before.before.loop-i.invariant _ (step at) (literal-small at.before) _ at.place_at-own.ensures _ (other-is at) (λ e. omega arith) _
+    (grind arith)
 
 returns-2 : tie.Need-returns invariant-loop decreases-loop
 returns-2 c = (end _ _ _ _ _ _ c.before.loop-i.invariant c.loop-i-test.false, c.before.loop-i.invariant.fresh)
@@ -87,13 +63,14 @@ pair_in_spec =
     place-at-requires
     (λ c. omega arith)
     sub-other
-    mul-if1
-    element-copy-out-if1
-    returns
-    mul-if2
-    element-copy-out-if2
-    mul-marks
-    element-write-marks
+    (λ c. omega (arith, placed c))
+    (λ c. omega (arith, placed c.before))
+    (λ c. let at = c.before.before.before in
+    (hit _ _ _ _ _ _ at.before.before.loop-i.invariant _ (step at) (literal-small at.before) _ at.place_at-own.ensures _ (other-is at) (omega arith), at.before.before.loop-i.invariant.fresh))
+    (λ c. omega (arith, placed c.before.before.before))
+    (λ c. omega (arith, placed c.before.before.before))
+    (λ c. omega (arith, placed c.before.before.before.before.before))
+    (λ c. placed c.before.before.before.before.before.before)
     (λ c. omega arith)
     loop-again
     returns-2)

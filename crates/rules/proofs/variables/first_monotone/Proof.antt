@@ -33,25 +33,8 @@ signs-at-requires c κs =
     let sized = c.before.before.before in
     omega (arith, sized.size_at-v.ensures, small sized.before)
 
-returns : tie.Need-returns-then-signs-eq1 invariant-loop decreases-loop
-returns c =
-    let told = c.before.before in
-    let sized = told.before.before.before.before in
-    let turn = sized.before in
-    ap Is c.literal_at.ensures
-    ∙ left_here turn.before.loop-i.invariant turn.loop-i-test.true (monotone_plus _ _ _ sized.size_at-v.ensures told.before.if-values-v-eq0.true _ _ told.signs_at-signs.ensures c.before.if-signs-eq1.true)
-
 opposite-at-requires : tie.Need-opposite_at-requires invariant-loop decreases-loop
 opposite-at-requires c κs = small c.before.before.before.before.before.before.before
-
-returns-2 : tie.Need-returns-then-signs-eq2 invariant-loop decreases-loop
-returns-2 c =
-    let no_plus = c.before.before in
-    let told = no_plus.before in
-    let sized = told.before.before.before.before in
-    let turn = sized.before in
-    ap Is c.opposite_at.ensures
-    ∙ left_here turn.before.loop-i.invariant turn.loop-i-test.true (monotone_minus _ _ _ sized.size_at-v.ensures told.before.if-values-v-eq0.true _ _ told.signs_at-signs.ensures no_plus.if-signs-eq1.false c.before.if-signs-eq2.true)
 
 loop-again : tie.Need-loop-i-preserved invariant-loop decreases-loop
 loop-again c =
@@ -59,12 +42,21 @@ loop-again c =
     let turn = sized.before in
     left_past turn.before.loop-i.invariant turn.loop-i-test.true
     (⊎_elim
-    (λ w. monotone_mixed _ _ _ sized.size_at-v.ensures w.if-values-v-eq0.true _ _ w.signs_at-signs.ensures w.if-signs-eq1.false w.if-signs-eq2.false)
+    (λ w. monotone_mixed _ _ _ sized.size_at-v.ensures w.if-values-v-eq0.true _ _ w.signs_at-signs.ensures (λ e. omega arith) (λ e. omega arith))
     (λ w. monotone_set _ _ _ sized.size_at-v.ensures w.if-values-v-eq0.false _)
     c.if-values-v-eq0.branch-raw)
 
 pub first_monotone_spec : {M : Type 1} → statement M
 first_monotone_spec =
     tie.close
-    (tie.spec invariant-loop decreases-loop (λ c. left_begin) (λ c κs. search rules) element-copy-out-if1 signs-at-requires (λ c κs. search rules) returns
-    opposite-at-requires returns-2 (λ c. omega arith) (λ c. omega arith) loop-again (λ c. left_end c.before.loop-i.invariant c.loop-i-test.false))
+    (tie.spec invariant-loop decreases-loop (λ c. left_begin) (λ c κs. search rules) element-copy-out-if1 signs-at-requires (λ c κs. search rules)
+    (λ c. let told = c.before.before in
+    let turn = told.before.before.before.before.before in
+    ap Is c.literal_at.ensures
+    ∙ left_here turn.before.loop-i.invariant turn.loop-i-test.true (monotone_plus _ _ _ told.before.before.before.before.size_at-v.ensures told.before.if-values-v-eq0.true _ _ told.signs_at-signs.ensures (omega arith)))
+    opposite-at-requires
+    (λ c. let told = c.before.before.before in
+    let turn = told.before.before.before.before.before in
+    ap Is c.opposite_at.ensures
+    ∙ left_here turn.before.loop-i.invariant turn.loop-i-test.true (monotone_minus _ _ _ told.before.before.before.before.size_at-v.ensures told.before.if-values-v-eq0.true _ _ told.signs_at-signs.ensures (λ e. omega arith) (omega arith)))
+    (λ c. omega arith) (λ c. omega arith) loop-again (λ c. left_end c.before.loop-i.invariant c.loop-i-test.false))
