@@ -94,6 +94,10 @@ second_decides false true s d = clash refl d
 second_decides true false s d = clash refl d
 second_decides true true s d = refl
 
+-- a sign that is read at a place of the prefix, which was cut before
+pub sign_read : (b : List ℤ) (i : ℕ) {ws : List ℤ} {u : Bool} → u ≡ negative (get_or ws i (pos 0)) → ws ≡ prefix_of b → u ≡ negative (get_or (prefix_of b) i (pos 0))
+sign_read b i e p = e ∙ ap (λ (vs : List ℤ). negative (get_or vs i (pos 0))) p
+
 -- ---- one variable tried: the table at the start, with the first value, and after the answer f; u says that it is universal
 module _ (b : List ℤ) (i : ℕ) (r : Ready b i) (h : i < variables_of b) (values₀ values₁ values₂ : List ℤ) where
   abbrev q : ℤ
