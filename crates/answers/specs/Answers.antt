@@ -1,22 +1,17 @@
 -- What a call answers, as a status and as numbers: the status is 0, or the refusal's number; the numbers stand in the first places of a lent array.
-use Rattle.std.specs.Prelude.{ℕ, cond, List, [], ◌∷◌, ◌++◌}
+use Rattle.std.specs.Prelude.{ℕ, Bool, cond, List, [], ◌∷◌, ◌++◌, Result, Ok, Err}
 use Rattle.std.proofs.lemmas.List.Edits.{sets}
+use Rattle.words.specs.declared.Refusal.{Refusal}
 use Rattle.words.specs.Outcomes.{Outcome, outcome}
 use Rattle.session.specs.declared.Session.{Session}
-use Rattle.session.specs.declared.Answer.{Answer}
-use Rattle.session.specs.declared.Answer.TheVariants.{To, Refused}
 use Rattle.session.specs.declared.Stepped.{Stepped}
-use Rattle.session.specs.declared.Stepped.TheVariants.{Next, Not}
 use Rattle.session.specs.declared.Ran.{Ran}
-use Rattle.session.specs.declared.Ran.TheVariants.{Until, Stopped}
 use Rattle.memory.specs.States.{number_of, state_numbered}
 use Rattle.session.specs.Outcome.{session}
-use Rattle.listing.specs.declared.Paged as paged
-use Rattle.shown.specs.declared.Told as shown
-use Rattle.plain.specs.declared.Opinion as opinion
+use Rattle.listing.specs.declared.sheets.Page.{Page}
 use Rattle.plain.specs.Agrees.{state_told}
-use Rattle.text.specs.declared.Answer as read
-use Rattle.writer.specs.declared.Written as wrote
+use Rattle.text.specs.declared.Unread.{Unread}
+use Rattle.text.specs.declared.Unread.TheVariants.{Misfit, Refused, Row}
 
 -- an answer x told: its status, and its numbers in the first places of the array a
 abbrev pub telling : {A : Type 0} → (A → ℕ) → (A → List ℕ) → List ℕ → A → Outcome (List ℕ) ℕ
@@ -30,79 +25,77 @@ abbrev pub numbers_of : Session → List ℕ
 numbers_of s = s.length ∷ s.revision.0 ∷ number_of s.state ∷ []
 
 -- ---- opening: status 0 and the session's numbers, or the refusal's number and none
-abbrev pub opened_status : Answer → ℕ
-opened_status (To s) = 0
-opened_status (Refused n) = n
+abbrev pub opened_status : Result Session Refusal → ℕ
+opened_status (Ok s) = 0
+opened_status (Err e) = e.0
 
-abbrev pub opened_numbers : Answer → List ℕ
-opened_numbers (To s) = numbers_of s
-opened_numbers (Refused n) = []
+abbrev pub opened_numbers : Result Session Refusal → List ℕ
+opened_numbers (Ok s) = numbers_of s
+opened_numbers (Err e) = []
 
 -- ---- a step: its reason is a fourth number
-abbrev pub stepped_status : Stepped → ℕ
-stepped_status (Next s w) = 0
-stepped_status (Not n) = n
+abbrev pub stepped_status : Result Stepped Refusal → ℕ
+stepped_status (Ok r) = 0
+stepped_status (Err e) = e.0
 
-abbrev pub stepped_numbers : Stepped → List ℕ
-stepped_numbers (Next s w) = numbers_of s ++ w ∷ []
-stepped_numbers (Not n) = []
+abbrev pub stepped_numbers : Result Stepped Refusal → List ℕ
+stepped_numbers (Ok r) = numbers_of r.session ++ r.reason ∷ []
+stepped_numbers (Err e) = []
 
 -- ---- a run: the count of accepted steps is a fourth number, and the last one's reason a fifth
-abbrev pub ran_status : Ran → ℕ
-ran_status (Until s n w) = 0
-ran_status (Stopped n) = n
+abbrev pub ran_status : Result Ran Refusal → ℕ
+ran_status (Ok r) = 0
+ran_status (Err e) = e.0
 
-abbrev pub ran_numbers : Ran → List ℕ
-ran_numbers (Until s n w) = numbers_of s ++ n ∷ w ∷ []
-ran_numbers (Stopped n) = []
+abbrev pub ran_numbers : Result Ran Refusal → List ℕ
+ran_numbers (Ok r) = numbers_of r.session ++ r.steps ∷ r.reason ∷ []
+ran_numbers (Err e) = []
 
 -- ---- a page: where the next one begins, the entries written, and 1 for paused, else 0
-abbrev pub paged_status : paged.Paged → ℕ
-paged_status (paged.TheVariants.Page n e p) = 0
-paged_status (paged.TheVariants.Refused n) = n
+abbrev pub paged_status : Result Page Refusal → ℕ
+paged_status (Ok r) = 0
+paged_status (Err e) = e.0
 
-abbrev pub paged_numbers : paged.Paged → List ℕ
-paged_numbers (paged.TheVariants.Page n e p) = n ∷ e ∷ cond p 1 0 ∷ []
-paged_numbers (paged.TheVariants.Refused n) = []
+abbrev pub paged_numbers : Result Page Refusal → List ℕ
+paged_numbers (Ok r) = r.next ∷ r.entries ∷ cond r.paused 1 0 ∷ []
+paged_numbers (Err e) = []
 
 -- ---- [calls.shown] what an ended session shows: how many values were written
-abbrev pub showed_status : shown.Told → ℕ
-showed_status (shown.TheVariants.Values n) = 0
-showed_status (shown.TheVariants.Refused n) = n
+abbrev pub showed_status : Result ℕ Refusal → ℕ
+showed_status (Ok n) = 0
+showed_status (Err e) = e.0
 
-abbrev pub showed_numbers : shown.Told → List ℕ
-showed_numbers (shown.TheVariants.Values n) = n ∷ []
-showed_numbers (shown.TheVariants.Refused n) = []
+abbrev pub showed_numbers : Result ℕ Refusal → List ℕ
+showed_numbers (Ok n) = n ∷ []
+showed_numbers (Err e) = []
 
 -- ---- [calls.plain] a second opinion: the number of the state that it tells
-abbrev pub solved_status : opinion.Opinion → ℕ
-solved_status opinion.TheVariants.Valid = 0
-solved_status opinion.TheVariants.Unsat = 0
-solved_status (opinion.TheVariants.Refused n) = n
+abbrev pub solved_status : Result Bool Refusal → ℕ
+solved_status (Ok t) = 0
+solved_status (Err e) = e.0
 
-abbrev pub solved_numbers : opinion.Opinion → List ℕ
-solved_numbers opinion.TheVariants.Valid = number_of (state_told opinion.TheVariants.Valid) ∷ []
-solved_numbers opinion.TheVariants.Unsat = number_of (state_told opinion.TheVariants.Unsat) ∷ []
-solved_numbers (opinion.TheVariants.Refused n) = []
+abbrev pub solved_numbers : Result Bool Refusal → List ℕ
+solved_numbers (Ok t) = number_of (state_told (Ok t)) ∷ []
+solved_numbers (Err e) = []
 
 -- ---- [calls.read] a text: status 0 and the block's length; 27 and the place; 28, 29 or 30, and 0; 31 and the row
-abbrev pub read_status : read.Answer → ℕ
-read_status (read.TheVariants.Accepted n) = 0
-read_status (read.TheVariants.Misfit i) = 27
-read_status (read.TheVariants.Refused n) = n
-read_status (read.TheVariants.Row n) = 31
+abbrev pub read_status : Result ℕ Unread → ℕ
+read_status (Ok n) = 0
+read_status (Err (Misfit i)) = 27
+read_status (Err (Refused e)) = e.0
+read_status (Err (Row e)) = 31
 
-abbrev pub read_numbers : read.Answer → List ℕ
-read_numbers (read.TheVariants.Accepted n) = n ∷ []
-read_numbers (read.TheVariants.Misfit i) = i ∷ []
-read_numbers (read.TheVariants.Refused n) = 0 ∷ []
-read_numbers (read.TheVariants.Row n) = n ∷ []
+abbrev pub read_numbers : Result ℕ Unread → List ℕ
+read_numbers (Ok n) = n ∷ []
+read_numbers (Err (Misfit i)) = i ∷ []
+read_numbers (Err (Refused e)) = 0 ∷ []
+read_numbers (Err (Row e)) = e.0 ∷ []
 
 -- ---- [calls.write] a block written as a text: status 0 and the text's length, or the refusal's number and none
-abbrev pub wrote_status : wrote.Written → ℕ
-wrote_status (wrote.TheVariants.Text n) = 0
-wrote_status (wrote.TheVariants.Refused n) = n
+abbrev pub wrote_status : Result ℕ Refusal → ℕ
+wrote_status (Ok n) = 0
+wrote_status (Err e) = e.0
 
-abbrev pub wrote_numbers : wrote.Written → List ℕ
-wrote_numbers (wrote.TheVariants.Text n) = n ∷ []
-wrote_numbers (wrote.TheVariants.Refused n) = []
+abbrev pub wrote_numbers : Result ℕ Refusal → List ℕ
+wrote_numbers (Ok n) = n ∷ []
+wrote_numbers (Err e) = []

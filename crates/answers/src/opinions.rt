@@ -1,21 +1,19 @@
 // What a second opinion answers, as numbers.
 ghost use Rattle.answers.specs.Promises.{SolvedPromise};
 
-use plain::Opinion;
+use record::State;
+use words::Refusal;
 
-// What a second opinion answers: its state's number.
-pub fn solved(outcome: Opinion, answer: &mut [u64; 1]) -> u32
+// What a second opinion answers: the number of the state that it tells.
+pub fn solved(outcome: Result<bool, Refusal>, answer: &mut [u64; 1]) -> u32
     ensures { SolvedPromise outcome answer.old result answer.new }
 {
     match outcome {
-        Opinion::Valid => {
-            answer[0] = 1;
+        Ok(truth) => {
+            let state = if truth { State::Valid } else { State::Unsat };
+            answer[0] = u64::from(memory::number_of(state));
             0
         }
-        Opinion::Unsat => {
-            answer[0] = 2;
-            0
-        }
-        Opinion::Refused(number) => number,
+        Err(refusal) => refusal.0,
     }
 }

@@ -1,23 +1,20 @@
 // What a page answers, as numbers.
 ghost use Rattle.answers.specs.Promises.{PagedPromise};
 
-use listing::Paged;
+use listing::Page;
+use words::Refusal;
 
 // What a page answers: where the next one begins, the entries written, and whether it is paused.
-pub fn paged(outcome: Paged, answer: &mut [u64; 3]) -> u32
+pub fn paged(outcome: Result<Page, Refusal>, answer: &mut [u64; 3]) -> u32
     ensures { PagedPromise outcome answer.old result answer.new }
 {
     match outcome {
-        Paged::Page {
-            next,
-            entries,
-            paused,
-        } => {
-            answer[0] = next as u64;
-            answer[1] = entries as u64;
-            answer[2] = paused as u64;
+        Ok(page) => {
+            answer[0] = u64::from(page.next);
+            answer[1] = u64::from(page.entries);
+            answer[2] = u64::from(page.paused);
             0
         }
-        Paged::Refused(number) => number,
+        Err(refusal) => refusal.0,
     }
 }

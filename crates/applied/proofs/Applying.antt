@@ -3,25 +3,20 @@ use Prim.Native.Nat.{ℕ, ◌+◌, ◌≤◌, ◌<◌}
 use mathlib.Core.Path.{◌≡◌}
 use mathlib.Core.List.{List}
 use native.Mathlib.Omega.{arith}
-use borrow.Author.Tests.{eq-eqb, ne_eqb}
+use borrow.Author.Tests.{ne_eqb}
 use lib.ListN.{length, get_or}
 use Rattle.record.specs.Trail.{Trail, put, wiped_trail}
 use Rattle.applied.specs.Inner.Fits.{Cuttable, MoveFits, Fitting}
 use mathlib.Core.Bool.{cond}
 use lib.Dec.{eqb}
-use lib.IntN.{ℤ, pos, neg_ℤ, nat_abs}
-use Rattle.words.specs.declared.Literal.{Literal}
+use lib.IntN.{ℤ, pos, nat_abs}
 use Rattle.words.specs.Words.{opposite}
-use Rattle.words.specs.Laws.Words.{opposite_is, nat_abs_neg, mem_e}
-use Rattle.words.specs.Laws.Bools.{to_false}
+use Rattle.words.specs.Laws.Words.{opposite_is}
 use Rattle.formula.specs.Limits.{limits}
 use Rattle.formula.specs.Laws.Limits.{variables_small}
-use Rattle.formula.specs.Formula.{universal}
-use Rattle.formula.specs.Laws.Named.{in_named}
 use Rattle.theory.specs.Record.{entry}
 use Rattle.record.specs.Search.{search}
-use Rattle.record.specs.Found.{literal}
-use Rattle.applied.specs.Apply.{flip, kind_of, chosen, move_of}
+use Rattle.applied.specs.Apply.{flip, kind_of, move_of}
 use Rattle.record.specs.Inner.Tables.{Quantifiers}
 use Rattle.record.specs.Inner.Ready.{Bound, Kept}
 use Rattle.record.proofs.Laws.Filled.{quantifier_in}
@@ -40,20 +35,16 @@ cuttable k few h =
 pub flipped : {i n : ℕ} {t : Trail} → Cuttable i n t → {t' : Trail} {x : ℤ} → t' ≡ wiped_trail t (i + 1) n → x ≡ opposite (get_or t.lits i (pos 0)) → search (put t' i (entry 0 x)) (i + 1) Open ≡ flip i (search t n Open)
 flipped {i} {n} {t} h w e = rw (w, e, opposite_is (get_or t.lits i (pos 0)) h.small)
 
--- the literal of a decision
-pub first_chosen : (proposal : ℤ) (first : Literal) → nat_abs proposal ≡ 0 → first ≡ literal (chosen proposal first.0)
-first_chosen proposal first e = rw (eq-eqb (nat_abs proposal) 0 e)
+-- its kind: the table says it, of a variable past the last one too
+module _ (p : List ℤ) (b : Bound p) (l : ℤ) (t : List ℕ) (said : Quantifiers p t) (v : ℕ) (is : v ≡ nat_abs l) where
+  kind_by : cond (eqb (get_or t v 0) 2) 2 1 ≡ kind_of p l
+  kind_by = rw (is, quantifier_in p b t said l)
 
-pub proposal_chosen : (proposal first : Literal) → (nat_abs proposal.0 ≡ 0 → ⊥) → proposal ≡ literal (chosen proposal.0 first.0)
-proposal_chosen proposal first k = rw (ne_eqb (nat_abs proposal.0) 0 k)
+  pub kind_two : get_or t v 0 ≡ 2 → 2 ≡ kind_of p l
+  kind_two e = rw (← kind_by, e)
 
--- its kind: a variable past the last one is not universal, and of the others the table says it
-pub kind_over : (p : List ℤ) → Bound p → (l : ℤ) → limits.variables < nat_abs l → 1 ≡ kind_of p l
-unfolding universal
-kind_over p b l h = rw (to_false (universal p l) (λ e. let k = in_named (length p) p b.binds.named (mem_e (neg_ℤ (pos (nat_abs l))) p e) in omega (arith, k.most, nat_abs_neg (pos (nat_abs l)), b.room)))
-
-pub kind_by : (p : List ℤ) → Bound p → (l : ℤ) (t : List ℕ) → Quantifiers p t → (v : ℕ) → v ≡ nat_abs l → cond (eqb (get_or t v 0) 2) 2 1 ≡ kind_of p l
-kind_by p b l t said v is = rw (is, quantifier_in p b t said l)
+  pub kind_one : (get_or t v 0 ≡ 2 → ⊥) → 1 ≡ kind_of p l
+  kind_one k = rw (← kind_by, ne_eqb (get_or t v 0) 2 k)
 
 -- whatever the proposal, a rule that fits makes a move that does
 pub fitting : (p : List ℤ) (n : ℕ) (rule : Rule) (l : ℤ) → Fitting p n rule → MoveFits p n (move_of p rule l)

@@ -19,24 +19,17 @@ use words::Literal;
 fn chosen(proposal: Literal, first: Literal) -> Literal
     ensures { result ≡ literal (spec.chosen proposal.0 first.0) }
 {
-    if words::size(proposal.0) == 0 {
-        first
-    } else {
-        proposal
-    }
+    if proposal.0 == 0 { first } else { proposal }
 }
 
-// The kind of a decision on a literal: 2 if its variable is universal, else 1.
+// The kind of a decision on a literal: 2 if its variable is universal, else 1. A number, as the lent buffer of kinds holds it.
 fn kind_of(prefix: &[i32], literal: Literal) -> u8
     requires { Bound prefix.now }
     ensures { result ≡ kind_of prefix.now literal.0 }
 {
     let quantifiers = record::values_of(prefix, prefix.len());
-    let v = words::size(literal.0);
-    if formula::MAX_VARIABLES < v {
-        return 1;
-    }
-    if quantifiers[v] == 2 { 2 } else { 1 }
+    let quantifier = quantifiers.get(words::size(literal.0));
+    if quantifier == Some(&2) { 2 } else { 1 }
 }
 
 // What a rule does to the record, with the proposal that Decide is to take.
@@ -45,24 +38,17 @@ fn move_of(prefix: &[i32], rule: Rule, proposal: Literal) -> Move
     ensures { result ≡ move_of prefix.now rule proposal.0 }
 {
     match rule {
-        Rule::BacktrackExists { at, clause: _ } => Move::Flip { at: at },
-        Rule::Fail { clause: _ } => Move::End(State::Unsat),
-        Rule::Unit { literal, clause: _ } => Move::Append {
+        Rule::BacktrackExists { at, .. } | Rule::BacktrackForall { at } => Move::Flip { at },
+        Rule::Unit { literal, .. } | Rule::Monotone { literal } => Move::Append {
             kind: 0,
-            literal: literal,
-        },
-        Rule::Monotone { literal } => Move::Append {
-            kind: 0,
-            literal: literal,
+            literal,
         },
         Rule::Decide { first } => {
             let literal = chosen(proposal, first);
-            Move::Append {
-                kind: kind_of(prefix, literal),
-                literal: literal,
-            }
+            let kind = kind_of(prefix, literal);
+            Move::Append { kind, literal }
         }
-        Rule::BacktrackForall { at } => Move::Flip { at: at },
+        Rule::Fail { .. } => Move::End(State::Unsat),
         Rule::Succeed => Move::End(State::Valid),
     }
 }
@@ -83,9 +69,6 @@ pub fn apply(
     match move_of(formula::prefix(block), rule, proposal) {
         Move::Append { kind, literal } => append(lits, kinds, count, kind, literal),
         Move::Flip { at } => flip(lits, kinds, count, at),
-        Move::End(state) => Reached {
-            count: count,
-            state: state,
-        },
+        Move::End(state) => Reached { count, state },
     }
 }

@@ -37,8 +37,7 @@ pub fn append(
     requires { Room (count + 1) (trail lits.old kinds.old) }
     ensures { AppendPromise (trail lits.old kinds.old) count kind literal result (trail lits.new kinds.new) }
 {
-    let word = literal.0;
-    lits[count] = word;
+    lits[count] = literal.0;
     kinds[count] = kind;
     Reached {
         count: count + 1,

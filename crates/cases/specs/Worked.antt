@@ -1,9 +1,10 @@
 -- What the definitions say of the same blocks and calls, and the one claim: they say what the table says. By computing.
-use Rattle.std.specs.Prelude.{ℕ, ◌-◌, ◌≡◌, refl, ℤ, pos, get_or, replicate}
+use Rattle.std.specs.Prelude.{ℕ, ◌-◌, ◌≡◌, refl, ℤ, pos, get_or, replicate, Result, Ok, Err}
 use mathlib.Core.List.{List, [], ◌∷◌, map, zip_with}
 use Rattle.std.specs.Int.Count.{ones}
 use Rattle.words.specs.Lists.{all, any}
-use Rattle.words.specs.Outcomes.{Outcome}
+use Rattle.words.specs.declared.Refusal.{Refusal}
+use Rattle.words.specs.Outcomes.{Outcome, refused}
 use Rattle.words.specs.Words.{eq_z, mem}
 use Rattle.formula.specs.Limits.{limits}
 use Rattle.formula.specs.Formula.{formula_of, variables_of, clauses_from, existential, universal, change, level_of, level, run, first_group}
@@ -23,12 +24,8 @@ use Rattle.record.specs.Trail.{record_of, wiped, entries}
 use Rattle.applied.specs.Apply.{apply}
 use Rattle.record.specs.Check.{bad_entries, bad_record}
 use Rattle.session.specs.declared.Session.{Session}
-use Rattle.session.specs.declared.Answer.{Answer}
-use Rattle.session.specs.declared.Answer.TheVariants.{To, Refused}
 use Rattle.session.specs.declared.Stepped.{Stepped}
-use Rattle.session.specs.declared.Stepped.TheVariants.{Next, Not}
 use Rattle.session.specs.declared.Ran.{Ran}
-use Rattle.session.specs.declared.Ran.TheVariants.{Until, Stopped}
 use Rattle.memory.specs.Refusals.{open_refusal}
 use Rattle.session.specs.Refusals.{step_refusal, run_refusal}
 use Rattle.memory.specs.Memory.{Memory, memory}
@@ -36,7 +33,7 @@ use Rattle.session.specs.Outcome.{open_outcome, step_outcome}
 use Rattle.memory.specs.Reasons.{bad_reasons}
 use Rattle.search.specs.Run.{advance, run_from, why_from}
 use Rattle.session.specs.Run.{run_of}
-use Rattle.listing.specs.declared.Paged as paged
+use Rattle.listing.specs.declared.sheets.Page.{Page}
 use Rattle.listing.specs.Opening.{values_of, opening_start}
 use Rattle.listing.specs.Page.{PageMemory, page_refusal, page_from, page_of}
 use Rattle.cases.specs.Table as said
@@ -68,17 +65,17 @@ next x u = seen (x ∷ u.heard) u.state u.reasons
 abbrev pub last_of : Memory → ℕ → ℤ
 last_of m n = get_or m.trail.lits (n - 1) (pos 0)
 
-abbrev pub stepped : Session → Rule → Memory → Stepped → (Session → Memory → Seen) → Seen
-stepped s r m (Next t w) rest = next (named r (last_of m t.length) w) (rest t m)
-stepped s r m (Not n) rest = next (said.refused n) (rest s m)
+abbrev pub stepped : Session → Rule → Memory → Result Stepped Refusal → (Session → Memory → Seen) → Seen
+stepped s r m (Ok t) rest = next (named r (last_of m t.session.length) t.reason) (rest t.session m)
+stepped s r m (Err e) rest = next (said.refused e.0) (rest s m)
 
-abbrev pub run_as : Session → Memory → Ran → (Session → Memory → Seen) → Seen
-run_as s m (Until t n w) rest = next (said.ran n (last_of m t.length) w) (rest t m)
-run_as s m (Stopped n) rest = next (said.refused n) (rest s m)
+abbrev pub run_as : Session → Memory → Result Ran Refusal → (Session → Memory → Seen) → Seen
+run_as s m (Ok t) rest = next (said.ran t.steps (last_of m t.session.length) t.reason) (rest t.session m)
+run_as s m (Err e) rest = next (said.refused e.0) (rest s m)
 
-abbrev pub paged_as : PageMemory → paged.Paged → Said
-paged_as m (paged.TheVariants.Page n e p) = said.listed n e p m.output
-paged_as m (paged.TheVariants.Refused n) = said.refused n
+abbrev pub paged_as : PageMemory → Result Page Refusal → Said
+paged_as m (Ok a) = said.listed a.next a.entries a.paused m.output
+paged_as m (Err e) = said.refused e.0
 
 pub calling : List ℤ → List Asked → Session → Memory → Seen
 calling b [] s m = seen [] s.state m.reasons
@@ -93,9 +90,9 @@ calling b (said.page start budget out ∷ rest) s m =
     next (paged_as o.memory o.answer) (calling b rest s (record { trail = o.memory.work; reasons = m.reasons }))
 
 -- from the opening, on buffers of V places that hold something
-abbrev pub opened : List ℤ → List Asked → Outcome Memory Answer → Answer → Seen
-opened b calls o (To s) = calling b calls s o.memory
-opened b calls o (Refused n) = seen (said.refused n ∷ []) Open []
+abbrev pub opened : List ℤ → List Asked → Outcome Memory (Result Session Refusal) → Result Session Refusal → Seen
+opened b calls o (Ok s) = calling b calls s o.memory
+opened b calls o (Err e) = seen (said.refused e.0 ∷ []) Open []
 
 pub worked : Case → Seen
 worked c =
@@ -108,6 +105,6 @@ unfolding table case_a case_a_monotone case_b case_c case_d case_e case_f case_g
 worked_by_hand = refl
 
 -- [case.n] the same on record buffers of no places: 23 is looked at before 11
-pub without_places : (open_outcome limits case_n.block (memory [] [] []) (record { 0 = 0 })).answer ≡ Refused 23
+pub without_places : (open_outcome limits case_n.block (memory [] [] []) (record { 0 = 0 })).answer ≡ refused 23
 unfolding case_n open_outcome open_refusal refusal limits twice bad_ends both_signs repeats all any eq_z mem clauses_from
 without_places = refl

@@ -1,6 +1,6 @@
 -- What each public function promises of everything at entry, r being its answer; and [only] that the promise fits one answer. A promise is an equation
 -- with a definition.
-use Rattle.std.specs.Prelude.{◌≡◌, Bool, List, ℕ, ℤ, take}
+use Rattle.std.specs.Prelude.{◌≡◌, Bool, List, ℕ, ℤ, take, Option}
 use Rattle.words.specs.Outcomes.{only_one}
 use Rattle.words.specs.declared.Literal.{Literal}
 use Rattle.formula.specs.Formula.{prefix_of}
@@ -10,7 +10,6 @@ use Rattle.record.specs.Found.{literal}
 use Rattle.choice.specs.First.{first_of}
 use Rattle.choice.specs.Preferred.{first_open}
 use Rattle.choice.specs.Inner.Variables.{unassigned_in}
-use Rattle.choice.specs.declared.found.Picked.{Picked}
 
 -- ---- what is asked of a block and a record, of n entries
 -- the record's literals alone, ls, say which are open
@@ -27,8 +26,8 @@ pub only_first_open : {r r' : Literal} (b ls : List ℤ) (n : ℕ) (list : List 
 only_first_open b ls n list = only_one
 
 -- ---- what is asked of a prefix and a table of values
-abbrev pub FirstUnassignedPromise : List ℤ → List ℕ → Picked → Type 0
+abbrev pub FirstUnassignedPromise : List ℤ → List ℕ → Option Literal → Type 0
 FirstUnassignedPromise p values r = r ≡ first_of (unassigned_in values) p
 
-pub only_first_unassigned : {r r' : Picked} (p : List ℤ) (values : List ℕ) → FirstUnassignedPromise p values r → FirstUnassignedPromise p values r' → r ≡ r'
+pub only_first_unassigned : {r r' : Option Literal} (p : List ℤ) (values : List ℕ) → FirstUnassignedPromise p values r → FirstUnassignedPromise p values r' → r ≡ r'
 only_first_unassigned p values = only_one

@@ -6,12 +6,11 @@ ghost use Rattle.tables.specs.Inner.Levels.{Levels};
 ghost use Rattle.choice.specs.Promises.{IsOpenPromise, FirstOpenPromise};
 ghost use Rattle.record.specs.Inner.Ready.{Bound, HeldOn};
 ghost use Rattle.choice.specs.Inner.Variables.{lowest_in, open_in, preferred_in};
-ghost use Rattle.record.specs.Found.{literal};
-ghost use Rattle.choice.specs.First.{on_picked, first_of};
+ghost use Rattle.record.specs.Found.{literal, on_found};
+ghost use Rattle.choice.specs.First.{first_of};
 
-use crate::found::Picked;
 use crate::variables::first_unassigned;
-use record::{PLACES, literal_at};
+use record::PLACES;
 use tables::NO_LEVEL;
 use words::Literal;
 
@@ -21,12 +20,13 @@ fn lowest_level(prefix: &[i32], values: &[u8; PLACES], levels: &[u16; PLACES]) -
     ensures { result ≡ lowest_in values.now levels.now prefix.now }
 {
     match first_unassigned(prefix, values) {
-        Picked::Is(first) => levels[words::size(first.0)],
-        Picked::NoLiteral => NO_LEVEL,
+        Some(first) => levels[words::size(first.0)],
+        None => NO_LEVEL,
     }
 }
 
 // Whether a variable is of the prefix, of n words, unassigned, and of no higher level than the lowest.
+#[tactic(auto, using(formula::specs::Laws::Limits::variables_are, std::proofs::lemmas::Bool::Decides::nat_tests), unfolding(crate::specs::Inner::Variables::open_in))]
 fn open_variable(
     v: usize,
     n: usize,
@@ -37,16 +37,7 @@ fn open_variable(
     requires { n ≤ limits.variables }
     ensures { result ≡ open_in n values.now levels.now lowest v }
 {
-    if v == 0 {
-        return false;
-    }
-    if n < v {
-        return false;
-    }
-    if values[v] != 0 {
-        return false;
-    }
-    levels[v] <= lowest
+    v != 0 && v <= n && values[v] == 0 && levels[v] <= lowest
 }
 
 // Whether a literal is open over the first entries of a record.
@@ -77,17 +68,11 @@ fn first_in(
     lowest: u16,
 ) -> Literal
     requires { n ≤ limits.variables }
-    ensures { result ≡ literal (on_picked (first_of (preferred_in n values.now levels.now lowest) list.now) (λ l. l.0) (pos 0)) }
+    ensures { result ≡ literal (on_found (first_of (preferred_in n values.now levels.now lowest) list.now) (λ l. l.0) (pos 0)) }
 {
-    let mut i = 0;
-    while i < list.len() {
-        let v = words::size_at(list, i);
-        if open_variable(v, n, values, levels, lowest) {
-            return literal_at(list, i);
-        }
-        i += 1;
-    }
-    Literal(0)
+    list.iter()
+        .find(|word| open_variable(words::size(**word), n, values, levels, lowest))
+        .map_or(Literal(0), |word| Literal(*word))
 }
 
 // The first open literal of a list of any content, 0 if it has none.

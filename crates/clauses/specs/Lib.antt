@@ -1,7 +1,8 @@
 -- The clauses by the tables. To be read in this order.
 
--- the lowest clause of a kind
+-- the lowest clause of a kind, and a unit clause
 pub mod Lowest
+pub mod Found
 -- what each function promises, and that it leaves one result
 pub mod Promises
 -- what functions say to each other

@@ -1,24 +1,40 @@
 // The clauses in conflict, and the unit clauses. Clause c has the literal words from the end before it to its own.
-ghost use Rattle.std.specs.Prelude.{◌≡◌, ◌+◌, ◌≤◌, ◌<◌, pos, nat_abs, length, get_or, drop};
+ghost use Rattle.std.specs.Prelude.{◌≡◌, ◌≤◌, pos, nat_abs, get_or};
 ghost use Rattle.formula.specs.Limits.{limits};
-ghost use Rattle.formula.specs.Formula.{clauses_from};
-ghost use Rattle.clauses.specs.Lowest.{lowest};
+ghost use Rattle.record.specs.Inner.Tables.{places};
 ghost use Rattle.tables.specs.Inner.ByLiteral.{status_in};
-ghost use Rattle.clauses.specs.Inner.Clauses.{Placed, Clauses, level_by, conflict_by, Shown, decides_by, sight_of, decided_by};
-ghost use Rattle.clauses.specs.Promises.{StatusAtPromise, DecidingPromise};
+ghost use Rattle.clauses.specs.Inner.Clauses.{Placed, Clauses, level_by, conflict_by, sight_from};
+ghost use Rattle.clauses.specs.Promises.{StatusPromise, StatusAtPromise, DecidingPromise};
 
-use crate::found::{Deciding, UnitFound};
-use formula::{LITERAL_PLACES, place_at};
-use record::{Found, PLACES, literal_at};
+use crate::found::{Deciding, UnitClause};
+use formula::{LITERAL_PLACES, place};
+use record::{PLACES, literal_at};
 use tables::NO_LEVEL;
+use words::Literal;
 
-// What the literal at an index is to its clause: 0 false, 1 true, 2 unassigned existential, 3 unassigned universal.
+// What a literal is to its clause: 0 false, 1 true, 2 unassigned existential, 3 unassigned universal. And of the literal at an index. The table is
+// lent, and its bytes are what its lender has: an enum would ask more of them.
+pub fn status(word: i32, statuses: &[u8; LITERAL_PLACES]) -> u8
+    requires { nat_abs word ≤ limits.variables }
+    ensures { StatusPromise word statuses.now result }
+{
+    statuses[place(word)]
+}
+
 pub fn status_at(ws: &[i32], i: usize, statuses: &[u8; LITERAL_PLACES]) -> u8
     requires { nat_abs (get_or ws.now i (pos 0)) ≤ limits.variables }
     ensures { StatusAtPromise ws.now i statuses.now result }
 {
-    let at = place_at(ws, i);
-    statuses[at]
+    status(literal_at(ws, i).0, statuses)
+}
+
+// The level of a literal's variable.
+#[tactic(auto, using(formula::specs::Laws::Limits::variables_are))]
+fn level(word: i32, levels: &[u16; PLACES]) -> u16
+    requires { nat_abs word ≤ limits.variables }
+    ensures { result ≡ level_by levels.now word }
+{
+    levels[words::size(word)]
 }
 
 // Whether a clause has no true literal and no unassigned existential literal.
@@ -26,127 +42,42 @@ fn in_conflict(clause: &[i32], statuses: &[u8; LITERAL_PLACES]) -> bool
     requires { Placed clause.now }
     ensures { result ≡ conflict_by (status_in statuses.now) clause.now }
 {
-    let mut i = 0;
-    while i < clause.len() {
-        let status = status_at(clause, i, statuses);
-        if status == 1 {
-            return false;
-        }
-        if status == 2 {
-            return false;
-        }
-        i += 1;
-    }
-    true
+    !clause
+        .iter()
+        .any(|word| matches!(status(*word, statuses), 1 | 2))
 }
 
-// The lowest clause in conflict from number `first` on, whose literal words begin at `start`.
-fn lowest_conflict(
-    ends: &[i32],
-    literals: &[i32],
-    first: usize,
-    start: usize,
-    statuses: &[u8; LITERAL_PLACES],
-) -> Found
-    requires { Clauses (drop first ends.now) literals.now start }
-    ensures { result ≡ lowest (conflict_by (status_in statuses.now)) first (clauses_from literals.now start (drop first ends.now)) }
-{
-    let mut from = start;
-    let mut c = first;
-    while c < ends.len() {
-        let end = words::size_at(ends, c);
-        if in_conflict(&literals[from..end], statuses) {
-            return Found::At(c);
-        }
-        from = end;
-        c += 1;
-    }
-    Found::Nothing
-}
-
-// What the literals of a clause have shown so far.
+// What a clause shows when its literals are read.
 #[derive(Clone, Copy)]
-struct Look {
-    place: usize, // of its unassigned existential literal, or the clause's length while it has none
-    above: u16, // the lowest level of its unassigned universal literals, or NO_LEVEL while it has none
-    over: bool, // it has a true literal, or two unassigned existential ones: it is neither in conflict nor a unit clause
+enum Sight {
+    InConflict,
+    UnitOn(Literal),
+    Neither,
 }
 
-impl Look {
-    // One literal more.
-    fn with(
-        mut self,
-        clause: &[i32],
-        j: usize,
-        statuses: &[u8; LITERAL_PLACES],
-        levels: &[u16; PLACES],
-    ) -> Look
-        requires placed { Placed clause.now }
-        requires j_in_bounds { j < length clause.now }
-        ensures { Shown (status_in statuses.now) (level_by levels.now) clause.now self (get_or clause.now j (pos 0)) result }
-    {
-        let status = status_at(clause, j, statuses);
-        if status == 0 {
-            return self;
+// No further than a true literal, or a second unassigned existential one: then it is neither.
+fn look(clause: &[i32], statuses: &[u8; LITERAL_PLACES], levels: &[u16; PLACES]) -> Sight
+    requires { Placed clause.now }
+    ensures { result ≡ sight_from (status_in statuses.now) (level_by levels.now) places clause.now }
+{
+    let mut kept = None; // its unassigned existential literal
+    let mut above = NO_LEVEL; // the lowest level of its unassigned universal literals, or NO_LEVEL while it has none
+    for word in clause {
+        match status(*word, statuses) {
+            0 => {}
+            1 => return Sight::Neither,
+            2 if kept.is_some() => return Sight::Neither,
+            2 => kept = Some(*word),
+            _ => above = above.min(level(*word, levels)),
         }
-        if status == 1 {
-            self.over = true;
-            return self;
-        }
-        if status == 2 {
-            if clause.len() <= self.place {
-                self.place = j;
-            } else {
-                self.over = true;
-            }
-            return self;
-        }
-        let level = levels[words::size_at(clause, j)];
-        if level < self.above {
-            self.above = level;
-        }
-        self
     }
-
-    // Whether all the clause's literals were seen, and it is in conflict or a unit clause.
-    fn decides(self, clause: &[i32], j: usize, levels: &[u16; PLACES]) -> bool
-        requires { Placed clause.now }
-        ensures { result ≡ decides_by levels.now clause.now j self }
-    {
-        if j < clause.len() {
-            return false;
-        }
-        if clause.len() <= self.place {
-            return true;
-        }
-        levels[words::size_at(clause, self.place)] < self.above
-    }
-
-    // What a clause that decides makes due, as number c: in conflict, itself; as a unit clause, a conflict after it, or else itself. The
-    // clauses after it begin at the literal word `next`.
-    fn decided(
-        self,
-        clause: &[i32],
-        c: usize,
-        ends: &[i32],
-        literals: &[i32],
-        next: usize,
-        statuses: &[u8; LITERAL_PLACES],
-    ) -> Deciding
-        requires c_in_bounds { c < length ends.now }
-        requires clauses { Clauses (drop (c + 1) ends.now) literals.now next }
-        ensures { (rest : Deciding) → result ≡ decided_by (status_in statuses.now) c (sight_of clause.now self) (clauses_from literals.now next (drop (c + 1) ends.now)) rest }
-    {
-        if clause.len() <= self.place {
-            return Deciding::Conflict(c);
-        }
-        match lowest_conflict(ends, literals, c + 1, next, statuses) {
-            Found::At(later) => Deciding::Conflict(later),
-            Found::Nothing => Deciding::Quiet(UnitFound::On {
-                literal: literal_at(clause, self.place),
-                clause: c,
-            }),
-        }
+    let Some(word) = kept else {
+        return Sight::InConflict;
+    };
+    if level(word, levels) < above {
+        Sight::UnitOn(Literal(word))
+    } else {
+        Sight::Neither
     }
 }
 
@@ -160,35 +91,19 @@ pub fn deciding(
     requires { Clauses ends.now literals.now 0 }
     ensures { DecidingPromise ends.now literals.now statuses.now levels.now result }
 {
-    let mut found = Deciding::Quiet(UnitFound::NoUnit);
-    let mut from = 0;
-    let mut c = 0;
-    // [unit.search] Upwards, and no further than the first clause that decides.
-    'search: while c < ends.len() {
-        let end = words::size_at(ends, c);
-        let clause = &literals[from..end];
-        let mut look = Look {
-            place: clause.len(),
-            above: NO_LEVEL,
-            over: false,
+    let mut unit: Option<UnitClause> = None;
+    for (c, clause) in formula::Clauses::of(ends, literals).enumerate() {
+        // [unit.search] Upwards; after the first unit clause only a conflict counts, which fewer literals show.
+        let seen = match unit {
+            None => look(clause, statuses, levels),
+            Some(_) if in_conflict(clause, statuses) => Sight::InConflict,
+            Some(_) => Sight::Neither,
         };
-        let mut j = 0;
-        loop {
-            if look.decides(clause, j, levels) {
-                found = look.decided(clause, c, ends, literals, end, statuses);
-                break 'search;
-            }
-            if clause.len() <= j {
-                break;
-            }
-            look = look.with(clause, j, statuses, levels);
-            if look.over {
-                break;
-            }
-            j += 1;
+        match seen {
+            Sight::InConflict => return Deciding::Conflict(c),
+            Sight::UnitOn(literal) => unit = Some(UnitClause { literal, clause: c }),
+            Sight::Neither => {}
         }
-        from = end;
-        c += 1;
     }
-    found
+    Deciding::Quiet(unit)
 }

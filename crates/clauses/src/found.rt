@@ -3,14 +3,14 @@ use words::Literal;
 
 // A unit clause, and its literal.
 #[derive(Clone, Copy)]
-pub enum UnitFound {
-    On { literal: Literal, clause: usize },
-    NoUnit,
+pub struct UnitClause {
+    pub literal: Literal,
+    pub clause: usize,
 }
 
 // What the clauses make due: the lowest one in conflict, or with none in conflict the lowest unit clause, if there is one.
 #[derive(Clone, Copy)]
 pub enum Deciding {
     Conflict(usize),
-    Quiet(UnitFound),
+    Quiet(Option<UnitClause>),
 }

@@ -4,5 +4,5 @@
 mod found; // what a search finds
 mod clauses; // the search
 
-pub use clauses::{deciding, status_at};
-pub use found::{Deciding, UnitFound};
+pub use clauses::{deciding, status, status_at};
+pub use found::{Deciding, UnitClause};

@@ -2,7 +2,5 @@
 
 -- the room
 pub mod Room
-pub mod Desk
--- a line, its words, and their numbers
-pub mod Line
+-- the number that a word stands for
 pub mod Numbers

@@ -1,113 +1,76 @@
 // A line: its bytes as they come in, and its words, parted by spaces.
 ghost use Rattle.std.specs.Prelude.{◌≤◌, length};
-ghost use Rattle.console.specs.Line.{Ahead};
-ghost use Rattle.console.specs.Room.{line_bytes, part_bytes};
+ghost use Rattle.std.specs.Iterator.{at_most};
+ghost use Rattle.console.specs.Room.{line_bytes};
 
-use crate::room::{LINE_BYTES, PART_BYTES};
+use crate::room::LINE_BYTES;
 
-// How far a line has come in: where the input goes on, how many bytes of the line are kept, whether there were more than it has room for,
-// and whether its line feed has come.
-#[derive(Clone, Copy)]
-pub(crate) struct Gathered {
-    pub(crate) next: usize,
-    pub(crate) count: usize,
-    pub(crate) long: bool,
-    pub(crate) ended: bool,
+// The bytes that there was room for, and whether there were more.
+#[derive(Drop)]
+pub(crate) struct Line {
+    bytes: [u8; LINE_BYTES],
+    count: usize,
+    long: bool,
+    ghost within: { count ≤ line_bytes },
 }
 
-// A word of a line, from start up to end. Where there is none left, the two are equal.
-#[derive(Clone, Copy)]
-pub(crate) struct Word {
-    pub(crate) start: usize,
-    pub(crate) end: usize,
-}
-
-// Puts the bytes of a part of the input, from one place up to another or to the next line feed, behind those that the line has.
-pub(crate) fn gather(
-    part: &[u8; PART_BYTES],
-    from: usize,
-    to: usize,
-    line: &mut [u8; LINE_BYTES],
-    held: usize,
-    over: bool,
-) -> Gathered
-    requires to_le_part_bytes { to ≤ part_bytes }
-    requires held_le_line_bytes { held ≤ line_bytes }
-    ensures { result.count ≤ line_bytes }
-{
-    let mut i = from;
-    let mut count = held;
-    let mut long = over;
-    while i < to {
-        let b = part[i];
-        i += 1;
-        if b == b'\n' {
-            return Gathered {
-                next: i,
-                count,
-                long,
-                ended: true,
-            };
+impl Line {
+    pub(crate) fn new() -> Line {
+        Line {
+            bytes: [0; LINE_BYTES],
+            count: 0,
+            long: false,
         }
-        if count < LINE_BYTES {
-            line[count] = b;
-            count += 1;
+    }
+
+    pub(crate) fn clear(&mut self) {
+        self.count = 0;
+        self.long = false;
+    }
+
+    // Puts bytes behind those that the line has.
+    pub(crate) fn push(&mut self, bytes: &[u8]) {
+        let free = &mut self.bytes[self.count..];
+        let kept = bytes.len().min(free.len());
+        free[..kept].copy_from_slice(&bytes[..kept]);
+        self.count += kept;
+        self.long |= kept < bytes.len();
+    }
+
+    // "Empty lines and lines that begin with `#`" get no answer, if they are not too long.
+    pub(crate) fn is_silent(&self) -> bool {
+        match self.bytes() {
+            Some([b'#', ..]) => true,
+            Some(bytes) => bytes.iter().all(|b| *b == b' '),
+            None => false,
+        }
+    }
+
+    // All of its bytes, if there was room for them.
+    pub(crate) fn bytes(&self) -> Option<&[u8]> {
+        if self.long {
+            None
         } else {
-            long = true;
+            Some(&self.bytes[..self.count])
         }
     }
-    Gathered {
-        next: i,
-        count,
-        long,
-        ended: false,
-    }
 }
 
-// Where the next word begins.
-fn word_start(line: &[u8], from: usize) -> usize
-    requires { from ≤ length line.now }
-    ensures { (from ≤ result) × (result ≤ length line.now) }
-{
-    let mut i = from;
-    while i < line.len() && line[i] == b' ' {
-        i += 1;
-    }
-    i
-}
+// The words of what is left of a line.
+#[derive(Clone, Copy)]
+pub(crate) struct Words<'a>(pub(crate) &'a [u8]);
 
-// Where the word at a place ends.
-fn word_end(line: &[u8], from: usize) -> usize
-    requires { from ≤ length line.now }
-    ensures { (from ≤ result) × (result ≤ length line.now) }
-{
-    let mut i = from;
-    while i < line.len() && line[i] != b' ' {
-        i += 1;
-    }
-    i
-}
+impl<'a> Iterator for Words<'a> {
+    type Item = &'a [u8];
 
-pub(crate) fn next_word(line: &[u8], from: usize) -> Word
-    requires { from ≤ length line.now }
-    ensures { Ahead from (length line.now) result }
-{
-    let start = word_start(line, from);
-    let end = word_end(line, start);
-    Word { start, end }
-}
+    ghost remaining = { λ s. at_most (length s.0.now) };
 
-// Whether a word is a name.
-pub(crate) fn is(word: &[u8], name: &[u8]) -> bool {
-    if word.len() != name.len() {
-        return false;
+    fn next(&mut self) -> Option<&'a [u8]> {
+        let start = self.0.iter().position(|b| *b != b' ')?;
+        let line = &self.0[start..];
+        let end = line.iter().position(|b| *b == b' ').unwrap_or(line.len());
+        let (word, rest) = line.split_at(end);
+        self.0 = rest;
+        Some(word)
     }
-    let mut i = 0;
-    while i < word.len() {
-        if word[i] != name[i] {
-            return false;
-        }
-        i += 1;
-    }
-    true
 }

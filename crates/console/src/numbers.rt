@@ -1,138 +1,120 @@
 // Numbers in a line: "decimal with an optional `-`".
-ghost use Rattle.std.specs.Prelude.{◌≡◌, cond, ◌+◌, ◌≤◌};
-ghost use Rattle.console.specs.Room.{word_below, word_most};
-ghost use Rattle.console.specs.Numbers.{natural_of, number_of, word_of, Fits};
+ghost use Rattle.std.specs.Prelude.{◌≡◌, ℤ, pos, IfSome};
+ghost use Rattle.console.specs.Numbers.{one_more, natural_of, signed, number_of, word_of, StandsFor};
 
-use crate::line::next_word;
-use crate::room::LONG_MOST;
-
-// What digits stand for. A number over 64 bits fits no place, so it is as good as none.
-#[derive(Clone, Copy)]
-enum Natural {
-    Value(u64),
-    NoNatural,
-}
+use crate::line::Words;
 
 // Digits behind a minus, or without one.
 #[derive(Clone, Copy)]
-struct Number {
-    negative: bool,
-    natural: Natural,
-}
-
-// The next number of a line, and where the line goes on behind it.
-#[derive(Clone, Copy)]
-pub(crate) struct Next {
+pub(crate) struct Number {
     pub(crate) negative: bool,
     pub(crate) size: u64,
-    pub(crate) next: usize,
 }
 
-// Where a line goes on behind a word that is no number, or one that doesn't fit: past the end of every line, so that nothing fits there either.
-pub(crate) const NOWHERE: usize = usize::MAX;
-
-fn natural_of(word: &[u8]) -> Natural
-    ensures { result ≡ natural_of word.now }
+// A value with one more digit. A number over 64 bits fits no place, so it is as good as none.
+#[tactic(auto, using(std::proofs::lemmas::Bool::Decides::nat_tests))]
+fn one_more(value: u64, byte: u8) -> Option<u64>
+    ensures { result ≡ one_more value byte }
 {
-    if word.len() == 0 {
-        return Natural::NoNatural;
+    if !byte.is_ascii_digit() {
+        return None;
     }
-    let mut value: u64 = 0;
-    let mut i = 0;
-    while i < word.len() {
-        let b = word[i];
-        if b < b'0' || b'9' < b {
-            return Natural::NoNatural;
-        }
-        let digit = (b - b'0') as u64;
-        if (LONG_MOST - digit) / 10 < value {
-            return Natural::NoNatural;
-        }
-        value = value * 10 + digit;
-        i += 1;
-    }
-    Natural::Value(value)
+    let digit = byte - b'0';
+    value.checked_mul(10)?.checked_add(u64::from(digit))
 }
 
-fn number_of(word: &[u8]) -> Number
+// What digits stand for.
+fn natural_of(digits: &[u8]) -> Option<u64>
+    ensures { result ≡ natural_of digits.now }
+{
+    if digits.is_empty() {
+        return None;
+    }
+    let mut value = 0;
+    for byte in digits {
+        value = one_more(value, *byte)?;
+    }
+    Some(value)
+}
+
+fn signed(negative: bool, natural: Option<u64>) -> Option<Number>
+    ensures { result ≡ signed negative natural }
+{
+    let size = natural?;
+    Some(Number { negative, size })
+}
+
+fn number_of(word: &[u8]) -> Option<Number>
     ensures { result ≡ number_of word.now }
 {
-    if 0 < word.len() && word[0] == b'-' {
-        return Number {
-            negative: true,
-            natural: natural_of(&word[1..]),
-        };
-    }
-    Number {
-        negative: false,
-        natural: natural_of(word),
+    match word.strip_prefix(b"-") {
+        Some(digits) => signed(true, natural_of(digits)),
+        None => signed(false, natural_of(word)),
     }
 }
 
-// The largest size that fits, by the sign.
-fn limit(negative: bool, below: u64, most: u64) -> u64
-    ensures value { result ≡ cond negative below most }
-    ensures upper_bound { result ≤ below + most }
-{
-    if negative { below } else { most }
+// What a number is put into, if it fits. Minus zero is zero, and fits every place.
+pub(crate) trait Place: Copy {
+    ghost value: { Self → ℤ };
+
+    fn fitted(number: Number) -> Option<Self>
+        ensures { IfSome result (λ place. value place ≡ word_of number.negative number.size) };
 }
 
-// The number of a word that ends at a place, if it fits.
-fn fitted(number: Number, below: u64, most: u64, end: usize) -> Next
-    ensures { Fits below most result }
-{
-    let negative = number.negative;
-    let natural = number.natural;
-    if let Natural::Value(size) = natural {
-        if size <= limit(negative, below, most) {
-            return Next {
-                negative,
-                size,
-                next: end,
-            };
+impl Place for i32 {
+    ghost value = { λ n. n };
+
+    fn fitted(number: Number) -> Option<i32> {
+        let size = i64::try_from(number.size).ok()?;
+        i32::try_from(if number.negative { -size } else { size }).ok()
+    }
+}
+
+impl Place for u64 {
+    ghost value = { pos };
+
+    fn fitted(number: Number) -> Option<u64> {
+        let Number { negative, size } = number;
+        if negative && size != 0 {
+            None
+        } else {
+            Some(size)
         }
     }
-    Next {
-        negative: false,
-        size: 0,
-        next: NOWHERE,
+}
+
+impl Place for u32 {
+    ghost value = { pos };
+
+    fn fitted(number: Number) -> Option<u32> {
+        u32::try_from(u64::fitted(number)?).ok()
     }
 }
 
-pub(crate) fn next_number(line: &[u8], from: usize, below: u64, most: u64) -> Next
-    ensures { Fits below most result }
+impl Place for u8 {
+    ghost value = { pos };
+
+    fn fitted(number: Number) -> Option<u8> {
+        u8::try_from(u64::fitted(number)?).ok()
+    }
+}
+
+// The number that a word stands for, if it fits.
+pub(crate) fn read<T: Place>(word: &[u8]) -> Option<T>
+    ensures { IfSome result (λ place. StandsFor word.now (T.value place)) }
 {
-    if line.len() < from {
-        return Next {
-            negative: false,
-            size: 0,
-            next: NOWHERE,
-        };
-    }
-    let word = next_word(line, from);
-    let start = word.start;
-    let end = word.end;
-    fitted(number_of(&line[start..end]), below, most, end)
+    T::fitted(number_of(word)?)
 }
 
-// Whether no word is left.
-pub(crate) fn ends(line: &[u8], from: usize) -> bool {
-    if line.len() < from {
-        return false;
-    }
-    let word = next_word(line, from);
-    word.start == word.end
+// Whether each word is a number that fits, and they are no more than there is room for.
+pub(crate) fn all_fit<T: Place>(words: Words<'_>, room: usize) -> bool {
+    let mut numbers = words.map(|word| read::<T>(word)).enumerate();
+    numbers.all(|(i, number)| i < room && number.is_some())
 }
 
-// The word of a sign and a size. It is made in 64 bits: the least word is never negated.
-pub(crate) fn word_of(negative: bool, size: u64) -> i32
-    requires { size ≤ cond negative word_below word_most }
-    ensures { result ≡ word_of negative size }
-{
-    let wide = size as i64;
-    if negative {
-        (0 - wide) as i32
-    } else {
-        wide as i32
+impl Words<'_> {
+    // The next word's number.
+    pub(crate) fn number<T: Place>(&mut self) -> Option<T> {
+        read(self.next()?)
     }
 }

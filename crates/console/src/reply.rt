@@ -1,221 +1,122 @@
-// What a line leaves: the session, and the answer, before it is text.
-use crate::command::Command;
-use crate::desk::Counts;
-use crate::names;
-use crate::names::Name;
-use crate::room::ANSWER_NUMBERS;
-use formula::Checked;
-use listing::Paged;
+// What a line is answered, and its text.
+use listing::Page;
 use memory::number_of;
-use plain::Opinion;
-use record::State;
-use session::{Answer, Ran, Session, Stepped};
-use text::Answer as Reading;
-use writer::Written;
+use session::{Ran, Session, Stepped};
+use std::fmt;
+use std::fmt::{Display, Formatter};
 
-// The words that follow an answer's numbers.
+// The desk, without what no line shows.
 #[derive(Clone, Copy)]
-pub(crate) enum After {
-    Nothing,
-    // The first words of the output.
-    Output(usize),
-    // Every word of every buffer that is shown.
-    Desk,
-    // All of the block buffer.
-    Block,
-    // All of the text buffer.
-    Text,
-    // All of a counted run's numbers.
-    Numbers,
-    // The names of all lines.
-    Names,
-}
-
-// The session; a name, the first few of six numbers, and the words that follow.
-#[derive(Clone, Copy)]
-pub(crate) struct Reply {
+pub(crate) struct Held<'a> {
     pub(crate) session: Session,
-    pub(crate) name: Name,
-    pub(crate) count: usize,
-    pub(crate) numbers: [u64; ANSWER_NUMBERS],
-    pub(crate) after: After,
+    pub(crate) literals: &'a [i32],
+    pub(crate) kinds: &'a [u8],
+    pub(crate) reasons: &'a [u32],
+    pub(crate) output: &'a [u32],
 }
 
-// The refusals of a text that tell more than their number.
-const MISFIT: u64 = 27;
+#[derive(Clone, Copy)]
+pub(crate) enum Reply<'a> {
+    // `?`
+    Unknown,
+    // `NAME`
+    Done(&'static str),
+    // `NAME N`
+    Number(&'static str, u64),
+    // `NAME N M`
+    Pair(&'static str, u64, u64),
+    // `open 0 LENGTH REVISION STATE`
+    Opened(Session),
+    // The same of a step, and its reason.
+    Stepped(Stepped),
+    // The same of a run, counted or not; its count of steps, and the reason of the last one.
+    Ran(&'static str, Ran),
+    // `page 0 NEXT ENTRIES PAUSED W..`
+    Page(Page, &'a [u32]),
+    // `words W..`
+    Words(&'a [i32]),
+    // `bytes B..`
+    Bytes(&'a [u8]),
+    // `numbers trues W.. opens W..`
+    Numbers { trues: &'a [u32], opens: &'a [u32] },
+    // `shown 0 L..`
+    Shown(&'a [i32]),
+    // `show LENGTH REVISION STATE lits W.. kinds B.. reasons W.. out W..`
+    Show(Held<'a>),
+    // `help NAME..`
+    Help,
+}
 
-const ROW: u64 = 31;
+// The names that command.rt knows.
+const NAMES: &str =
+    "block lits kinds reasons out session open step run page show text read pieces words write bytes trues opens index counted numbers plain shown help";
 
-// `NAME N M`, or the first few of its words.
-fn pair(session: Session, name: Name, count: usize, n: u64, m: u64) -> Reply {
-    Reply {
-        session,
-        name,
-        count,
-        numbers: [n, m, 0, 0, 0, 0],
-        after: After::Nothing,
+// `LENGTH REVISION STATE`
+#[derive(Drop)]
+struct Reached(Session);
+
+impl Display for Reached {
+    fn fmt<W: fmt::Write>(&self, f: &mut Formatter<W>) -> fmt::Result {
+        let Session {
+            length,
+            revision,
+            state,
+        } = self.0;
+        write!(f, "{length} {} {}", revision.0, number_of(state))
     }
 }
 
-// `NAME`, or `NAME N`
-fn short(session: Session, name: Name, count: usize, n: u64) -> Reply {
-    pair(session, name, count, n, 0)
-}
+// Numbers, with a space before each.
+#[derive(Drop)]
+struct Listed<'a, T>(&'a [T]);
 
-// `words W..`, `bytes B..`, `numbers ..`
-fn listed(session: Session, name: Name, after: After) -> Reply {
-    Reply {
-        session,
-        name,
-        count: 0,
-        numbers: [0, 0, 0, 0, 0, 0],
-        after,
+impl<T: Display> Display for Listed<'_, T> {
+    fn fmt<W: fmt::Write>(&self, f: &mut Formatter<W>) -> fmt::Result {
+        for number in self.0 {
+            write!(f, " {number}")?;
+        }
+        Ok(())
     }
 }
 
-// `show LENGTH REVISION STATE ..`
-fn shown(session: Session) -> Reply {
-    let state = session.state;
-    let revision = session.revision;
-    Reply {
-        session,
-        name: names::SHOW,
-        count: 3,
-        numbers: [
-            session.length as u64,
-            revision.0,
-            number_of(state) as u64,
-            0,
-            0,
-            0,
-        ],
-        after: After::Desk,
+impl Display for Held<'_> {
+    fn fmt<W: fmt::Write>(&self, f: &mut Formatter<W>) -> fmt::Result {
+        write!(f, "{}", Reached(self.session))?;
+        write!(f, " lits{}", Listed(self.literals))?;
+        write!(f, " kinds{}", Listed(self.kinds))?;
+        write!(f, " reasons{}", Listed(self.reasons))?;
+        write!(f, " out{}", Listed(self.output))
     }
 }
 
-// `NAME 0 LENGTH REVISION STATE`, and up to two numbers more.
-fn reached(session: Session, name: Name, count: usize, first: u32, second: u32) -> Reply {
-    let state = session.state;
-    let revision = session.revision;
-    Reply {
-        session,
-        name,
-        count,
-        numbers: [
-            0,
-            session.length as u64,
-            revision.0,
-            number_of(state) as u64,
-            first as u64,
-            second as u64,
-        ],
-        after: After::Nothing,
-    }
-}
-
-pub(crate) fn opened(session: Session, answer: Answer) -> Reply {
-    match answer {
-        Answer::To(next) => reached(next, names::OPEN, 4, 0, 0),
-        Answer::Refused(n) => short(session, names::OPEN, 1, n as u64),
-    }
-}
-
-// A step tells its reason.
-pub(crate) fn stepped(session: Session, answer: Stepped) -> Reply {
-    match answer {
-        Stepped::Next {
-            session: next,
-            reason,
-        } => reached(next, names::STEP, 5, reason, 0),
-        Stepped::Not(n) => short(session, names::STEP, 1, n as u64),
-    }
-}
-
-// A run, counted or not, tells its count of steps, and the reason of the last one.
-pub(crate) fn ran(session: Session, name: Name, answer: Ran) -> Reply {
-    match answer {
-        Ran::Until {
-            session: next,
-            steps,
-            reason,
-        } => reached(next, name, 6, steps, reason),
-        Ran::Stopped(n) => short(session, name, 1, n as u64),
-    }
-}
-
-// `page 0 NEXT ENTRIES PAUSED W..`. An entry fills two words of the output.
-pub(crate) fn paged(session: Session, answer: Paged) -> Reply {
-    match answer {
-        Paged::Page {
-            next,
-            entries,
-            paused,
-        } => Reply {
-            session,
-            name: names::PAGE,
-            count: 4,
-            numbers: [0, next as u64, entries as u64, paused as u64, 0, 0],
-            after: After::Output(2 * (entries as usize)),
-        },
-        Paged::Refused(n) => short(session, names::PAGE, 1, n as u64),
-    }
-}
-
-// `block N`
-pub(crate) fn checked(session: Session, answer: Checked) -> Reply {
-    match answer {
-        Checked::Accepted => short(session, names::BLOCK, 1, 0),
-        Checked::Refused(n) => short(session, names::BLOCK, 1, n as u64),
-    }
-}
-
-// `NAME 0 LENGTH`, `NAME 27 PLACE`, `NAME N`, or `NAME 31 ROW`
-pub(crate) fn read(session: Session, name: Name, answer: Reading) -> Reply {
-    match answer {
-        Reading::Accepted(length) => pair(session, name, 2, 0, length as u64),
-        Reading::Misfit(place) => pair(session, name, 2, MISFIT, place),
-        Reading::Refused(n) => short(session, name, 1, n as u64),
-        Reading::Row(row) => pair(session, name, 2, ROW, row as u64),
-    }
-}
-
-// `write 0 LENGTH`, or `write N`
-pub(crate) fn written(session: Session, answer: Written) -> Reply {
-    match answer {
-        Written::Text(length) => pair(session, names::WRITE, 2, 0, length as u64),
-        Written::Refused(n) => short(session, names::WRITE, 1, n as u64),
-    }
-}
-
-// `plain 0 STATE`, or `plain N`
-pub(crate) fn solved(session: Session, answer: Opinion) -> Reply {
-    match answer {
-        Opinion::Valid => pair(session, names::PLAIN, 2, 0, number_of(State::Valid) as u64),
-        Opinion::Unsat => pair(session, names::PLAIN, 2, 0, number_of(State::Unsat) as u64),
-        Opinion::Refused(n) => short(session, names::PLAIN, 1, n as u64),
-    }
-}
-
-// The answer to a command that calls nothing.
-pub(crate) fn told(command: Command, session: Session, counts: Counts) -> Reply {
-    match command {
-        Command::Literals(_) => short(session, names::LITERALS, 1, counts.literals as u64),
-        Command::Kinds(_) => short(session, names::KINDS, 1, counts.kinds as u64),
-        Command::Reasons(_) => short(session, names::REASONS, 1, counts.reasons as u64),
-        Command::Output(_) => short(session, names::OUTPUT, 1, counts.output as u64),
-        Command::Session(next) => short(next, names::SESSION, 0, 0),
-        Command::Show => shown(session),
-        Command::Text(_) => short(session, names::TEXT, 1, counts.text as u64),
-        Command::Words => listed(session, names::WORDS, After::Block),
-        Command::Bytes => listed(session, names::BYTES, After::Text),
-        Command::Trues(_) => short(session, names::TRUES, 1, counts.trues as u64),
-        Command::Opens(_) => short(session, names::OPENS, 1, counts.opens as u64),
-        Command::Index(_) => short(session, names::INDEX, 1, counts.index as u64),
-        Command::Numbers => listed(session, names::NUMBERS, After::Numbers),
-        Command::Help => listed(session, names::HELP, After::Names),
-        Command::Nothing => short(session, names::NOTHING, 0, 0),
-        // It has been answered.
-        Command::Shown => short(session, names::NOTHING, 0, 0),
-        _ => short(session, names::UNKNOWN, 0, 0),
+impl Display for Reply<'_> {
+    fn fmt<W: fmt::Write>(&self, f: &mut Formatter<W>) -> fmt::Result {
+        match *self {
+            Reply::Unknown => write!(f, "?"),
+            Reply::Done(name) => write!(f, "{name}"),
+            Reply::Number(name, n) => write!(f, "{name} {n}"),
+            Reply::Pair(name, n, m) => write!(f, "{name} {n} {m}"),
+            Reply::Opened(session) => write!(f, "open 0 {}", Reached(session)),
+            Reply::Stepped(Stepped { session, reason }) => {
+                write!(f, "step 0 {} {reason}", Reached(session))
+            }
+            Reply::Ran(name, ran) => {
+                let reached = Reached(ran.session);
+                write!(f, "{name} 0 {reached} {} {}", ran.steps, ran.reason)
+            }
+            Reply::Page(page, output) => {
+                let paused = u8::from(page.paused);
+                write!(f, "page 0 {} {} {paused}", page.next, page.entries)?;
+                write!(f, "{}", Listed(output))
+            }
+            Reply::Words(words) => write!(f, "words{}", Listed(words)),
+            Reply::Bytes(bytes) => write!(f, "bytes{}", Listed(bytes)),
+            Reply::Numbers { trues, opens } => {
+                write!(f, "numbers trues{} opens{}", Listed(trues), Listed(opens))
+            }
+            Reply::Shown(values) => write!(f, "shown 0{}", Listed(values)),
+            Reply::Show(held) => write!(f, "show {held}"),
+            Reply::Help => write!(f, "help {NAMES}"),
+        }
     }
 }

@@ -1,111 +1,104 @@
 -- The walk over the clauses that enters their words: what comes is what the clauses left list.
-use Prim.Native.Nat.{ℕ, suc, ◌+◌, ◌-◌, ◌≤◌, ◌<◌}
-use mathlib.Core.Path.{◌≡◌, refl, sym, ◌∙◌}
-use mathlib.Core.Bool.{false, cond}
-use mathlib.Core.List.{List, ◌∷◌}
-use native.Mathlib.Numerals.{add-one}
-use native.Mathlib.Omega.{arith}
-use lib.Dec.{eqb}
-use lib.IntN.{ℤ, pos, nat_abs}
-use lib.ListN.{length, get_or, take, drop, set, length-set}
-use lib.Seq.{drop-set-lt}
-use borrow.Author.Tests.{eqb-true, not-false}
-use Rattle.words.specs.Laws.Lists.{next}
+use Rattle.std.specs.Prelude.{ℕ, suc, ◌+◌, ◌-◌, ◌≤◌, ◌<◌, ◌≡◌, refl, ◌⊎◌, true, false, cond, List, [], ◌∷◌, eqb, ℤ, pos, nat_abs, length, get_or, take, drop, set}
+use Rattle.std.proofs.Common.{◌∙◌, sym, ap, inl, inr, arith, add-one, length-set, drop-set-lt, eqb-true}
+use Rattle.std.proofs.lemmas.Bool.{not-false}
+use Rattle.std.proofs.lemmas.List.{take-append-drop, drop-drop}
+use Rattle.words.specs.Laws.Bools.{look}
+use Rattle.words.specs.Laws.Lists.{next, ended}
 use Rattle.formula.specs.Formula.{clauses_from}
 use Rattle.formula.specs.Block.{bad_ends}
 use Rattle.formula.specs.Inner.Places.{literal_places, place_of}
-use Rattle.formula.specs.Laws.Clauses.{clauses_at, clauses_ended}
-use Rattle.formula.specs.Laws.Ends.{good_end, ends_ended}
-use Rattle.counted.specs.Inner.Index.{Few, Indexed, Table, entered, listed, before}
-use Rattle.counted.proofs.Entering.{Entering, enter, enter_all, enter_none, enter_small}
-
--- what is left of a clause: its next literal and the rest
-part_next : (ls : List ℤ) (j e : ℕ) → j < e → e ≤ length ls → take (e - j) (drop j ls) ≡ get_or ls j (pos 0) ∷ take (e - (j + 1)) (drop (j + 1) ls)
-part_next ls j e h l =
-    let m : j < length ls = omega arith in
-    let n : e - j ≡ suc (e - (j + 1)) = omega arith in
-    rw (next ls j (pos 0) m, n)
+use Rattle.formula.specs.Laws.Ends.{good_end}
+use Rattle.counted.specs.Fresh.{bit, count_if}
+use Rattle.counted.specs.Inner.Index.{Indexed, Table, at, entered, listed, before}
+use Rattle.counted.proofs.Laws.Counts.{count_append}
+use Rattle.counted.proofs.Laws.Index.{at_ended}
+use Rattle.counted.proofs.Entering.{Entering, enter, enter_all, enter_none, enter_room, enter_small}
 
 -- the index keeps its length, and its places past the words
 pub record Kept (ls : List ℤ) (index₀ index : List ℕ) : Type 0 where
   pub long : length index ≡ length index₀
   pub rest : drop (length ls) index ≡ drop (length ls) index₀
 
-module _ (es ls : List ℤ) where
-  -- before clause c, whose words begin at j
-  pub record Outer (index₀ stops index : List ℕ) (j c : ℕ) : Type 0 where
+module _ (ls : List ℤ) (m : List (List ℤ)) where
+  -- before clause c
+  pub record Outer (index₀ stops index : List ℕ) (c : ℕ) : Type 0 where
     pub kept : Kept ls index₀ index
-    pub ends : bad_ends (length ls) j (drop c es) ≡ false
-    pub entering : Entering ls (listed 0 (clauses_from ls 0 es)) stops index j (listed c (clauses_from ls j (drop c es)))
+    pub entering : Entering ls (listed 0 m) stops index (listed c (drop c m))
 
-  -- in clause c, which ends at e
-  pub record Inner (index₀ : List ℕ) (c e : ℕ) (stops index : List ℕ) (j : ℕ) : Type 0 where
+  -- before word k of clause c, which is C
+  pub record Inner (index₀ stops index : List ℕ) (c : ℕ) (C : List ℤ) (k : ℕ) : Type 0 where
     pub kept : Kept ls index₀ index
-    pub most : j ≤ e
-    pub end : e ≤ length ls
-    pub ends : bad_ends (length ls) e (drop (c + 1) es) ≡ false
-    pub entering : Entering ls (listed 0 (clauses_from ls 0 es)) stops index j (listed c (take (e - j) (drop j ls) ∷ clauses_from ls e (drop (c + 1) es)))
+    pub entering : Entering ls (listed 0 m) stops index (listed c (drop k C ∷ drop (c + 1) m))
 
-  pub outer_begin : (stops index : List ℕ) → Few es ls → length ls ≤ length index → Table (λ p. before p ls) stops → Outer index stops index 0 0
-  outer_begin stops index f room t = record {
+  pub outer_begin : (stops index : List ℕ) → length ls ≤ length index → Table (λ p. before p ls) stops → Outer index stops index 0
+  outer_begin stops index room t = record {
     kept = record { long = refl; rest = refl };
-    ends = f.clauses.ends;
     entering = enter_none ls _ stops index room t.long t.said;
   }
 
-  pub outer_end : (index₀ stops index : List ℕ) (j c : ℕ) → length es ≤ c → Outer index₀ stops index j c → Indexed ls (clauses_from ls 0 es) stops index₀ index
-  unfolding listed
-  outer_end index₀ stops index j c h o =
-      let e = eqb-true j (length ls) (not-false (eqb j (length ls)) (sym (ends_ended (length ls) j es c h) ∙ o.ends)) in
-      record {
-        indexed = enter_all ls _ stops index j _ (omega arith) (λ p. rw (clauses_ended ls j es c h)) o.entering;
-        rest = o.kept.rest;
-      }
-
   -- a clause begins, and ends
-  pub inner_begin : (index₀ stops index : List ℕ) (j c e : ℕ) → c < length es → e ≡ nat_abs (get_or es c (pos 0)) → Outer index₀ stops index j c → Inner index c e stops index j
-  inner_begin index₀ stops index j c e h is o =
-      let good = good_end (length ls) j es c o.ends h in
-      record {
-        kept = record { long = refl; rest = refl };
-        most = rw is good.rises;
-        end = rw is good.fits;
-        ends = rw is good.rest;
-        entering = rw (is, ← clauses_at ls j es c h) o.entering;
-      }
+  pub inner_begin : (index₀ stops index : List ℕ) (c : ℕ) (C : List ℤ) → c < length m → C ≡ get_or m c [] → Outer index₀ stops index c → Inner index₀ stops index c C 0
+  inner_begin index₀ stops index c C h is o = record { kept = o.kept; entering = rw (is, ← next m c [] h) o.entering }
 
-  pub inner_end : (index₀ index₁ : List ℕ) → Kept ls index₀ index₁ → (stops index : List ℕ) (j c e : ℕ) → e ≤ j → Inner index₁ c e stops index j → Outer index₀ stops index j (c + 1)
+  pub inner_end : (index₀ stops index : List ℕ) (c : ℕ) (C : List ℤ) (k : ℕ) → length C ≤ k → Inner index₀ stops index c C k → Outer index₀ stops index (c + 1)
   unfolding listed entered
-  inner_end index₀ index₁ same stops index j c e h i =
-      let z : e ≡ j = omega (arith, i.most) in
-      let y : e - j ≡ 0 = omega arith in
-      record {
-        kept = record { long = i.kept.long ∙ same.long; rest = i.kept.rest ∙ same.rest };
-        ends = rw z at i.ends;
-        entering = rw (add-one) (rw (y, z, add-one) at i.entering);
+  inner_end index₀ stops index c C k h i = record { kept = i.kept; entering = rw add-one (rw (ended C k h, add-one) at i.entering) }
+
+  module _ (sizes : (p : ℕ) → length (listed 0 m p) ≡ at p ls) where
+    pub outer_end : (index₀ stops index : List ℕ) (c : ℕ) → length m ≤ c → Outer index₀ stops index c → Indexed ls m stops index₀ index
+    unfolding listed
+    outer_end index₀ stops index c h o = record {
+      indexed = enter_all ls m sizes stops index _ o.entering (λ p. rw (ended m c h));
+      rest = o.kept.rest;
+    }
+
+    -- one word more
+    module _ (index₀ stops index : List ℕ) (c : ℕ) (C : List ℤ) (k : ℕ) (i : Inner index₀ stops index c C k) (h : k < length C) (s : ℕ) (is : s ≡ place_of (get_or C k (pos 0))) (l : s < literal_places) where
+      comes : (p : ℕ) → listed c (drop k C ∷ drop (c + 1) m) p ≡ cond (eqb s p) (c ∷ listed c (drop (k + 1) C ∷ drop (c + 1) m) p) (listed c (drop (k + 1) C ∷ drop (c + 1) m) p)
+      unfolding listed entered
+      comes p = rw (next C k (pos 0) h, is)
+
+      pub word_room : get_or stops s 0 < length index
+      word_room = enter_room ls _ sizes stops index _ i.entering s l c _ comes
+
+      pub word_small : get_or stops s 0 < length ls
+      word_small = enter_small ls _ sizes stops index _ i.entering s l c _ comes
+
+      pub inner_turn : Inner index₀ (set stops s (get_or stops s 0 + 1)) (set index (get_or stops s 0) c) c C (k + 1)
+      inner_turn = record {
+        kept = record {
+          long = length-set index (get_or stops s 0) c ∙ i.kept.long;
+          rest = drop-set-lt (length ls) index (get_or stops s 0) c word_small ∙ i.kept.rest;
+        };
+        entering = enter ls _ sizes stops index _ i.entering s l c _ comes;
       }
 
-  -- one word more
-  module _ (index₀ stops index : List ℕ) (j c e : ℕ) (h : j < e) (i : Inner index₀ c e stops index j) (s : ℕ) (is : s ≡ place_of (get_or ls j (pos 0))) (k : s < literal_places) where
-    pub word_here : j < length ls
-    word_here = omega (arith, i.end)
+-- ---- as many are listed at a place as there are words of it
+entered_size : (c p : ℕ) (C : List ℤ) (rest : List ℕ) → length (entered c p C rest) ≡ at p C + length rest
+unfolding entered at count_if
+entered_size c p [] rest = omega arith
+entered_size c p (w ∷ C) rest = by (look (eqb (place_of w) p)) (entered_size c p C rest)
+  where
+    by : (eqb (place_of w) p ≡ true) ⊎ (eqb (place_of w) p ≡ false) → length (entered c p C rest) ≡ count_if (λ w. eqb (place_of w) p) C + length rest
+        → length (cond (eqb (place_of w) p) (c ∷ entered c p C rest) (entered c p C rest)) ≡ bit (eqb (place_of w) p) + count_if (λ w. eqb (place_of w) p) C + length rest
+    by (inl t) e = rw t (omega (arith, e))
+    by (inr t) e = rw t (omega (arith, e))
 
-    comes : (p : ℕ) → listed c (take (e - j) (drop j ls) ∷ clauses_from ls e (drop (c + 1) es)) p
-        ≡ cond (eqb s p) (c ∷ listed c (take (e - (j + 1)) (drop (j + 1) ls) ∷ clauses_from ls e (drop (c + 1) es)) p) (listed c (take (e - (j + 1)) (drop (j + 1) ls) ∷ clauses_from ls e (drop (c + 1) es)) p)
-    unfolding listed entered
-    comes p = rw (part_next ls j e h i.end, is)
+at_parts : (p k : ℕ) (ls : List ℤ) → at p (take k ls) + at p (drop k ls) ≡ at p ls
+unfolding at
+at_parts p k ls = sym (count_append _ (take k ls) (drop k ls)) ∙ ap (count_if (λ w. eqb (place_of w) p)) (take-append-drop k ls)
 
-    small : get_or stops s 0 < length ls
-    small = enter_small ls _ stops index j _ i.entering s word_here is k
+listed_from : (ls : List ℤ) (p c from : ℕ) (es : List ℤ) → bad_ends (length ls) from es ≡ false → length (listed c (clauses_from ls from es) p) ≡ at p (drop from ls)
+unfolding clauses_from listed bad_ends
+listed_from ls p c from [] good =
+    let e = eqb-true from (length ls) (not-false (eqb from (length ls)) good) in
+    sym (at_ended p ls from (omega arith))
+listed_from ls p c from (e ∷ es) good =
+    let g = good_end (length ls) from (e ∷ es) 0 good (omega arith) in
+    let parts = at_parts p (nat_abs e - from) (drop from ls) in
+    let after : drop (nat_abs e - from) (drop from ls) ≡ drop (nat_abs e) ls = let z : from + (nat_abs e - from) ≡ nat_abs e = omega (arith, g.rises) in drop-drop (nat_abs e - from) from ls ∙ ap (λ n. drop n ls) z in
+    omega (arith, entered_size c p (take (nat_abs e - from) (drop from ls)) (listed (suc c) (clauses_from ls (nat_abs e) es) p), listed_from ls p (suc c) (nat_abs e) es g.rest, parts, ap (at p) after)
 
-    pub inner_turn : Inner index₀ c e (set stops s (get_or stops s 0 + 1)) (set index (get_or stops s 0) c) (j + 1)
-    inner_turn = record {
-      kept = record {
-        long = length-set index (get_or stops s 0) c ∙ i.kept.long;
-        rest = drop-set-lt (length ls) index (get_or stops s 0) c small ∙ i.kept.rest;
-      };
-      most = omega arith;
-      end = i.end;
-      ends = i.ends;
-      entering = enter ls _ stops index j _ i.entering s word_here is k c _ comes;
-    }
+pub listed_size : (ls : List ℤ) (es : List ℤ) → bad_ends (length ls) 0 es ≡ false → (p : ℕ) → length (listed 0 (clauses_from ls 0 es) p) ≡ at p ls
+listed_size ls es good p = listed_from ls p 0 0 es good

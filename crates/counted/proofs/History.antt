@@ -1,9 +1,10 @@
 -- [demand.2.history] Any history in which steps, runs and counted runs follow each other: it leads where a history of steps and runs leads, since an
 -- accepted counted run is a run, and a refused one leaves the desk. So all that is proved of those holds.
-use Rattle.std.specs.Prelude.{ℕ, suc, ◌<◌, ◌≡◌, Bool, ℤ, pos, get_or}
+use Rattle.std.specs.Prelude.{ℕ, suc, ◌<◌, ◌≡◌, Bool, ℤ, pos, get_or, Result, Ok, Err}
 use Rattle.std.proofs.Math.Path.{refl, ap}
 use Rattle.std.proofs.Common.{◌∙◌}
 use mathlib.Core.List.{List, [], ◌∷◌, ◌++◌}
+use Rattle.words.specs.declared.Refusal.{Refusal}
 use Rattle.words.specs.Outcomes.{Outcome}
 use Rattle.formula.specs.Limits.{Limits}
 use Rattle.formula.specs.Formula.{formula_of}
@@ -12,9 +13,7 @@ use Rattle.record.specs.Search.{standing_of}
 use Rattle.record.specs.Trail.{record_of}
 use Rattle.session.specs.declared.Revision.{Revision}
 use Rattle.session.specs.declared.Session.{Session}
-use Rattle.session.specs.declared.Answer.TheVariants.{To}
 use Rattle.session.specs.declared.Ran.{Ran}
-use Rattle.session.specs.declared.Ran.TheVariants.{Until, Stopped}
 use Rattle.memory.specs.Memory.{Memory}
 use Rattle.session.specs.Outcome.{open_outcome}
 use Rattle.session.specs.Calls.{Desk, Call, run, after_run, call, play}
@@ -36,14 +35,14 @@ module _ (L : Limits) (b : List ℤ) where
       w : Lent
       w = lent d.memory ts os ix
 
-      o : Outcome Lent Ran
+      o : Outcome Lent (Result Ran Refusal)
       o = counted_at L b d seen budget preferred ts os ix
 
-      go : (a : Ran) → o.answer ≡ a → (calls : List Call) × (play L b d calls ≡ after_run d a o.memory.memory)
-      go (Until s' n k) e =
-          let (x, y) = counted_is_run L d.latest b w seen budget preferred s' n k e in
+      go : (a : Result Ran Refusal) → o.answer ≡ a → (calls : List Call) × (play L b d calls ≡ after_run d a o.memory.memory)
+      go (Ok r) e =
+          let (x, y) = counted_is_run L d.latest b w seen budget preferred r.session r.steps r.reason e in
           (run seen budget preferred ∷ [], rw (x, y))
-      go (Stopped n) e = ([], rw (counted_refused_leaves L d.latest b w seen budget preferred n e).memory)
+      go (Err n) e = ([], rw (counted_refused_leaves L d.latest b w seen budget preferred n.0 e).memory)
 
   play_more : (cs ds : List Call) (d : Desk) → play L b d (cs ++ ds) ≡ play L b (play L b d cs) ds
   unfolding play
@@ -59,7 +58,7 @@ module _ (L : Limits) (b : List ℤ) where
       (first ++ more, play_more first more d ∙ ap (λ (x : Desk). play L b x more) e ∙ f)
 
 -- ---- after an accepted opening
-module _ (L : Limits) (b : List ℤ) (m : Memory) (rev : Revision) (s : Session) (a : (open_outcome L b m rev).answer ≡ To s) where
+module _ (L : Limits) (b : List ℤ) (m : Memory) (rev : Revision) (s : Session) (a : (open_outcome L b m rev).answer ≡ Ok s) where
   -- [order.rules] the accepted steps, those of counted runs too, are one path of the rules from the empty record
   pub mixed_path : (calls : List AnyCall) → let d = play_any L b (fresh_desk L b m rev s) calls in Path (formula_of b) d.steps (going []) (standing_of (search_at d))
   mixed_path calls = let (cs, e) = are_calls L b calls (fresh_desk L b m rev s) in rw (← e) (history_path L b m rev s a cs)

@@ -5,11 +5,12 @@ pub mod Counting
 pub mod Starting
 pub mod Entering
 pub mod Entered
+-- a loop over the clauses
+pub mod Turns
 -- the numbers: of a clause, of all
 pub mod Tallied
 pub mod Filling
--- the looks: the least clause with a key, a clause of key 1
-pub mod Looked
+-- a clause of key 1
 pub mod Passing
 -- the walks
 pub mod Walking

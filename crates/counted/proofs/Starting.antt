@@ -28,9 +28,6 @@ start_begin ws t h = record {
   counts = λ q l k. h.said q k;
 }
 
-pub start_end : (ws : List ℤ) (t : List ℕ) (sum p : ℕ) → literal_places ≤ p → Starting ws t sum p → Table (λ p. before p ws) t
-start_end ws t sum p h s = record { long = s.long; said = λ q l. s.starts q (omega arith) }
-
 module _ (ws : List ℤ) (t : List ℕ) (sum p : ℕ) (s : Starting ws t sum p) (h : p < literal_places) where
   next_sum : sum + get_or t p 0 ≡ before (suc p) ws
   next_sum = omega (arith, before_next p ws, s.sums, s.counts p (omega arith) h)

@@ -16,9 +16,6 @@ pub record Tallied (st : ℤ → ℕ) (C : List ℤ) (t o j : ℕ) : Type 0 wher
   pub opens : o + with_status st 2 (drop j C) ≡ with_status st 2 C
 
 module _ (st : ℤ → ℕ) (C : List ℤ) where
-  pub tally_begin : Tallied st C 0 0 0
-  tally_begin = record { most = omega arith; trues = omega arith; opens = omega arith }
-
   module _ (t o j : ℕ) (k : Tallied st C t o j) where
     pub tally_end : length C ≤ j → record { trues = t; opens = o } ≡ numbers_of st C
     unfolding numbers_of

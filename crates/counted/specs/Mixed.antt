@@ -1,6 +1,7 @@
 -- Any calls, counted runs among them.
-use Rattle.std.specs.Prelude.{ℕ, ℤ}
+use Rattle.std.specs.Prelude.{ℕ, ℤ, Result}
 use mathlib.Core.List.{List, [], ◌∷◌}
+use Rattle.words.specs.declared.Refusal.{Refusal}
 use Rattle.words.specs.Outcomes.{Outcome}
 use Rattle.formula.specs.Limits.{Limits}
 use Rattle.session.specs.declared.Revision.{Revision}
@@ -15,7 +16,7 @@ pub data AnyCall : Type 0 where
   counted : Revision → ℕ → List ℤ → List ℕ → List ℕ → List ℕ → AnyCall
 
 module _ (L : Limits) (b : List ℤ) where
-  abbrev pub counted_at : Desk → Revision → ℕ → List ℤ → List ℕ → List ℕ → List ℕ → Outcome Lent Ran
+  abbrev pub counted_at : Desk → Revision → ℕ → List ℤ → List ℕ → List ℕ → List ℕ → Outcome Lent (Result Ran Refusal)
   counted_at d seen budget preferred ts os ix = counted_of L d.latest b (lent d.memory ts os ix) seen budget preferred
 
   unfoldable pub any_call : Desk → AnyCall → Desk

@@ -8,9 +8,9 @@ ghost use Rattle.record.specs.Search as rules;
 ghost use Rattle.applied.specs.Apply.{apply};
 ghost use Rattle.choice.specs.Preferred.{proposal_of};
 ghost use Rattle.record.specs.declared.rule.State.TheVariants.{Open};
-ghost use Rattle.counted.specs.Inner.Decided.{open_at, preferred_at, first_in, Enacting};
+ghost use Rattle.counted.specs.Inner.Decided.{open_at, preferred_at, Enacting};
 
-use choice::Picked;
+use crate::fixed::Fixed;
 use formula::{LITERAL_PLACES, MIDDLE};
 use record::{PLACES, Reached, Rule};
 use words::Literal;
@@ -26,16 +26,7 @@ fn is_open(
     requires { n ≤ limits.variables }
     ensures { result ≡ open_at n statuses.now levels.now lowest v }
 {
-    if v == 0 {
-        return false;
-    }
-    if n < v {
-        return false;
-    }
-    if statuses[MIDDLE + v] < 2 {
-        return false;
-    }
-    levels[v] <= lowest
+    v != 0 && v <= n && 2 <= statuses[MIDDLE + v] && levels[v] <= lowest
 }
 
 // The first open literal of a list, else the one given.
@@ -50,32 +41,10 @@ fn preferred_of(
     requires { n ≤ limits.variables }
     ensures { result ≡ preferred_at n statuses.now levels.now lowest list.now first }
 {
-    let mut i = 0;
-    while i < list.len() {
-        let v = words::size_at(list, i);
-        if is_open(v, n, statuses, levels, lowest) {
-            return record::literal_at(list, i);
-        }
-        i += 1;
-    }
-    first
-}
-
-// At Decide the first unassigned variable.
-fn first_of(rule: Rule) -> Picked
-    ensures { result ≡ first_in rule }
-{
-    match rule {
-        Rule::BacktrackExists { at: _, clause: _ } => Picked::NoLiteral,
-        Rule::Fail { clause: _ } => Picked::NoLiteral,
-        Rule::Unit {
-            literal: _,
-            clause: _,
-        } => Picked::NoLiteral,
-        Rule::Monotone { literal: _ } => Picked::NoLiteral,
-        Rule::Decide { first } => Picked::Is(first),
-        Rule::BacktrackForall { at: _ } => Picked::NoLiteral,
-        Rule::Succeed => Picked::NoLiteral,
+    let mut words = list.iter();
+    match words.find(|word| is_open(words::size(**word), n, statuses, levels, lowest)) {
+        Some(word) => Literal(*word),
+        None => first,
     }
 }
 
@@ -87,21 +56,18 @@ pub(crate) fn enact(
     count: usize,
     rule: Rule,
     preferred: &[i32],
-    levels: &[u16; PLACES],
-    quantifiers: &[u8; PLACES],
+    fixed: &Fixed,
     statuses: &[u8; LITERAL_PLACES],
 ) -> Reached
-    requires { Enacting block.now (trail lits.old kinds.old) count rule levels.now quantifiers.now statuses.now }
+    requires { Enacting block.now (trail lits.old kinds.old) count rule fixed.now.levels.now fixed.now.quantifiers.now statuses.now }
     ensures { rules.reached result (trail lits.new kinds.new) ≡ apply (prefix_of block.now) rule (proposal_of (prefix_of block.now) (among (take count lits.old)) preferred.now rule) (rules.search (trail lits.old kinds.old) count Open) }
 {
-    match first_of(rule) {
-        Picked::Is(first) => {
-            let n = words::size_at(block, 0);
-            let lowest = levels[words::size(first.0)];
-            let literal = preferred_of(preferred, first, n, statuses, levels, lowest);
-            let kind = quantifiers[words::size(literal.0)];
-            applied::append(lits, kinds, count, kind, literal)
-        }
-        Picked::NoLiteral => applied::apply(block, lits, kinds, count, rule, Literal(0)),
-    }
+    let Rule::Decide { first } = rule else {
+        return applied::apply(block, lits, kinds, count, rule, Literal(0));
+    };
+    let n = words::size_at(block, 0);
+    let lowest = fixed.levels[words::size(first.0)];
+    let literal = preferred_of(preferred, first, n, statuses, fixed.levels, lowest);
+    let kind = fixed.quantifiers[words::size(literal.0)];
+    applied::append(lits, kinds, count, kind, literal)
 }

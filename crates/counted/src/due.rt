@@ -7,13 +7,14 @@ ghost use Rattle.record.specs.Trail.{trail, record_of};
 ghost use Rattle.counted.specs.Inner.State.{Counted};
 ghost use Rattle.counted.specs.Inner.Standing.{clauses_of, Sought};
 
+use crate::fixed::Fixed;
 use crate::free::due_free;
 use crate::numbers::lowest;
 use crate::unit::lowest_unit;
 use crate::walk::Bounds;
-use clauses::UnitFound;
+use clauses::UnitClause;
 use formula::LITERAL_PLACES;
-use record::{PLACES, Rule};
+use record::Rule;
 
 // The due rule, and the bounds as the looks leave them.
 #[derive(Clone, Copy)]
@@ -27,54 +28,41 @@ pub(crate) fn due(
     block: &[i32],
     kinds: &[u8],
     count: usize,
-    levels: &[u16; PLACES],
-    index: &[u32],
-    stops: &[u16; LITERAL_PLACES],
+    fixed: &Fixed,
     statuses: &[u8; LITERAL_PLACES],
     trues: &[u32],
     opens: &[u32],
     was: Bounds,
 ) -> Looked
-    requires { Sought block.now kinds.now count levels.now stops.now index.now statuses.now trues.now opens.now was }
-    ensures { (x : Sought block.now kinds.now count levels.now stops.now index.now statuses.now trues.now opens.now was) → (result.rule ≡ rules.due (formula_of block.now) (record_of (trail x.lits kinds.now) count)) × Counted (prefix_of block.now) (clauses_of block.now) (among (take count x.lits)) trues.now opens.now result.bounds }
+    requires { Sought block.now kinds.now count fixed.now.levels.now fixed.now.stops.now fixed.now.index.now statuses.now trues.now opens.now was }
+    ensures { (x : Sought block.now kinds.now count fixed.now.levels.now fixed.now.stops.now fixed.now.index.now statuses.now trues.now opens.now was) → (result.rule ≡ rules.due (formula_of block.now) (record_of (trail x.lits kinds.now) count)) × Counted (prefix_of block.now) (clauses_of block.now) (among (take count x.lits)) trues.now opens.now result.bounds }
 {
     let ends = formula::ends(block);
-    let literals = formula::literals(block);
-    let conflict = lowest(trues, opens, was.conflict, ends.len(), 0);
-    if conflict < ends.len() {
+    let clauses = ends.len();
+    if let Some(conflict) = lowest(trues, opens, was.conflict, clauses, 0) {
         return Looked {
             rule: rules::due_conflict(kinds, count, conflict),
-            bounds: Bounds {
-                conflict: conflict,
-                unit: was.unit,
-            },
+            bounds: Bounds { conflict, ..was },
         };
     }
-    match lowest_unit(ends, literals, trues, opens, statuses, levels, was.unit) {
-        UnitFound::On { literal, clause } => Looked {
-            rule: Rule::Unit {
-                literal: literal,
-                clause: clause,
-            },
+    let words = formula::literals(block);
+    match lowest_unit(ends, words, trues, opens, statuses, fixed.levels, was.unit) {
+        Some(UnitClause { literal, clause }) => Looked {
+            rule: Rule::Unit { literal, clause },
             bounds: Bounds {
-                conflict: conflict,
+                conflict: clauses,
                 unit: clause,
             },
         },
-        UnitFound::NoUnit => Looked {
-            rule: due_free(
-                formula::prefix(block),
-                kinds,
-                count,
-                index,
-                stops,
-                statuses,
-                trues,
-            ),
-            bounds: Bounds {
-                conflict: conflict,
-                unit: ends.len(),
-            },
-        },
+        None => {
+            let prefix = formula::prefix(block);
+            Looked {
+                rule: due_free(prefix, kinds, count, fixed, statuses, trues),
+                bounds: Bounds {
+                    conflict: clauses,
+                    unit: clauses,
+                },
+            }
+        }
     }
 }

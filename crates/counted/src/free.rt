@@ -1,67 +1,72 @@
-// With no clause in conflict and no unit clause, one pass over the prefix finds the first unassigned variable, and the first that is monotone.
-ghost use Rattle.std.specs.Prelude.{◌≡◌, cond, ◌≤◌, min, leb, pos, length, get_or};
-ghost use Rattle.counted.specs.Inner.Free.{Livable, taken_at, Walkable, Decidable, decide_from, free_rule};
-ghost use Rattle.choice.specs.declared.found.Picked.TheVariants.{NoLiteral};
+// With no clause in conflict and no unit clause, the prefix decides: its first monotone variable, or else its first unassigned one.
+ghost use Rattle.std.specs.Prelude.{◌≡◌, ◌≤◌, nat_abs, length};
+ghost use Rattle.formula.specs.Limits.{limits};
+ghost use Rattle.choice.specs.First.{first_of};
+ghost use Rattle.counted.specs.Inner.Free.{AllSmall, first_at, Livable, monotone_at, Walkable, free_rule};
 
-use crate::entry::part;
+use crate::fixed::Fixed;
 use crate::live::is_live;
-use choice::Picked;
 use formula::{LITERAL_PLACES, MIDDLE};
-use record::{Found, Rule};
+use record::Rule;
+use words::Literal;
 
-// The first unassigned prefix word, when the one at i is seen too.
-fn earlier(first: usize, i: usize, status: u8) -> usize
-    ensures { result ≡ cond (leb 2 status) (min first i) first }
+// The variable of a prefix word, true, if it is unassigned.
+fn unassigned(word: i32, statuses: &[u8; LITERAL_PLACES]) -> Option<Literal>
+    requires { nat_abs word ≤ limits.variables }
+    ensures { result ≡ first_at statuses.now word }
 {
-    if status < 2 {
-        return first;
+    let v = words::size(word);
+    if statuses[MIDDLE + v] < 2 {
+        None
+    } else {
+        Some(Literal(v as i32))
     }
-    if first < i { first } else { i }
+}
+
+// The first unassigned variable.
+fn first_unassigned(prefix: &[i32], statuses: &[u8; LITERAL_PLACES]) -> Option<Literal>
+    requires { AllSmall prefix.now }
+    ensures { result ≡ first_of (first_at statuses.now) prefix.now }
+{
+    prefix.iter().find_map(|word| unassigned(*word, statuses))
 }
 
 // What the variable of a prefix word takes by Monotone, if it is unassigned: with occurrences of one sign only in the clauses that count, an
 // existential variable takes that sign, a universal one the opposite.
-fn taken(
-    prefix: &[i32],
-    i: usize,
-    status: u8,
-    index: &[u32],
-    stops: &[u16; LITERAL_PLACES],
+fn monotone(
+    word: i32,
+    fixed: &Fixed,
+    statuses: &[u8; LITERAL_PLACES],
     trues: &[u32],
-) -> Picked
-    requires { Livable (get_or prefix.now i (pos 0)) stops.now index.now trues.now }
-    ensures { result ≡ cond (leb 2 status) (taken_at stops.now index.now trues.now (get_or prefix.now i (pos 0))) NoLiteral }
+) -> Option<Literal>
+    requires { Livable word fixed.now.stops.now fixed.now.index.now trues.now }
+    ensures { result ≡ monotone_at fixed.now.stops.now fixed.now.index.now statuses.now trues.now word }
 {
-    if status < 2 {
-        return Picked::NoLiteral;
+    let v = words::size(word);
+    if statuses[MIDDLE + v] < 2 {
+        return None;
     }
-    let v = words::size_at(prefix, i);
-    let plus = is_live(part(index, stops, MIDDLE + v), trues);
-    let minus = is_live(part(index, stops, MIDDLE - v), trues);
-    if plus == minus {
-        return Picked::NoLiteral;
-    }
-    if plus {
-        Picked::Is(record::literal_at(prefix, i))
-    } else {
-        Picked::Is(record::opposite_at(prefix, i))
+    let plus = is_live(fixed.part(MIDDLE + v), trues);
+    let minus = is_live(fixed.part(MIDDLE - v), trues);
+    match (plus, minus) {
+        (true, false) => Some(Literal(word)),
+        (false, true) => Some(Literal(words::opposite(word))),
+        _ => None,
     }
 }
 
-// Decide on the first unassigned variable, the one at `first`; with none, Backtrack-forall or Succeed.
-fn due_decide(prefix: &[i32], first: usize, kinds: &[u8], count: usize) -> Rule
-    requires { Decidable prefix.now kinds.now count }
-    ensures { result ≡ decide_from prefix.now first kinds.now count }
+// What the first monotone variable takes.
+fn first_monotone(
+    prefix: &[i32],
+    fixed: &Fixed,
+    statuses: &[u8; LITERAL_PLACES],
+    trues: &[u32],
+) -> Option<Literal>
+    requires { Walkable prefix.now fixed.now.stops.now fixed.now.index.now trues.now }
+    ensures { result ≡ first_of (monotone_at fixed.now.stops.now fixed.now.index.now statuses.now trues.now) prefix.now }
 {
-    if first < prefix.len() {
-        return Rule::Decide {
-            first: record::true_at(prefix, first),
-        };
-    }
-    match record::last_kind(kinds, count, 2) {
-        Found::At(at) => Rule::BacktrackForall { at: at },
-        Found::Nothing => Rule::Succeed,
-    }
+    let mut words = prefix.iter();
+    words.find_map(|word| monotone(*word, fixed, statuses, trues))
 }
 
 // Monotone, Decide, Backtrack-forall or Succeed.
@@ -69,25 +74,22 @@ pub(crate) fn due_free(
     prefix: &[i32],
     kinds: &[u8],
     count: usize,
-    index: &[u32],
-    stops: &[u16; LITERAL_PLACES],
+    fixed: &Fixed,
     statuses: &[u8; LITERAL_PLACES],
     trues: &[u32],
 ) -> Rule
-    requires walkable { Walkable prefix.now stops.now index.now trues.now }
+    requires walkable { Walkable prefix.now fixed.now.stops.now fixed.now.index.now trues.now }
     requires count_in_bounds { count ≤ length kinds.now }
-    ensures { result ≡ free_rule prefix.now kinds.now count stops.now index.now statuses.now trues.now }
+    ensures { result ≡ free_rule prefix.now kinds.now count fixed.now.stops.now fixed.now.index.now statuses.now trues.now }
 {
-    let mut first = prefix.len();
-    let mut i = 0;
-    while i < prefix.len() {
-        let v = words::size_at(prefix, i);
-        let status = statuses[MIDDLE + v];
-        first = earlier(first, i, status);
-        if let Picked::Is(literal) = taken(prefix, i, status, index, stops, trues) {
-            return Rule::Monotone { literal: literal };
-        }
-        i += 1;
+    if let Some(literal) = first_monotone(prefix, fixed, statuses, trues) {
+        return Rule::Monotone { literal };
     }
-    due_decide(prefix, first, kinds, count)
+    if let Some(first) = first_unassigned(prefix, statuses) {
+        return Rule::Decide { first };
+    }
+    match record::last_kind(kinds, count, 2) {
+        Some(at) => Rule::BacktrackForall { at },
+        None => Rule::Succeed,
+    }
 }

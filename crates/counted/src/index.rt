@@ -5,7 +5,7 @@ ghost use Rattle.formula.specs.Formula.{clauses_from};
 ghost use Rattle.clauses.specs.Inner.Clauses.{Placed};
 ghost use Rattle.counted.specs.Inner.Index.{Few, Table, at, before, Indexed};
 
-use formula::{LITERAL_PLACES, place_at};
+use formula::{Clauses, LITERAL_PLACES, place};
 
 // How many words have each place.
 fn count_literals(words: &[i32]) -> [u16; LITERAL_PLACES]
@@ -14,12 +14,8 @@ fn count_literals(words: &[i32]) -> [u16; LITERAL_PLACES]
     ensures { Table (λ p. at p words.now) result }
 {
     let mut counts = [0u16; LITERAL_PLACES];
-    let mut j = 0;
-    while j < words.len() {
-        let p = place_at(words, j);
-        let count = counts[p];
-        counts[p] = count + 1;
-        j += 1;
+    for word in words {
+        counts[place(*word)] += 1;
     }
     counts
 }
@@ -31,13 +27,11 @@ fn starts_of(words: &[i32]) -> [u16; LITERAL_PLACES]
     ensures { Table (λ p. before p words.now) result }
 {
     let mut starts = count_literals(words);
-    let mut sum: u16 = 0;
-    let mut p = 0;
-    while p < LITERAL_PLACES {
-        let count = starts[p];
-        starts[p] = sum;
+    let mut sum = 0;
+    for start in starts.iter_mut() {
+        let count = *start;
+        *start = sum;
         sum += count;
-        p += 1;
     }
     starts
 }
@@ -49,19 +43,13 @@ pub(crate) fn enter_clauses(ends: &[i32], words: &[i32], index: &mut [u32]) -> [
     ensures { Indexed words.now (clauses_from words.now 0 ends.now) result index.old index.new }
 {
     let mut stops = starts_of(words);
-    let mut j = 0;
-    let mut c = 0;
-    while c < ends.len() {
-        let end = words::size_at(ends, c);
-        while j < end {
-            let p = place_at(words, j);
+    for (c, clause) in Clauses::of(ends, words).enumerate() {
+        for word in clause {
+            let p = place(*word);
             let stop = stops[p];
-            let to = stop as usize;
-            index[to] = c as u32;
+            index[stop as usize] = c as u32;
             stops[p] = stop + 1;
-            j += 1;
         }
-        c += 1;
     }
     stops
 }

@@ -5,6 +5,7 @@ ghost use Rattle.memory.specs.Memory.{memory};
 ghost use Rattle.counted.specs.Lent.{lent};
 ghost use Rattle.counted.specs.Promises.{CountedPromise};
 
+mod fixed; // what the block alone decides
 mod index; // which clauses hold a literal
 mod numbers; // the numbers of the clauses
 mod walk; // the clauses of a literal, gone through
@@ -18,6 +19,7 @@ mod searches; // rule after rule
 mod guard; // which row of the table turns a call away
 
 use session::{Ran, Revision, Session};
+use words::Refusal;
 
 // [counted] A run's answer and a run's memory; and the numbers of the clauses under the record that it leaves.
 pub fn run(
@@ -32,32 +34,23 @@ pub fn run(
     seen: Revision,
     budget: u32,
     preferred: &[i32],
-) -> Ran
+) -> Result<Ran, Refusal>
     ensures { CountedPromise session block.now (lent (memory lits.old kinds.old reasons.old) trues.old opens.old index.old) seen budget preferred.now result (lent (memory lits.new kinds.new reasons.new) trues.new opens.new index.new) }
 {
-    let refused = guard::refusal(
+    guard::refusal(
         session, block, lits, kinds, reasons, trues, opens, index, seen, budget,
-    );
-    if refused != 0 {
-        return Ran::Stopped(refused);
-    }
+    )?;
     let count = session.length;
     let found = searches::search(
         block, lits, kinds, reasons, trues, opens, index, count, budget, preferred,
     );
-    let reached = found.reached;
-    let steps = found.steps;
-    let reason = found.reason;
-    let length = reached.count;
-    let state = reached.state;
-    let revision = session.revision.0;
-    Ran::Until {
+    Ok(Ran {
         session: Session {
-            length: length,
-            revision: Revision(revision + (steps as u64)),
-            state: state,
+            length: found.reached.count,
+            revision: Revision(session.revision.0 + u64::from(found.steps)),
+            state: found.reached.state,
         },
-        steps: steps,
-        reason: reason,
-    }
+        steps: found.steps,
+        reason: found.reason,
+    })
 }

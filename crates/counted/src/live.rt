@@ -2,20 +2,10 @@
 ghost use Rattle.std.specs.Prelude.{◌≡◌};
 ghost use Rattle.counted.specs.Inner.Live.{some_zero, Within};
 
-use crate::numbers::wide;
-
 // Whether one of the list's clauses has no true literal.
 pub(crate) fn is_live(list: &[u32], trues: &[u32]) -> bool
     requires { Within list.now trues.now }
     ensures { result ≡ some_zero trues.now list.now }
 {
-    let mut k = 0;
-    while k < list.len() {
-        let c = wide(list[k]);
-        if trues[c] == 0 {
-            return true;
-        }
-        k += 1;
-    }
-    false
+    list.iter().any(|c| trues[*c as usize] == 0)
 }

@@ -10,11 +10,12 @@ ghost use Rattle.counted.specs.Inner.Search.{Recounting, counted_to, Advanced, S
 use crate::decided::enact;
 use crate::due::due;
 use crate::entry::{count_entry, uncount_entries};
+use crate::fixed::Fixed;
 use crate::index::enter_clauses;
 use crate::numbers::fill_numbers;
 use crate::walk::Bounds;
 use formula::LITERAL_PLACES;
-use record::{PLACES, Reached, Rule, State};
+use record::{Reached, Rule, State};
 use search::Searched;
 
 // Where one step leads, its reason, and the bounds after it.
@@ -30,16 +31,8 @@ fn kept_by(rule: Rule, count: usize) -> usize
     ensures { result ≡ kept_by rule count }
 {
     match rule {
-        Rule::BacktrackExists { at, clause: _ } => at,
-        Rule::Fail { clause: _ } => count,
-        Rule::Unit {
-            literal: _,
-            clause: _,
-        } => count,
-        Rule::Monotone { literal: _ } => count,
-        Rule::Decide { first: _ } => count,
-        Rule::BacktrackForall { at } => at,
-        Rule::Succeed => count,
+        Rule::BacktrackExists { at, .. } | Rule::BacktrackForall { at } => at,
+        _ => count,
     }
 }
 
@@ -48,20 +41,19 @@ fn recount(
     lits: &[i32],
     at: usize,
     state: State,
-    index: &[u32],
-    stops: &[u16; LITERAL_PLACES],
+    fixed: &Fixed,
     statuses: &mut [u8; LITERAL_PLACES],
     trues: &mut [u32],
     opens: &mut [u32],
     bounds: Bounds,
 ) -> Bounds
-    requires { Recounting lits.now at state stops.now index.now statuses.old trues.old opens.old bounds }
-    ensures { (x : Recounting lits.now at state stops.now index.now statuses.old trues.old opens.old bounds) → SetFrom x.p x.m (among (take (counted_to at state) lits.now)) trues.old opens.old statuses.new trues.new opens.new result }
+    requires { Recounting lits.now at state fixed.now.stops.now fixed.now.index.now statuses.old trues.old opens.old bounds }
+    ensures { (x : Recounting lits.now at state fixed.now.stops.now fixed.now.index.now statuses.old trues.old opens.old bounds) → SetFrom x.p x.m (among (take (counted_to at state) lits.now)) trues.old opens.old statuses.new trues.new opens.new result }
 {
     if search::is_over(state) {
         return bounds;
     }
-    count_entry(lits, at, index, stops, statuses, trues, opens, bounds)
+    count_entry(lits[at], fixed, statuses, trues, opens, bounds)
 }
 
 // One accepted step. The entries that go are taken back from the last on, then the rule is applied, and the entry that it makes is counted.
@@ -72,54 +64,28 @@ fn advance(
     reasons: &mut [u32],
     count: usize,
     preferred: &[i32],
-    levels: &[u16; PLACES],
-    quantifiers: &[u8; PLACES],
-    index: &[u32],
-    stops: &[u16; LITERAL_PLACES],
+    fixed: &Fixed,
     statuses: &mut [u8; LITERAL_PLACES],
     trues: &mut [u32],
     opens: &mut [u32],
     was: Bounds,
 ) -> Next
-    requires { Standing block.now (memory lits.old kinds.old reasons.old) count levels.now quantifiers.now stops.now index.now statuses.old trues.old opens.old was }
+    requires { Standing block.now (memory lits.old kinds.old reasons.old) count fixed.now.levels.now fixed.now.quantifiers.now fixed.now.stops.now fixed.now.index.now statuses.old trues.old opens.old was }
     ensures { Advanced block.now (memory lits.old kinds.old reasons.old) count preferred.now trues.old opens.old (memory lits.new kinds.new reasons.new) result statuses.new trues.new opens.new }
 {
-    let found = due(
-        block, kinds, count, levels, index, stops, statuses, trues, opens, was,
-    );
+    let found = due(block, kinds, count, fixed, statuses, trues, opens, was);
     let rule = found.rule;
     let looked = found.bounds;
     let reason = memory::tell(reasons, rule, count);
     let at = kept_by(rule, count);
-    let cut = uncount_entries(
-        lits,
-        at,
-        count,
-        index,
-        stops,
-        quantifiers,
-        statuses,
-        trues,
-        opens,
-        looked,
-    );
-    let reached = enact(
-        block,
-        lits,
-        kinds,
-        count,
-        rule,
-        preferred,
-        levels,
-        quantifiers,
-        statuses,
-    );
+    let cut = uncount_entries(lits, at, count, fixed, statuses, trues, opens, looked);
+    let reached = enact(block, lits, kinds, count, rule, preferred, fixed, statuses);
     let state = reached.state;
-    let bounds = recount(lits, at, state, index, stops, statuses, trues, opens, cut);
+    let bounds = recount(lits, at, state, fixed, statuses, trues, opens, cut);
     Next {
-        reached: reached,
-        reason: reason,
-        bounds: bounds,
+        reached,
+        reason,
+        bounds,
     }
 }
 
@@ -132,60 +98,40 @@ fn go_on(
     count: usize,
     budget: u32,
     preferred: &[i32],
-    levels: &[u16; PLACES],
-    quantifiers: &[u8; PLACES],
-    index: &[u32],
-    stops: &[u16; LITERAL_PLACES],
+    fixed: &Fixed,
     statuses: &mut [u8; LITERAL_PLACES],
     trues: &mut [u32],
     opens: &mut [u32],
     was: Bounds,
 ) -> Searched
-    requires { Standing block.now (memory lits.old kinds.old reasons.old) count levels.now quantifiers.now stops.now index.now statuses.old trues.old opens.old was }
+    requires { Standing block.now (memory lits.old kinds.old reasons.old) count fixed.now.levels.now fixed.now.quantifiers.now fixed.now.stops.now fixed.now.index.now statuses.old trues.old opens.old was }
     ensures { SearchedTo block.now (memory lits.old kinds.old reasons.old) count budget preferred.now trues.old opens.old (memory lits.new kinds.new reasons.new) result trues.new opens.new }
 {
     let mut at = Reached {
-        count: count,
+        count,
         state: State::Open,
     };
     let mut bounds = was;
-    let mut steps: u32 = 0;
-    let mut reason: u32 = 0;
-    while steps < budget {
-        let state = at.state;
-        if search::is_over(state) {
+    let mut reason = 0;
+    for steps in 0..budget {
+        if search::is_over(at.state) {
             return Searched {
                 reached: at,
-                steps: steps,
-                reason: reason,
+                steps,
+                reason,
             };
         }
-        let here = at.count;
         let next = advance(
-            block,
-            lits,
-            kinds,
-            reasons,
-            here,
-            preferred,
-            levels,
-            quantifiers,
-            index,
-            stops,
-            statuses,
-            trues,
-            opens,
-            bounds,
+            block, lits, kinds, reasons, at.count, preferred, fixed, statuses, trues, opens, bounds,
         );
         at = next.reached;
         reason = next.reason;
         bounds = next.bounds;
-        steps += 1;
     }
     Searched {
         reached: at,
-        steps: steps,
-        reason: reason,
+        steps: budget,
+        reason,
     }
 }
 
@@ -217,6 +163,12 @@ pub(crate) fn search(
     tables::fill(prefix, &values, &mut statuses);
     let stops = enter_clauses(ends, literals, index);
     fill_numbers(ends, literals, &statuses, trues, opens);
+    let fixed = Fixed {
+        levels: &levels,
+        quantifiers: &quantifiers,
+        index,
+        stops: &stops,
+    };
     go_on(
         block,
         lits,
@@ -225,10 +177,7 @@ pub(crate) fn search(
         count,
         budget,
         preferred,
-        &levels,
-        &quantifiers,
-        index,
-        &stops,
+        &fixed,
         &mut statuses,
         trues,
         opens,

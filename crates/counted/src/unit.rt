@@ -8,65 +8,43 @@ ghost use Rattle.tables.specs.Inner.ByLiteral.{status_in};
 ghost use Rattle.clauses.specs.Inner.Clauses.{Placed, level_by};
 ghost use Rattle.counted.specs.Inner.Unit.{unit_by, Looking, LookRoom};
 
-use crate::numbers::lowest;
-use choice::Picked;
-use clauses::UnitFound;
-use formula::{LITERAL_PLACES, place_at};
-use record::{PLACES, literal_at};
-
-// More than any level: with n variables there are at most n levels.
-const NO_LEVEL: u16 = PLACES as u16;
-
-// The first number if a status is the wanted one, else the second.
-fn chosen(status: u8, wanted: u8, a: usize, b: usize) -> usize
-    ensures { result ≡ cond (eqb status wanted) a b }
-{
-    if status == wanted { a } else { b }
-}
-
-// The lowest level with one literal more, which counts if it is unassigned and universal.
-fn lowered_level(ws: &[i32], i: usize, status: u8, levels: &[u16; PLACES], above: u16) -> u16
-    requires { nat_abs (get_or ws.now i (pos 0)) ≤ limits.variables }
-    ensures { result ≡ cond (eqb status 3) (min above (level_by levels.now (get_or ws.now i (pos 0)))) above }
-{
-    if status != 3 {
-        return above;
-    }
-    let v = words::size_at(ws, i);
-    let level = levels[v];
-    if level < above { level } else { above }
-}
+use crate::numbers::key;
+use clauses::UnitClause;
+use formula::LITERAL_PLACES;
+use record::PLACES;
+use tables::NO_LEVEL;
+use words::{Literal, size, size_at};
 
 // Of a clause with key 1: its open literal, if it is a unit clause.
-fn unit_literal(clause: &[i32], statuses: &[u8; LITERAL_PLACES], levels: &[u16; PLACES]) -> Picked
+fn unit_literal(
+    clause: &[i32],
+    statuses: &[u8; LITERAL_PLACES],
+    levels: &[u16; PLACES],
+) -> Option<Literal>
     requires { Placed clause.now }
     ensures { result ≡ unit_by (status_in statuses.now) (level_by levels.now) clause.now }
 {
-    let mut place = clause.len();
+    let mut open = Literal(0);
     let mut above = NO_LEVEL;
-    let mut j = 0;
-    while j < clause.len() {
-        let p = place_at(clause, j);
-        let status = statuses[p];
-        place = chosen(status, 2, j, place);
-        above = lowered_level(clause, j, status, levels, above);
-        j += 1;
+    for word in clause {
+        match clauses::status(*word, statuses) {
+            2 => open = Literal(*word),
+            3 => above = above.min(levels[size(*word)]),
+            _ => {}
+        }
     }
-    let v = words::size_at(clause, place);
-    if levels[v] < above {
-        return Picked::Is(literal_at(clause, place));
+    if levels[size(open.0)] < above {
+        Some(open)
+    } else {
+        None
     }
-    Picked::NoLiteral
 }
 
 // Where a clause begins.
 fn clause_start(ends: &[i32], c: usize) -> usize
     ensures { result ≡ clause_start ends.now c }
 {
-    if c == 0 {
-        return 0;
-    }
-    words::size_at(ends, c - 1)
+    if c == 0 { 0 } else { size_at(ends, c - 1) }
 }
 
 // The lowest unit clause and its literal. No clause below `from` is a unit clause.
@@ -78,22 +56,18 @@ pub(crate) fn lowest_unit(
     statuses: &[u8; LITERAL_PLACES],
     levels: &[u16; PLACES],
     from: usize,
-) -> UnitFound
+) -> Option<UnitClause>
     requires { LookRoom ends.now words.now trues.now opens.now from }
     ensures { (x : Looking ends.now words.now statuses.now levels.now trues.now opens.now from) → result ≡ lowest_unit x.p x.ρ (clauses_from words.now 0 ends.now) }
 {
-    let mut c = lowest(trues, opens, from, ends.len(), 1);
-    while c < ends.len() {
-        let start = clause_start(ends, c);
-        let end = words::size_at(ends, c);
-        let found = unit_literal(&words[start..end], statuses, levels);
-        if let Picked::Is(literal) = found {
-            return UnitFound::On {
-                literal: literal,
-                clause: c,
-            };
+    for c in from..ends.len() {
+        if key(trues[c], opens[c]) != 1 {
+            continue;
         }
-        c = lowest(trues, opens, c + 1, ends.len(), 1);
+        let clause = &words[clause_start(ends, c)..size_at(ends, c)];
+        if let Some(literal) = unit_literal(clause, statuses, levels) {
+            return Some(UnitClause { literal, clause: c });
+        }
     }
-    UnitFound::NoUnit
+    None
 }

@@ -1,8 +1,8 @@
 // A walk over the clauses that hold a literal: their numbers move, and the bounds are lowered.
-ghost use Rattle.std.specs.Prelude.{◌≡◌, [], min};
-ghost use Rattle.counted.specs.Inner.Walk.{Lowered, Enterable, CountedIn, Leavable, CountedOut};
+ghost use Rattle.std.specs.Prelude.{[]};
+ghost use Rattle.counted.specs.Inner.Walk.{Lowered, Movable, Renumbered};
 
-use crate::numbers::wide;
+use crate::numbers::{Numbers, key};
 
 // No clause below `conflict` is in conflict, and none below `unit` is a unit clause.
 #[derive(Clone, Copy)]
@@ -11,79 +11,46 @@ pub(crate) struct Bounds {
     pub(crate) unit: usize,
 }
 
-fn lesser(a: usize, b: usize) -> usize
-    ensures { result ≡ min a b }
-{
-    if a < b { a } else { b }
+impl Bounds {
+    // The bounds once clause c has a key.
+    fn lowered(self, c: usize, key: usize) -> Bounds
+        ensures { Lowered self c key result }
+    {
+        match key {
+            0 => Bounds {
+                conflict: self.conflict.min(c),
+                ..self
+            },
+            1 => Bounds {
+                unit: self.unit.min(c),
+                ..self
+            },
+            _ => self,
+        }
+    }
 }
 
-// The bounds once clause c has a key.
-fn lowered(bounds: Bounds, c: usize, key: usize) -> Bounds
-    ensures { Lowered bounds c key result }
-{
-    if key == 0 {
-        return Bounds {
-            conflict: lesser(bounds.conflict, c),
-            unit: bounds.unit,
-        };
-    }
-    if key == 1 {
-        return Bounds {
-            conflict: bounds.conflict,
-            unit: lesser(bounds.unit, c),
-        };
-    }
-    bounds
-}
-
-// The clauses of the list have `more` true literals more and `fewer` open ones less.
-pub(crate) fn count_in(
+// The clauses of the list have `more` true and open literals more and `less` of them less.
+pub(crate) fn renumber(
     list: &[u32],
-    more: u32,
-    fewer: u32,
+    more: Numbers,
+    less: Numbers,
     trues: &mut [u32],
     opens: &mut [u32],
     was: Bounds,
 ) -> Bounds
-    requires { Enterable more fewer list.now trues.old opens.old }
-    ensures { CountedIn more fewer list.now trues.old opens.old was [] trues.new opens.new result }
+    requires of_trues { Movable more.trues less.trues list.now trues.old }
+    requires of_opens { Movable more.opens less.opens list.now opens.old }
+    ensures { Renumbered more less list.now trues.old opens.old was [] trues.new opens.new result }
 {
     let mut bounds = was;
-    let mut k = 0;
-    while k < list.len() {
-        let c = wide(list[k]);
-        let t = trues[c] + more;
-        let o = opens[c] - fewer;
+    for c in list {
+        let c = *c as usize;
+        let t = trues[c] + more.trues - less.trues;
+        let o = opens[c] + more.opens - less.opens;
         trues[c] = t;
         opens[c] = o;
-        bounds = lowered(bounds, c, 2 * wide(t) + wide(o));
-        k += 1;
-    }
-    bounds
-}
-
-// They have `less` true literals less and `more` open ones more.
-pub(crate) fn count_out(
-    list: &[u32],
-    less: u32,
-    more: u32,
-    trues: &mut [u32],
-    opens: &mut [u32],
-    was: Bounds,
-) -> Bounds
-    requires { Leavable less more list.now trues.old opens.old }
-    ensures { CountedOut less more list.now trues.old opens.old was [] trues.new opens.new result }
-{
-    let mut bounds = was;
-    let mut k = 0;
-    while k < list.len() {
-        let c = wide(list[k]);
-        let t = trues[c] - less;
-        let o = opens[c] + more;
-        trues[c] = t;
-        opens[c] = o;
-        bounds = lowered(bounds, c, 2 * wide(t) + wide(o));
-        k += 1;
+        bounds = bounds.lowered(c, key(t, o));
     }
     bounds
 }

@@ -1,88 +1,83 @@
--- Rows 10 and 23 clause by clause: the clauses from the i-th end on, after what was found, give the number that all clauses give; no mark has
--- the next stamp yet.
-use mathlib.Core.Path.{◌≡◌, refl, sym, ◌∙◌}
-use mathlib.Core.Bool.{Bool, true, false, cond, ◌||◌}
-use mathlib.Core.List.{List, ◌∷◌}
-use Prim.Native.Nat.{ℕ, ◌+◌, ◌-◌, ◌≤◌, ◌<◌}
-use native.Mathlib.Omega.{arith}
-use lib.IntN.{ℤ, pos, nat_abs}
-use lib.ListN.{length, take, drop, get_or, replicate, length-replicate}
-use Rattle.words.specs.Lists.{any}
+-- Rows 10 and 23 clause by clause: the clauses that are left, after what was seen, give the row that all clauses give; no mark has the next stamp
+-- yet.
+use Rattle.std.proofs.Math.Bool.{or_assoc}
+use Rattle.std.specs.Prelude.{◌≡◌, refl, Bool, true, false, cond, ◌||◌, List, [], ◌∷◌, ℕ, ◌+◌, ◌-◌, ◌<◌, ℤ, nat_abs, length, replicate, Ok, Err}
+use Rattle.std.proofs.Common.{ap, arith}
+use Rattle.std.proofs.lemmas.List.{length-replicate}
+use Rattle.words.specs.declared.Refusal.{Refusal}
+use Rattle.words.specs.Outcomes.{refused, by_row}
+use Rattle.words.specs.Rows.{refusal_of}
+use Rattle.words.specs.Lists.{In, here, there, any}
 use Rattle.words.specs.Laws.Lists.{blank}
+use Rattle.formula.specs.Limits.{limits}
 use Rattle.formula.specs.Formula.{clauses_from}
-use Rattle.formula.specs.Block.{bad_ends, both_signs, repeats}
-use Rattle.formula.specs.Laws.Ends.{good_end}
-use Rattle.formula.specs.Laws.Clauses.{clauses_at, clauses_ended}
+use Rattle.formula.specs.Block.{both_signs, repeats}
+use Rattle.formula.specs.Check.{checked_of}
+use Rattle.formula.specs.Laws.Named.{named_part}
+use Rattle.formula.specs.Inner.Named.{AllNamed}
 use Rattle.formula.specs.Inner.Places.{literal_places}
-use Rattle.formula.specs.Inner.Tables.{pair_row, pair_rows, Fresh}
+use Rattle.formula.specs.Inner.Tables.{pair_of, pair_rows, Fresh}
 
-pub record Looked (ls es : List ℤ) (marks : List ℕ) (found from i : ℕ) : Type 0 where
-  pub at : i ≤ length es
-  pub fresh : Fresh (i + 1) marks
-  pub good : bad_ends (length ls) from (drop i es) ≡ false
-  pub no_ten : found ≡ 10 → ⊥
-  pub same : pair_rows found (clauses_from ls from (drop i es)) ≡ pair_rows 0 (clauses_from ls 0 es)
+-- the number of several clauses, some clause before them being seen to repeat a literal or not
+abbrev pub pairs : Bool → List (List ℤ) → ℕ
+pairs repeated cs = cond (any both_signs cs) 10 (cond (repeated || any repeats cs) 23 0)
 
-pub begin : (ls es : List ℤ) → bad_ends (length ls) 0 es ≡ false → Looked ls es (replicate literal_places 0) 0 0 0
-begin ls es good =
-    record {
-      at = omega arith;
+pub record Looked (marks : List ℕ) (repeated : Bool) (count : ℕ) (left all : List (List ℤ)) : Type 0 where
+  pub fresh : Fresh (count + 1) marks
+  pub same : pairs repeated left ≡ pairs false all
+  pub named : {c : List ℤ} → In c left → AllNamed limits.variables c
+  pub few : count + length left ≡ length all
+
+-- each clause is a part of the literal words
+clauses_named : (ls : List ℤ) (from : ℕ) (es : List ℤ) → AllNamed limits.variables ls → {c : List ℤ} → In c (clauses_from ls from es) → AllNamed limits.variables c
+unfolding clauses_from
+clauses_named ls from [] a i = elim i [ ]
+clauses_named ls from (e ∷ es) a (here is) = rw is (named_part limits.variables ls (nat_abs e - from) from a)
+clauses_named ls from (e ∷ es) a (there i) = clauses_named ls (nat_abs e) es a i
+
+pub begin : (ls es : List ℤ) → AllNamed limits.variables ls → {left : List (List ℤ)} → left ≡ clauses_from ls 0 es
+    → Looked (replicate literal_places 0) false 0 left (clauses_from ls 0 es)
+begin ls es a is =
+    rw is
+    (record {
       fresh = record { room = length-replicate {A = ℕ} literal_places 0; under = λ k. omega (arith, blank {A = ℕ} 0 literal_places k) };
-      good = good;
-      no_ten = λ e. omega arith;
       same = refl;
-    }
+      named = λ i. clauses_named ls 0 es a i;
+      few = omega arith;
+    })
 
--- a clause's number is 10 if it has both signs, and after any other number the clauses that follow give what they give with it
-module _ (found : ℕ) (c : List ℤ) (cs : List (List ℤ)) where
-  pub ten : (found ≡ 10 → ⊥) → pair_row found c ≡ 10 → 10 ≡ pair_rows found (c ∷ cs)
-  unfolding any
-  ten no_ten = by (both_signs c) (repeats c)
-    where
-      by : (a b : Bool) → cond a 10 (cond b 23 found) ≡ 10 → 10 ≡ cond (a || any both_signs cs) 10 (cond (b || any repeats cs) 23 found)
-      by true b e = refl
-      by false true e = absurd (omega arith)
-      by false false e = absurd (no_ten e)
+module _ {marks : List ℕ} {repeated : Bool} {count : ℕ} {left all : List (List ℤ)} (p : Looked marks repeated count left all) where
+  pub end : left ≡ [] → (repeated ≡ true → refused 23 ≡ checked_of (refusal_of (pair_rows all))) × (repeated ≡ false → Ok tt ≡ checked_of (refusal_of (pair_rows all)))
+  unfolding any checked_of
+  end none = let e = rw none at p.same in (λ t. rw (← e, t), λ t. rw (← e, t))
 
-  pub other : (pair_row found c ≡ 10 → ⊥) → pair_rows (pair_row found c) cs ≡ pair_rows found (c ∷ cs)
-  unfolding any
-  other = by (both_signs c) (repeats c) (any repeats cs)
-    where
-      by : (a b d : Bool) → (cond a 10 (cond b 23 found) ≡ 10 → ⊥) → cond (any both_signs cs) 10 (cond d 23 (cond a 10 (cond b 23 found))) ≡ cond (a || any both_signs cs) 10 (cond (b || d) 23 found)
-      by true b d e = absurd (e refl)
-      by false true true e = refl
-      by false true false e = refl
-      by false false d e = refl
+  -- the next clause
+  module _ {c : List ℤ} {rest : List (List ℤ)} (is : left ≡ c ∷ rest) where
+    pub asked : AllNamed limits.variables c
+    asked = p.named (rw is (here refl))
 
-module _ (ls es : List ℤ) (marks : List ℕ) (found from i : ℕ) (p : Looked ls es marks found from i) where
-  pub end : length es ≤ i → found ≡ pair_rows 0 (clauses_from ls 0 es)
-  unfolding any
-  end h = rw (clauses_ended ls from es i h) at p.same
+    pub room : count < length all
+    room = omega (arith, p.few, ap length is)
 
-  module _ (h : i < length es) (e : ℕ) (is : e ≡ nat_abs (get_or es i (pos 0))) where
-    -- the clause lies between `from` and its end, within the literals
-    pub rises : from ≤ e
-    rises = omega (arith, (good_end (length ls) from es i p.good h).rises)
+    pub hit : (e : Refusal) → Err e ≡ pair_of c → Err e ≡ checked_of (refusal_of (pair_rows all))
+    unfolding any checked_of
+    hit e q = rw (← p.same, is) (by (both_signs c) (repeats c) q)
+      where
+        by : (a b : Bool) → Err e ≡ cond a (refused 10) (Ok b) → Err e ≡ checked_of (cond (a || any both_signs rest) 10 (cond (repeated || (b || any repeats rest)) 23 0))
+        by true b q = let z : e ≡ by_row 10 = cc in rw z
+        by false b q = absurd cc
 
-    pub fits : e ≤ length ls
-    fits = omega (arith, (good_end (length ls) from es i p.good h).fits)
-
-    module _ (r : ℕ) (gave : r ≡ pair_row found (take (e - from) (drop from ls))) where
-      abbrev rest : List (List ℤ)
-      rest = clauses_from ls e (drop (i + 1) es)
-
-      whole : pair_rows found (take (e - from) (drop from ls) ∷ rest) ≡ pair_rows 0 (clauses_from ls 0 es)
-      whole = rw (clauses_at ls from es i h, ← is) at p.same
-
-      pub hit : r ≡ 10 → r ≡ pair_rows 0 (clauses_from ls 0 es)
-      hit t = t ∙ ten found _ rest p.no_ten (sym gave ∙ t) ∙ whole
-
-      pub more : (r ≡ 10 → ⊥) → (marks' : List ℕ) → Fresh (i + 1 + 1) marks' → Looked ls es marks' r e (i + 1)
-      more f marks' fresh =
-          record {
-            at = omega arith;
-            fresh = fresh;
-            good = rw is (good_end (length ls) from es i p.good h).rest;
-            no_ten = f;
-            same = rw gave (other found _ rest (λ t. f (gave ∙ t)) ∙ whole);
-          }
+    pub more : (again : Bool) → Ok again ≡ pair_of c → {marks' : List ℕ} → Fresh (count + 1 + 1) marks' → Looked marks' (repeated || again) (count + 1) rest all
+    unfolding any
+    more again q fresh =
+        record {
+          fresh = fresh;
+          same = by (both_signs c) (repeats c) q (rw is at p.same);
+          named = λ i. p.named (rw is (there i));
+          few = omega (arith, p.few, ap length is);
+        }
+      where
+        by : (a b : Bool) → Ok again ≡ cond a (refused 10) (Ok b) → cond (a || any both_signs rest) 10 (cond (repeated || (b || any repeats rest)) 23 0) ≡ pairs false all
+            → cond (any both_signs rest) 10 (cond ((repeated || again) || any repeats rest) 23 0) ≡ pairs false all
+        by true b q e = absurd cc
+        by false b q e = let z : again ≡ b = cc in rw (z, or_assoc repeated b (any repeats rest)) e

@@ -1,12 +1,10 @@
 -- A word raised by the number of variables is its place: in the wider type every sum here fits, and it is not negative.
 use mathlib.Core.Path.{◌≡◌, ◌∙◌, ap}
-use mathlib.Core.List.{List}
 use Prim.Native.Nat.{ℕ, ◌≤◌, ◌<◌, ◌^◌}
 use native.Mathlib.Nat.{lt_trans}
 use native.Mathlib.Omega.{arith}
 use lib.Dec.{T, lit<}
 use lib.IntN.{ℤ, pos, nat_abs, ◌+ℤ◌}
-use lib.ListN.{length, get_or, get_or-eq_default}
 use lib.Signed.{non_neg}
 use mir.Syntax.{w32, w64}
 use mir.Val.{SFits, Fits, to_z, of_z}
@@ -14,10 +12,7 @@ use mir.ValLaws.{to_z-of_z}
 use Rattle.formula.specs.Limits.{limits}
 use Rattle.formula.specs.Laws.Limits.{variables_small}
 use Rattle.formula.specs.Inner.Places.{place_of}
-use Rattle.formula.specs.Laws.Places.{raised, place_plus, place_within}
-
-pub place_none : (ws : List ℤ) (i m : ℕ) → m ≡ limits.variables → length ws ≤ i → m ≡ place_of (get_or ws i (pos 0))
-place_none ws i m mid h = rw (get_or-eq_default ws (pos 0) h, place_plus 0) (omega arith)
+use Rattle.formula.specs.Laws.Places.{raised, place_within}
 
 module _ (x : ℤ) (f : SFits w32 x) where
   wide : SFits w64 x
@@ -25,9 +20,6 @@ module _ (x : ℤ) (f : SFits w32 x) where
 
   read : to_z w32 (of_z w32 x) ≡ x
   read = to_z-of_z w32 x f
-
-  pub word_fits : SFits w64 (to_z w32 (of_z w32 x))
-  word_fits = rw read wide
 
   module _ (h : nat_abs x ≤ limits.variables) (m : ℕ) (mid : m ≡ limits.variables) where
     -- the sum as the machine makes it
@@ -40,7 +32,7 @@ module _ (x : ℤ) (f : SFits w32 x) where
     small : place_of x < 2 ^ 63
     small = let l : 2 ^ 33 < 2 ^ 63 = lit< tt in lt_trans (omega (arith, place_within x h, variables_small)) l
 
-    pub sum_fits : SFits w64 sum
+    sum_fits : SFits w64 sum
     sum_fits = rw sum_is (record { sfits = small })
 
     sum_read : to_z w64 (of_z w64 sum) ≡ pos (place_of x)

@@ -1,45 +1,37 @@
--- Rows 10 and 23 in one clause, from its last literal to its first: the literals passed have the clause's stamp, no two of them are opposites,
--- and 23 was found if two of them are the same.
-use mathlib.Core.Path.{◌≡◌, refl, sym, ap, ◌∙◌}
-use mathlib.Core.Bool.{false, cond, ◌||◌}
-use mathlib.Core.Logic.{◌⊎◌, inl, inr}
-use mathlib.Core.List.{List}
-use Prim.Native.Nat.{ℕ, ◌+◌, ◌-◌, ◌*◌, ◌≤◌, ◌<◌}
-use native.Mathlib.Decide.{ℕ_discrete}
-use native.Mathlib.Omega.{arith}
-use lib.Dec.{eqb}
-use lib.IntN.{ℤ, pos, neg_ℤ, nat_abs}
-use lib.ListN.{length, drop, get_or, set, length-set}
-use lib.Seq.{get_or-set_same, get_or-set_other}
+-- Rows 10 and 23 in one clause, from its first literal to its last: the literals passed have the clause's stamp, no two of them are opposites, and it
+-- was seen if two of them are the same.
+use Rattle.std.specs.Prelude.{◌≡◌, refl, Bool, false, ◌||◌, List, ℕ, ◌+◌, ◌-◌, ◌*◌, ◌≤◌, ◌<◌, eqb, ℤ, pos, neg_ℤ, nat_abs, length, take, drop, get_or, set, Ok}
+use Rattle.std.proofs.Common.{sym, ◌∙◌, ap, arith, length-set, get_or-set_same, get_or-set_other}
+use Rattle.std.proofs.Math.Decide.{ℕ_discrete}
+use Rattle.std.proofs.Math.Bool.{or-false, or-true}
+use Rattle.std.proofs.lemmas.List.{take-append-drop, take_more}
+use lib.Seq.{take_all}
 use borrow.Author.Tests.{eq-eqb, ne_eqb}
-use Rattle.words.specs.Laws.Lists.{next, ended}
+use Rattle.words.specs.Outcomes.{refused}
 use Rattle.words.specs.Words.{eq_z, mem}
-use Rattle.words.specs.Laws.Words.{eq_z_refl, eq_z_ne, nat_abs_neg}
+use Rattle.words.specs.Laws.Words.{eq_z_refl, eq_z_ne, nat_abs_neg, mem_more}
 use Rattle.formula.specs.Limits.{limits}
 use Rattle.formula.specs.Laws.Limits.{variables_are}
 use Rattle.formula.specs.Block.{both_signs, repeats}
-use Rattle.formula.specs.Laws.Once.{signs_drop, signs_at, repeats_at}
+use Rattle.formula.specs.Laws.Once.{signs_more, signs_front, repeats_more}
 use Rattle.formula.specs.Inner.Places.{literal_places, place_of, word_at}
 use Rattle.formula.specs.Laws.Places.{place_word, word_place, place_within, place_opposite}
-use Rattle.formula.specs.Inner.Tables.{pair_row, Fresh}
+use Rattle.formula.specs.Inner.Tables.{pair_of, Fresh}
 
-pub record Stamped (ls : List ℤ) (stamp earlier : ℕ) (marks : List ℕ) (found i : ℕ) : Type 0 where
-  pub at : i ≤ length ls
+pub record Stamped (ls : List ℤ) (stamp : ℕ) (marks : List ℕ) (again : Bool) (i : ℕ) : Type 0 where
   pub fresh : Fresh (stamp + 1) marks
-  pub marked : (k : ℕ) → eqb (get_or marks k 0) stamp ≡ mem (word_at k) (drop i ls)
-  pub plain : both_signs (drop i ls) ≡ false
-  pub told : found ≡ cond (repeats (drop i ls)) 23 earlier
+  pub marked : (k : ℕ) → eqb (get_or marks k 0) stamp ≡ mem (word_at k) (take i ls)
+  pub plain : both_signs (take i ls) ≡ false
+  pub told : again ≡ repeats (take i ls)
 
-pub begin : (ls : List ℤ) (stamp earlier : ℕ) (marks : List ℕ) → Fresh stamp marks → Stamped ls stamp earlier marks earlier (length ls)
+pub begin : (ls : List ℤ) (stamp : ℕ) (marks : List ℕ) → Fresh stamp marks → Stamped ls stamp marks false 0
 unfolding mem both_signs repeats
-begin ls stamp earlier marks f =
-    let none = ended ls (length ls) (omega arith) in
+begin ls stamp marks f =
     record {
-      at = omega arith;
       fresh = record { room = f.room; under = λ k. omega (arith, f.under k) };
-      marked = λ k. rw none (ne_eqb (get_or marks k 0) stamp (λ e. omega (arith, f.under k)));
-      plain = rw none;
-      told = rw none;
+      marked = λ k. ne_eqb (get_or marks k 0) stamp (λ e. omega (arith, f.under k));
+      plain = refl;
+      told = refl;
     }
 
 fresh_set : (stamp : ℕ) (marks : List ℕ) (p : ℕ) → p < length marks → Fresh (stamp + 1) marks → Fresh (stamp + 1) (set marks p stamp)
@@ -62,49 +54,36 @@ module _ (w : ℤ) (small : nat_abs w ≤ limits.variables) (own : ℕ) (is-own 
       let l : nat_abs (neg_ℤ w) ≤ limits.variables = rw (nat_abs_neg w) small in
       rw (is-own, ← place_opposite w small) (word_place (neg_ℤ w) l)
 
-module _ (ls : List ℤ) (stamp earlier : ℕ) (marks : List ℕ) (found i : ℕ) (p : Stamped ls stamp earlier marks found i) where
-  pub end : i ≤ 0 → found ≡ pair_row earlier ls
-  end h = let z : i ≡ 0 = omega arith in rw (rw z at p.plain) (rw z at p.told)
+module _ (ls : List ℤ) (stamp : ℕ) (marks : List ℕ) (again : Bool) (i : ℕ) (p : Stamped ls stamp marks again i) where
+  pub end : length ls ≤ i → Ok again ≡ pair_of ls
+  end h = let z = take_all i ls h in rw (rw z at p.plain, rw z at p.told)
 
-  -- one literal further to the front, with its place and its opposite's
-  module _ (j : ℕ) (step : j + 1 ≡ i) (small : nat_abs (get_or ls j (pos 0)) ≤ limits.variables) (own : ℕ) (is-own : own ≡ place_of (get_or ls j (pos 0))) (other : ℕ) (is-other : other ≡ 2 * limits.variables - own) where
-    near : j < length ls
-    near = let z : i ≤ length ls = p.at in omega arith
+  -- the next literal, with its place and its opposite's
+  module _ (h : i < length ls) (small : nat_abs (get_or ls i (pos 0)) ≤ limits.variables) (own : ℕ) (is-own : own ≡ place_of (get_or ls i (pos 0))) (other : ℕ) (is-other : other ≡ 2 * limits.variables - own) where
+    signs : both_signs (take (i + 1) ls) ≡ eqb (get_or marks other 0) stamp
+    signs = rw (take_more ls i (pos 0) h, signs_more (take i ls) (get_or ls i (pos 0)), p.plain, p.marked other, is-other, other_word (get_or ls i (pos 0)) small own is-own)
 
-    passed : both_signs (drop j ls) ≡ eqb (get_or marks other 0) stamp || both_signs (drop i ls)
-    passed = signs_at ls j near ∙ rw (step, p.marked other, is-other, other_word (get_or ls j (pos 0)) small own is-own)
+    twin : repeats (take (i + 1) ls) ≡ again || eqb (get_or marks own 0) stamp
+    twin = rw (take_more ls i (pos 0) h, repeats_more (take i ls) (get_or ls i (pos 0)), p.told, p.marked own, own_word (get_or ls i (pos 0)) small own is-own)
 
-    again : repeats (drop j ls) ≡ eqb (get_or marks own 0) stamp || repeats (drop i ls)
-    again = repeats_at ls j near ∙ rw (step, p.marked own, own_word (get_or ls j (pos 0)) small own is-own)
+    pub hit : get_or marks other 0 ≡ stamp → refused 10 ≡ pair_of ls
+    hit e = rw (rw (take-append-drop (i + 1) ls) at (signs_front (take (i + 1) ls) (drop (i + 1) ls) (signs ∙ eq-eqb (get_or marks other 0) stamp e)))
 
-    pub hit : get_or marks other 0 ≡ stamp → 10 ≡ pair_row earlier ls
-    hit e = rw (signs_drop j ls (passed ∙ rw (eq-eqb (get_or marks other 0) stamp e)))
-
-    -- 23 is found where the literal's own place is marked, and else nothing new is
-    abbrev Found : ℕ → Type 0
-    Found found' = ((get_or marks own 0 ≡ stamp) × (found' ≡ 23)) ⊎ ((get_or marks own 0 ≡ stamp → ⊥) × (found' ≡ found))
-
-    tell : (found' : ℕ) → Found found' → found' ≡ cond (repeats (drop j ls)) 23 earlier
-    tell found' (inl (e, is)) = rw (again, eq-eqb (get_or marks own 0) stamp e) is
-    tell found' (inr (e, is)) = rw (again, ne_eqb (get_or marks own 0) stamp e) (is ∙ p.told)
-
-    mark : own < length marks → (k : ℕ) → eqb (get_or (set marks own stamp) k 0) stamp ≡ eq_z (word_at k) (get_or ls j (pos 0)) || mem (word_at k) (drop i ls)
+    mark : own < length marks → (k : ℕ) → eqb (get_or (set marks own stamp) k 0) stamp ≡ mem (word_at k) (take i ls) || eq_z (word_at k) (get_or ls i (pos 0))
     mark room k = by (ℕ_discrete k own)
       where
-        by : Dec (k ≡ own) → eqb (get_or (set marks own stamp) k 0) stamp ≡ eq_z (word_at k) (get_or ls j (pos 0)) || mem (word_at k) (drop i ls)
-        by (yes e) = rw (e, get_or-set_same marks own stamp 0 room, eq-eqb stamp stamp refl, own_word (get_or ls j (pos 0)) small own is-own, eq_z_refl (get_or ls j (pos 0)))
+        by : Dec (k ≡ own) → eqb (get_or (set marks own stamp) k 0) stamp ≡ mem (word_at k) (take i ls) || eq_z (word_at k) (get_or ls i (pos 0))
+        by (yes e) = rw (e, get_or-set_same marks own stamp 0 room, eq-eqb stamp stamp refl, own_word (get_or ls i (pos 0)) small own is-own, eq_z_refl (get_or ls i (pos 0))) (sym (or-true (mem (get_or ls i (pos 0)) (take i ls))))
         by (no d) =
-            let differ : word_at k ≡ get_or ls j (pos 0) → ⊥ = λ e. d (sym (place_word k) ∙ ap place_of e ∙ sym is-own) in
-            rw (get_or-set_other marks own k stamp 0 d, eq_z_ne differ) (p.marked k)
+            let differ : word_at k ≡ get_or ls i (pos 0) → ⊥ = λ e. d (sym (place_word k) ∙ ap place_of e ∙ sym is-own) in
+            rw (get_or-set_other marks own k stamp 0 d, eq_z_ne differ) (p.marked k ∙ sym (or-false (mem (word_at k) (take i ls))))
 
-    pub more : (get_or marks other 0 ≡ stamp → ⊥) → (found' : ℕ) → Found found' → Stamped ls stamp earlier (set marks own stamp) found' j
-    unfolding mem
-    more e found' came =
-        let room : own < length marks = omega (arith, p.fresh.room, own_within (get_or ls j (pos 0)) small own is-own) in
+    pub more : (get_or marks other 0 ≡ stamp → ⊥) → Stamped ls stamp (set marks own stamp) (again || eqb (get_or marks own 0) stamp) (i + 1)
+    more e =
+        let room : own < length marks = omega (arith, p.fresh.room, own_within (get_or ls i (pos 0)) small own is-own) in
         record {
-          at = omega (arith, near);
           fresh = fresh_set stamp marks own room p.fresh;
-          marked = λ k. rw (next ls j (pos 0) near, step) (mark room k);
-          plain = passed ∙ rw (ne_eqb (get_or marks other 0) stamp e) p.plain;
-          told = tell found' came;
+          marked = λ k. rw (take_more ls i (pos 0) h, mem_more (word_at k) (take i ls) (get_or ls i (pos 0))) (mark room k);
+          plain = signs ∙ ne_eqb (get_or marks other 0) stamp e;
+          told = sym twin;
         }

@@ -1,8 +1,8 @@
--- What `check` answers: the table's number for a refused block, and no number for an accepted one.
-use Rattle.std.specs.Prelude.{ℕ, zero, suc}
-use Rattle.formula.specs.declared.Checked.{Checked}
-use Rattle.formula.specs.declared.Checked.TheVariants.{Accepted, Refused}
+-- What a check answers: the table's number where a row applies, and no number where none does.
+use Rattle.std.specs.Prelude.{ℕ, zero, suc, Result, Ok}
+use Rattle.words.specs.declared.Refusal.{Refusal}
+use Rattle.words.specs.Outcomes.{refused}
 
-unfoldable pub checked_of : ℕ → Checked
-checked_of zero = Accepted
-checked_of (suc n) = Refused (suc n)
+unfoldable pub checked_of : ℕ → Result (Unit {0}) Refusal
+checked_of zero = Ok tt
+checked_of (suc n) = refused (suc n)

@@ -1,20 +1,20 @@
 -- What each function promises of everything at entry, r being its answer; and that this leaves one answer. [only]
-use Rattle.std.specs.Prelude.{◌≡◌, Bool, List, ℕ, ℤ}
+use Rattle.std.specs.Prelude.{◌≡◌, Bool, List, ℕ, ℤ, Result}
+use Rattle.words.specs.declared.Refusal.{Refusal}
 use Rattle.words.specs.Lists.{any}
 use Rattle.words.specs.Outcomes.{only_one}
-use Rattle.formula.specs.declared.Checked.{Checked}
 use Rattle.formula.specs.Limits.{limits}
-use Rattle.formula.specs.Formula.{prefix_of, ends_of, literals_of}
+use Rattle.formula.specs.Formula.{prefix_of, ends_of, literals_of, clauses_from}
 use Rattle.formula.specs.Block.{no_variable, refusal}
 use Rattle.formula.specs.Check.{checked_of}
 use Rattle.formula.specs.Inner.Tables.{repeated}
 use Rattle.formula.specs.Inner.Places.{place_of}
 
 -- ---- the entrances
-abbrev pub CheckPromise : List ℤ → Checked → Type 0
+abbrev pub CheckPromise : List ℤ → Result (Unit {0}) Refusal → Type 0
 CheckPromise b r = r ≡ checked_of (refusal limits b)
 
-pub only_check : {r r' : Checked} (b : List ℤ) → CheckPromise b r → CheckPromise b r' → r ≡ r'
+pub only_check : {r r' : Result (Unit {0}) Refusal} (b : List ℤ) → CheckPromise b r → CheckPromise b r' → r ≡ r'
 only_check b = only_one
 
 -- the parts of a block of any words
@@ -27,6 +27,10 @@ EndsPromise b r = r ≡ ends_of b
 abbrev pub LiteralsPromise : List ℤ → List ℤ → Type 0
 LiteralsPromise b r = r ≡ literals_of b
 
+-- the clauses that any ends and any literal words make, one after the other
+abbrev pub ClausesPromise : List ℤ → List ℤ → List (List ℤ) → Type 0
+ClausesPromise es ls r = r ≡ clauses_from ls 0 es
+
 module _ {r r' : List ℤ} (b : List ℤ) where
   pub only_prefix : PrefixPromise b r → PrefixPromise b r' → r ≡ r'
   only_prefix = only_one
@@ -36,6 +40,9 @@ module _ {r r' : List ℤ} (b : List ℤ) where
 
   pub only_literals : LiteralsPromise b r → LiteralsPromise b r' → r ≡ r'
   only_literals = only_one
+
+pub only_clauses : {r r' : List (List ℤ)} (es ls : List ℤ) → ClausesPromise es ls r → ClausesPromise es ls r' → r ≡ r'
+only_clauses es ls = only_one
 
 -- ---- the inner doors
 abbrev pub SomeStrangerPromise : List ℤ → ℕ → Bool → Type 0

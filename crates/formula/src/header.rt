@@ -11,6 +11,7 @@ fn bad_count(block: &[i32], i: usize, limit: usize) -> bool
     words::negative_at(block, i) || limit < words::size_at(block, i)
 }
 
+#[tactic(auto, unfolding(crate::specs::Limits::limits))]
 pub(crate) fn bad_counts(block: &[i32]) -> bool
     ensures { result ≡ bad_counts limits block.now }
 {
@@ -20,6 +21,7 @@ pub(crate) fn bad_counts(block: &[i32]) -> bool
 }
 
 // Whether the word at i is not the number n.
+#[tactic(auto, using(crate::proofs::Rows::not_number))]
 fn is_not(block: &[i32], i: usize, n: usize) -> bool
     ensures { result ≡ is_not n (word block.now i) }
 {

@@ -2,3 +2,5 @@
 pub mod Laws
 -- what is read is what the grammar says
 pub mod Spelled
+-- where a byte leads, state by state
+pub mod Moves

@@ -1,7 +1,10 @@
 // The grammar of a formula's text, and the machine that reads it byte by byte.
 #![tactic(auto)]
 
-mod bytes; // which bytes are blanks, digits, and bytes of a comment
+ghost use Rattle.std.specs.Prelude.{◌≡◌};
+ghost use Rattle.grammar.specs.Machine.{silent as quiet};
+ghost use Rattle.grammar.specs.declared.State.TheVariants.{Dead};
+
 mod places; // what a word may begin with
 mod machine; // where a byte leads from a state
 mod states; // what is asked of a state
@@ -69,4 +72,21 @@ pub enum Says {
 pub struct Move {
     pub to: State,
     pub says: Says,
+}
+
+impl Move {
+    pub(crate) fn silent(to: State) -> Move
+        ensures { result ≡ quiet to }
+    {
+        Move {
+            to,
+            says: Says::Nothing,
+        }
+    }
+
+    pub(crate) fn dead() -> Move
+        ensures { result ≡ quiet Dead }
+    {
+        Move::silent(State::Dead)
+    }
 }

@@ -1,33 +1,39 @@
 // The machine: where one byte leads from a state, and what it says.
+#![tactic(auto, using(crate::proofs::Moves::moves, std::proofs::lemmas::Bool::Decides::nat_tests), unfolding(crate::specs::Grammar::digit, crate::specs::Grammar::nonzero, crate::specs::Grammar::printable, crate::specs::Machine::blank, crate::specs::Machine::between, crate::specs::Machine::parted, crate::specs::Machine::past))]
+
 ghost use Rattle.std.specs.Prelude.{◌≡◌};
-ghost use Rattle.grammar.specs.Machine.{between, parted, past, move, silent as quiet};
+ghost use Rattle.grammar.specs.Machine.{blank, between, parted, past, move};
 ghost use Rattle.grammar.specs.Promises.{StepPromise};
 ghost use Rattle.grammar.specs.declared.State.TheVariants.{InNumber, Remark, AfterC, AfterCn, AfterMinus};
 
-use crate::bytes::{is_blank, is_digit, is_nonzero, is_printable};
 use crate::places::choose_at;
 use crate::{Move, Place, Says, Slot, State};
+
+fn is_blank(b: u8) -> bool
+    ensures { result ≡ blank b }
+{
+    matches!(b, b' ' | b'\t')
+}
 
 // Before a word: blanks may stand, or one must.
 fn between_words(place: Place, b: u8) -> Move
     ensures { result ≡ between place b }
 {
     if is_blank(b) {
-        return Move {
-            to: State::Before(place),
-            says: Says::Nothing,
-        };
+        Move::silent(State::Before(place))
+    } else {
+        choose_at(place, b)
     }
-    choose_at(place, b)
 }
 
 fn parted_by(place: Place, b: u8) -> State
     ensures { result ≡ parted place b }
 {
     if is_blank(b) {
-        return State::Before(place);
+        State::Before(place)
+    } else {
+        State::Dead
     }
-    State::Dead
 }
 
 // Past a number.
@@ -36,10 +42,7 @@ fn past_number(slot: Slot, b: u8) -> State
 {
     match slot {
         Slot::OfVariables => parted_by(Place::AtSecond, b),
-        Slot::OfCount => {
-            let m = between_words(Place::AtEnd(true), b);
-            m.to
-        }
+        Slot::OfCount => between_words(Place::AtEnd(true), b).to,
         Slot::OfGroup => parted_by(Place::AtNumbers, b),
         Slot::OfClause(_) => parted_by(Place::AtLiterals, b),
     }
@@ -48,64 +51,51 @@ fn past_number(slot: Slot, b: u8) -> State
 fn in_number(slot: Slot, b: u8) -> Move
     ensures { result ≡ move (InNumber slot) b }
 {
-    if is_digit(b) {
-        return Move {
-            to: State::InNumber(slot),
-            says: Says::Nothing,
-        };
-    }
-    let to = past_number(slot, b);
-    Move {
-        to: to,
-        says: Says::Value(slot),
+    match b {
+        b'0'..=b'9' => Move::silent(State::InNumber(slot)),
+        _ => Move {
+            to: past_number(slot, b),
+            says: Says::Value(slot),
+        },
     }
 }
 
 fn in_remark(b: u8) -> State
     ensures { result ≡ (move Remark b).to }
 {
-    if is_printable(b) {
-        return State::Remark;
+    match b {
+        b' '..=b'~' | b'\t' => State::Remark,
+        b'\n' => State::Before(Place::AtHead),
+        _ => State::Dead,
     }
-    if b == 10 {
-        return State::Before(Place::AtHead);
-    }
-    State::Dead
 }
 
 fn after_c(b: u8) -> State
     ensures { result ≡ (move AfterC b).to }
 {
-    if b == 110 {
-        return State::AfterCn;
+    if b == b'n' {
+        State::AfterCn
+    } else {
+        State::Dead
     }
-    State::Dead
 }
 
 fn after_cn(b: u8) -> State
     ensures { result ≡ (move AfterCn b).to }
 {
-    if b == 102 {
-        return State::Parted(Place::AtFirst);
+    if b == b'f' {
+        State::Parted(Place::AtFirst)
+    } else {
+        State::Dead
     }
-    State::Dead
 }
 
 fn after_minus(b: u8) -> State
     ensures { result ≡ (move AfterMinus b).to }
 {
-    if is_nonzero(b) {
-        return State::InNumber(Slot::OfClause(true));
-    }
-    State::Dead
-}
-
-fn silent(to: State) -> Move
-    ensures { result ≡ quiet to }
-{
-    Move {
-        to: to,
-        says: Says::Nothing,
+    match b {
+        b'1'..=b'9' => State::InNumber(Slot::OfClause(true)),
+        _ => State::Dead,
     }
 }
 
@@ -114,14 +104,14 @@ pub fn step(state: State, b: u8) -> Move
     ensures { StepPromise state b result }
 {
     match state {
-        State::Dead => silent(State::Dead),
+        State::Dead => Move::silent(State::Dead),
         State::Fresh(more) => between_words(Place::AtLine(more), b),
         State::Before(place) => between_words(place, b),
-        State::Parted(place) => silent(parted_by(place, b)),
+        State::Parted(place) => Move::silent(parted_by(place, b)),
         State::InNumber(slot) => in_number(slot, b),
-        State::Remark => silent(in_remark(b)),
-        State::AfterC => silent(after_c(b)),
-        State::AfterCn => silent(after_cn(b)),
-        State::AfterMinus => silent(after_minus(b)),
+        State::Remark => Move::silent(in_remark(b)),
+        State::AfterC => Move::silent(after_c(b)),
+        State::AfterCn => Move::silent(after_cn(b)),
+        State::AfterMinus => Move::silent(after_minus(b)),
     }
 }

@@ -1,45 +1,29 @@
 // What a word may begin with, place by place.
+#![tactic(auto, using(std::proofs::lemmas::Bool::Decides::nat_tests), unfolding(crate::specs::Grammar::nonzero, crate::specs::Machine::rows, crate::specs::Machine::choose))]
+
 ghost use Rattle.std.specs.Prelude.{◌≡◌, true, [], ◌∷◌};
 ghost use Rattle.grammar.specs.Grammar.{'0'};
-ghost use Rattle.grammar.specs.Machine.{starts, on, rows, choose, saying};
-ghost use Rattle.grammar.specs.declared.Place.TheVariants.{AtHead, AtCnf, AtFirst, AtSecond, AtLine, AtNumber, AtNumbers, AtLiterals, AtEnd};
+ghost use Rattle.grammar.specs.Machine.{starts, on, rows, choose};
+ghost use Rattle.grammar.specs.declared.Place.TheVariants.{AtHead, AtCnf, AtLine, AtNumber, AtLiterals, AtEnd};
 
-use crate::bytes::is_nonzero;
 use crate::{Move, Place, Says, Slot, State};
 
 fn at_head(b: u8) -> Move
     ensures { result ≡ choose (rows AtHead) b }
 {
-    if b == 99 {
-        return Move {
-            to: State::Remark,
-            says: Says::Nothing,
-        };
-    }
-    if b == 112 {
-        return Move {
-            to: State::Parted(Place::AtCnf),
-            says: Says::Nothing,
-        };
-    }
-    Move {
-        to: State::Dead,
-        says: Says::Nothing,
+    match b {
+        b'c' => Move::silent(State::Remark),
+        b'p' => Move::silent(State::Parted(Place::AtCnf)),
+        _ => Move::dead(),
     }
 }
 
 fn at_cnf(b: u8) -> Move
     ensures { result ≡ choose (rows AtCnf) b }
 {
-    if b == 99 {
-        return Move {
-            to: State::AfterC,
-            says: Says::Nothing,
-        };
-    }
-    Move {
-        to: State::Dead,
-        says: Says::Nothing,
+    match b {
+        b'c' => Move::silent(State::AfterC),
+        _ => Move::dead(),
     }
 }
 
@@ -47,66 +31,33 @@ fn at_cnf(b: u8) -> Move
 fn at_digit(slot: Slot, zero: Move, b: u8) -> Move
     ensures { result ≡ choose (starts slot ∷ on '0' zero ∷ []) b }
 {
-    if is_nonzero(b) {
-        return Move {
-            to: State::InNumber(slot),
-            says: Says::Nothing,
-        };
+    match b {
+        b'1'..=b'9' => Move::silent(State::InNumber(slot)),
+        b'0' => zero,
+        _ => Move::dead(),
     }
-    if b == 48 {
-        return zero;
-    }
-    Move {
-        to: State::Dead,
-        says: Says::Nothing,
-    }
-}
-
-fn says(to: State, says: Says) -> Move
-    ensures { result ≡ saying says to }
-{
-    Move { to: to, says: says }
 }
 
 fn at_number(b: u8) -> Move
     ensures { result ≡ choose (rows AtNumber) b }
 {
-    if is_nonzero(b) {
-        return Move {
-            to: State::InNumber(Slot::OfGroup),
-            says: Says::Nothing,
-        };
-    }
-    Move {
-        to: State::Dead,
-        says: Says::Nothing,
+    match b {
+        b'1'..=b'9' => Move::silent(State::InNumber(Slot::OfGroup)),
+        _ => Move::dead(),
     }
 }
 
 fn at_literals(b: u8) -> Move
     ensures { result ≡ choose (rows AtLiterals) b }
 {
-    if is_nonzero(b) {
-        return Move {
-            to: State::InNumber(Slot::OfClause(false)),
-            says: Says::Nothing,
-        };
-    }
-    if b == 48 {
-        return Move {
+    match b {
+        b'1'..=b'9' => Move::silent(State::InNumber(Slot::OfClause(false))),
+        b'0' => Move {
             to: State::Before(Place::AtEnd(false)),
             says: Says::Ends,
-        };
-    }
-    if b == 45 {
-        return Move {
-            to: State::AfterMinus,
-            says: Says::Nothing,
-        };
-    }
-    Move {
-        to: State::Dead,
-        says: Says::Nothing,
+        },
+        b'-' => Move::silent(State::AfterMinus),
+        _ => Move::dead(),
     }
 }
 
@@ -114,33 +65,25 @@ fn at_literals(b: u8) -> Move
 fn at_first_line(b: u8) -> Move
     ensures { result ≡ choose (rows (AtLine true)) b }
 {
-    if b == 97 {
-        return Move {
+    match b {
+        b'a' => Move {
             to: State::Parted(Place::AtNumber),
             says: Says::Forall,
-        };
-    }
-    if b == 101 {
-        return Move {
+        },
+        b'e' => Move {
             to: State::Parted(Place::AtNumber),
             says: Says::Exists,
-        };
+        },
+        _ => at_literals(b),
     }
-    at_literals(b)
 }
 
 fn at_end(more: bool, b: u8) -> Move
     ensures { result ≡ choose (rows (AtEnd more)) b }
 {
-    if b == 10 {
-        return Move {
-            to: State::Fresh(more),
-            says: Says::Nothing,
-        };
-    }
-    Move {
-        to: State::Dead,
-        says: Says::Nothing,
+    match b {
+        b'\n' => Move::silent(State::Fresh(more)),
+        _ => Move::dead(),
     }
 }
 
@@ -150,31 +93,28 @@ pub(crate) fn choose_at(place: Place, b: u8) -> Move
     match place {
         Place::AtHead => at_head(b),
         Place::AtCnf => at_cnf(b),
-        Place::AtFirst => at_digit(
-            Slot::OfVariables,
-            says(
-                State::Parted(Place::AtSecond),
-                Says::Zero(Slot::OfVariables),
-            ),
-            b,
-        ),
-        Place::AtSecond => at_digit(
-            Slot::OfCount,
-            says(State::Before(Place::AtEnd(true)), Says::Zero(Slot::OfCount)),
-            b,
-        ),
-        Place::AtLine(more) => if more {
-            at_first_line(b)
-        } else {
-            at_literals(b)
-        },
+        Place::AtFirst => {
+            let zero = Move {
+                to: State::Parted(Place::AtSecond),
+                says: Says::Zero(Slot::OfVariables),
+            };
+            at_digit(Slot::OfVariables, zero, b)
+        }
+        Place::AtSecond => {
+            let zero = Move {
+                to: State::Before(Place::AtEnd(true)),
+                says: Says::Zero(Slot::OfCount),
+            };
+            at_digit(Slot::OfCount, zero, b)
+        }
+        Place::AtLine(true) => at_first_line(b),
+        Place::AtLine(false) | Place::AtLiterals => at_literals(b),
         Place::AtNumber => at_number(b),
         Place::AtNumbers => at_digit(
             Slot::OfGroup,
-            says(State::Before(Place::AtEnd(true)), Says::Nothing),
+            Move::silent(State::Before(Place::AtEnd(true))),
             b,
         ),
-        Place::AtLiterals => at_literals(b),
         Place::AtEnd(more) => at_end(more, b),
     }
 }

@@ -22,10 +22,11 @@ fn write_header(output: &mut [i32], v: usize, c: usize, t: usize)
         (6 + v) as i32,
         (6 + v + c) as i32,
     ];
-    prefix::copy(&words, output, 0);
+    output[..words.len()].copy_from_slice(&words);
 }
 
 // The block, out of the parts that stand in the output.
+#[tactic(auto, unfolding(crate::specs::Block::laid_in))]
 pub fn lay(output: &mut [i32], v: usize, bound: usize, c: usize, t: usize)
     requires ready { Ready output.old v bound (6 + v + c) t }
     requires headed { Headed output.old v c t }

@@ -1,6 +1,6 @@
 -- An accepted page is as claimed. From the sheet of its openings and the search of each.
 use Prim.Native.Nat.{ℕ, suc, ◌+◌, ◌-◌, ◌^◌, ◌≤◌, ◌<◌}
-use Rattle.std.specs.Prelude.{◌≡◌, ◌↔◌, Bool, true, false, List, ℤ, length}
+use Rattle.std.specs.Prelude.{◌≡◌, ◌↔◌, true, false, List, ℤ, length, Result, Ok}
 use Rattle.std.proofs.Common.{inl, inr, arith}
 use Rattle.words.specs.Laws.Bools.{clash, look}
 use Rattle.formula.specs.Formula.{formula_of, variables_of, prefix_of, first_group}
@@ -12,9 +12,10 @@ use Rattle.record.specs.Trail.{wiped_trail}
 use Rattle.record.specs.Inner.Ready.{Binds}
 use Rattle.record.proofs.Laws.Accepted.{prefix_length, accepted_proper}
 use Rattle.record.proofs.Laws.Wiped.{wiped_blank}
-use Rattle.listing.specs.declared.Paged.TheVariants.{Page}
+use Rattle.listing.specs.declared.sheets.Page.{Page}
+use Rattle.words.specs.declared.Refusal.{Refusal}
 use Rattle.listing.specs.Opening.{openings, opening_end}
-use Rattle.listing.specs.Page.{Sheet, sheet, page_of, sheet_of, PageMemory}
+use Rattle.listing.specs.Page.{Sheet, sheet, page_at, page_of, sheet_of, PageMemory}
 use Rattle.listing.specs.Rows.{PageGuarded, page_guarded, page_binds}
 use Rattle.listing.proofs.Refused.{page_accepted, answered_accepted}
 use Rattle.listing.specs.Claims.{Unended, Stops, at_end, no_room, unended, PageClaims}
@@ -70,18 +71,16 @@ module _ (L : Limits) (b : List ℤ) (m : PageMemory) (start : ℕ) (preferred :
       }
 
 -- whatever a page answers but a refusal, so it is
-pub accepted_page : (L : Limits) → (b : List ℤ) (m : PageMemory) (start : ℕ) (preferred : List ℤ) (budget : ℕ) (next entries : ℕ) (paused : Bool)
+pub accepted_page : (L : Limits) → (b : List ℤ) (m : PageMemory) (start : ℕ) (preferred : List ℤ) (budget : ℕ) (r : Page)
     → let o = page_of L b m start preferred budget in
-    o.answer ≡ Page next entries paused → PageClaims b m start preferred budget (sheet next entries paused o.memory.output) o.memory.work
+    o.answer ≡ Ok r → PageClaims b m start preferred budget (sheet r.next r.entries r.paused o.memory.output) o.memory.work
 unfolding formula_of
-accepted_page L b m start preferred budget next entries paused a =
-    let e = answered_accepted L b m start preferred budget next entries paused a in
+accepted_page L b m start preferred budget r a =
+    let e = answered_accepted L b m start preferred budget r a in
     let g = page_guarded L b m start e in
     let q = page_accepted L b m start preferred budget e in
     let s = sheet_of (formula_of b) m start preferred budget in
-    let a' : Page s.next s.entries s.paused ≡ Page next entries paused = rw q at a in
-    let x : s.next ≡ next = cc in
-    let y : s.entries ≡ entries = cc in
-    let z : s.paused ≡ paused = cc in
-    let w : s ≡ sheet next entries paused s.output = rw (← x, ← y, ← z) in
+    let told : ◌≡◌ {A = Result Page Refusal} (Ok (page_at s.next s.entries s.paused)) (Ok r) = rw q at a in
+    let same : page_at s.next s.entries s.paused ≡ r = cc in
+    let w : s ≡ sheet r.next r.entries r.paused s.output = rw (← same) in
     rw (q, prefix_length L b g.block, ← w) (claimed L b m start preferred budget g)

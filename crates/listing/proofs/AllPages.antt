@@ -1,6 +1,6 @@
 -- Any list of pages. Each takes the listing below its start to the listing below its next; so after any pages what was written is the listing
 -- below next.
-use Rattle.std.specs.Prelude.{◌+◌, ◌*◌, ◌≤◌, ◌<◌, ◌≡◌, false, ℤ, take}
+use Rattle.std.specs.Prelude.{◌+◌, ◌*◌, ◌≤◌, ◌<◌, ◌≡◌, false, ℤ, take, Result, Ok, Err}
 use Rattle.std.proofs.Math.Path.{refl}
 use Rattle.std.proofs.Common.{sym, ◌∙◌, ap}
 use mathlib.Core.List.{List, [], ◌∷◌, ◌++◌}
@@ -12,8 +12,8 @@ use Rattle.words.specs.Lists.{In, here, there}
 use Rattle.formula.specs.Limits.{Limits}
 use Rattle.formula.specs.Formula.{formula_of, variables_of, prefix_of, first_group}
 use Rattle.formula.specs.Block.{refusal}
-use Rattle.listing.specs.declared.Paged.{Paged}
-use Rattle.listing.specs.declared.Paged.TheVariants.{Page, Refused}
+use Rattle.listing.specs.declared.sheets.Page.{Page}
+use Rattle.words.specs.declared.Refusal.{Refusal}
 use Rattle.listing.specs.Page.{Sheet, first_universal, page_of, sheet_of, PageMemory}
 use Rattle.listing.specs.Opening.{openings, opening_end}
 use Rattle.listing.specs.Wins.{winners, entries, listing}
@@ -33,14 +33,14 @@ module _ (L : Limits) (b : List ℤ) where
   unfolding next_page
   next_listed l p h = go (page_of L b p.memory l.next p.preferred p.budget).answer refl
     where
-      o : Outcome PageMemory Paged
+      o : Outcome PageMemory (Result Page Refusal)
       o = page_of L b p.memory l.next p.preferred p.budget
 
-      go : (a : Paged) → o.answer ≡ a → Listed b (after_page l a o.memory.output)
-      go (Page n e q) z =
-          let t = accepted_page L b p.memory l.next p.preferred p.budget n e q z in
-          listed (ledger n (l.written ++ take (2 * e) o.memory.output)) t.filled.up_to (rw h.exactly t.filled.listed)
-      go (Refused n) z = h
+      go : (a : Result Page Refusal) → o.answer ≡ a → Listed b (after_page l a o.memory.output)
+      go (Ok r) z =
+          let t = accepted_page L b p.memory l.next p.preferred p.budget r z in
+          listed (ledger r.next (l.written ++ take (2 * r.entries) o.memory.output)) t.filled.up_to (rw h.exactly t.filled.listed)
+      go (Err e) z = h
 
   pages_listed : (ps : List Given) (l : Ledger) → Listed b l → Listed b (pages L b l ps)
   unfolding pages

@@ -4,13 +4,12 @@ use Prim.Native.Nat.{ℕ, zero, suc, ◌-◌}
 use Rattle.std.specs.Prelude.{◌≡◌, List, ℤ}
 use Rattle.std.proofs.Math.Path.{refl, fun_ext}
 use Rattle.std.proofs.Common.{ap}
-use Rattle.words.specs.Outcomes.{unless}
+use Rattle.words.specs.Outcomes.{unless, refused}
 use Rattle.formula.specs.Formula.{formula_of}
 use Rattle.formula.specs.Limits.{Limits}
 use Rattle.record.specs.declared.rule.State.{State}
 use Rattle.memory.specs.Memory.{record_places}
 use Rattle.memory.specs.Refusals.{short}
-use Rattle.listing.specs.declared.Paged.TheVariants.{Refused}
 use Rattle.listing.specs.Opening.{openings, opening_end}
 use Rattle.listing.specs.Page.{PageMemory, page_refusal, paged, page_from, sheet_of, page_of}
 use Rattle.listing.specs.Rows.{page_guarded, page_binds}
@@ -37,6 +36,6 @@ module _ (L : Limits) (b : List ℤ) (m m' : PageMemory) (buffers : short b (rec
     any_work = rw (← same_refusal) (go (page_refusal L b m start) refl)
       where
         go : (n : ℕ) → page_refusal L b m start ≡ n
-            → SamePage (unless Refused n m (paged (formula_of b) m.work (sheet_of (formula_of b) m start preferred budget))) (unless Refused n m' (paged (formula_of b) m'.work (sheet_of (formula_of b) m' start preferred budget)))
+            → SamePage (unless refused n m (paged (formula_of b) m.work (sheet_of (formula_of b) m start preferred budget))) (unless refused n m' (paged (formula_of b) m'.work (sheet_of (formula_of b) m' start preferred budget)))
         go zero e = rw (same_sheet e) (record { answer = refl; output = refl })
         go (suc n) e = record { answer = refl; output = output }

@@ -1,7 +1,7 @@
 -- [opening.start] The search of an opening is a run of a session: on the record that begins as the opening's values, a run at revision 0 with the
 -- page's budget and preferences is accepted, and leaves what the search leaves, whatever reasons are lent to it that rows 11 and 12 let pass. The block's
 -- rows and row 11 are the page's own, and rows 12 to 15 pass at a start.
-use Rattle.std.specs.Prelude.{ℕ, ◌+◌, ◌<◌, ◌≡◌, List, ℤ, length, replicate}
+use Rattle.std.specs.Prelude.{ℕ, ◌+◌, ◌<◌, ◌≡◌, List, ℤ, length, replicate, Ok}
 use Rattle.std.proofs.Math.Path.{refl}
 use Rattle.std.proofs.Common.{◌∙◌, le-ltb}
 use native.Mathlib.Omega.{arith}
@@ -15,14 +15,13 @@ use Rattle.record.specs.Inner.Ready.{Room}
 use Rattle.record.proofs.Laws.Accepted.{prefix_length}
 use Rattle.session.specs.declared.Revision.{Revision}
 use Rattle.session.specs.declared.Session.{Session}
-use Rattle.session.specs.declared.Ran.TheVariants.{Until}
 use Rattle.memory.specs.Memory.{Memory, memory_of, places}
 use Rattle.memory.specs.Reasons.{why}
 use Rattle.memory.specs.Refusals.{open_rows, open_refusal}
 use Rattle.session.specs.Refusals.{last_revision, of_session, session_rows, of_run, run_refusal}
 use Rattle.session.specs.Outcome.{session}
 use Rattle.search.specs.Run.{run_from, why_from}
-use Rattle.session.specs.Run.{run_of}
+use Rattle.session.specs.Run.{run_of, run_to}
 use Rattle.memory.proofs.Laws.Opened.{open_passes, room_buffers}
 use Rattle.session.specs.Laws.Accepted.{Sound}
 use Rattle.session.specs.Laws.Sound.{none_sound}
@@ -58,7 +57,7 @@ module _ (L : Limits) (b : List ℤ) (m : PageMemory) (start : ℕ) (g : PageGua
   pub search_is_run : Sound b begun (first_group (prefix_of b)) → let t = run_from (formula_of b) preferred budget (opening_start (formula_of b) m.work n) 0 in
       let u = opening_search (formula_of b) preferred budget m.work n in
       let w = why_from (formula_of b) preferred budget (opening_start (formula_of b) m.work n) (why ws 0) in
-      run_of L fresh b begun seen budget preferred ≡ outcome (Until (session u.count t.steps u.state) t.steps w.last) (memory_of u w.reasons)
+      run_of L fresh b begun seen budget preferred ≡ outcome (Ok (run_to (session u.count t.steps u.state) t.steps w.last)) (memory_of u w.reasons)
   unfolding run_of opening_start formula_of
   search_is_run right =
       let t = run_from (formula_of b) preferred budget (opening_start (formula_of b) m.work n) 0 in

@@ -1,6 +1,6 @@
 -- [witness] What a session that has ended shows is an opening: the values of the first group by its record are those of a number below 2^k, and that
 -- opening wins if the session is Valid and loses if it is Unsat.
-use Rattle.std.specs.Prelude.{◌≡◌, Bool, true, false, List, ℤ}
+use Rattle.std.specs.Prelude.{◌≡◌, Bool, true, false, List, ℤ, Ok}
 use Rattle.formula.specs.Limits.{Limits}
 use Rattle.formula.specs.Formula.{formula_of}
 use Rattle.theory.specs.Record.{true_in}
@@ -10,7 +10,6 @@ use Rattle.record.specs.Search.{record_in}
 use Rattle.memory.specs.Memory.{Memory}
 use Rattle.session.specs.declared.Revision.{Revision}
 use Rattle.session.specs.declared.Session.{Session}
-use Rattle.session.specs.declared.Answer.TheVariants.{To}
 use Rattle.session.specs.Outcome.{open_outcome}
 use Rattle.session.specs.Calls.{Call, play}
 use Rattle.session.specs.RunSteps.{search_at}
@@ -20,7 +19,7 @@ use Rattle.listing.specs.Wins.{wins}
 use Rattle.listing.proofs.Laws.Values.{number_of, group_length}
 use Rattle.listing.specs.Found.{Found}
 
-module _ (L : Limits) (b : List ℤ) (m : Memory) (rev : Revision) (s : Session) (a : (open_outcome L b m rev).answer ≡ To s) (calls : List Call) where
+module _ (L : Limits) (b : List ℤ) (m : Memory) (rev : Revision) (s : Session) (a : (open_outcome L b m rev).answer ≡ Ok s) (calls : List Call) where
   found : (v : Bool) → let d = play L b (fresh_desk L b m rev s) calls in d.latest.state ≡ verdict_of v → Found b d v
   unfolding wins witness_of
   found v e =

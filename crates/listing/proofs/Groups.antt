@@ -1,24 +1,24 @@
 -- The first group and an opening's values, as the loops over them see them; and where an opening's search starts: the words that are lent are the
 -- first group, and the places are within the buffers.
-use Prim.Native.Nat.{ℕ, suc, ◌+◌, ◌-◌, ◌*◌, ◌^◌, ◌/◌, ◌%◌, ◌≤◌, ◌<◌}
+use Prim.Native.Nat.{ℕ, suc, ◌+◌, ◌-◌, ◌*◌, ◌^◌, ◌%◌, ◌≤◌, ◌<◌}
 use mathlib.Core.Path.{◌≡◌, refl, sym, ◌∙◌, ap, subst}
-use mathlib.Core.Bool.{Bool, true, false, not, beq, cond}
+use mathlib.Core.Bool.{Bool, true, false, beq, cond}
 use mathlib.Core.List.{List, [], ◌∷◌}
 use native.Mathlib.Nat.{le_trans}
 use native.Mathlib.Omega.{arith}
 use native.Mathlib.Numerals.{add-one}
-use lib.Dec.{eqb}
-use lib.IntN.{ℤ, pos, negsuc, neg_ℤ, nat_abs}
+use lib.IntN.{ℤ, pos, nat_abs}
 use lib.ListN.{length, get_or, drop, set, length-drop, take}
 use lib.Pow.{pow_mono}
 use lib.Seq.{sets, length-take-le, get_or-take}
-use borrow.Author.Tests.{not-true, not-false}
+use Rattle.std.specs.List.{prefix_len}
+use Rattle.std.proofs.lemmas.List.Folds.{length-prefix_len}
 use Rattle.words.specs.Laws.Lists.{next, ended}
-use Rattle.words.specs.Words.{negative, opposite}
-use Rattle.words.specs.Laws.Words.{opposite_is}
+use Rattle.words.specs.Words.{negative}
 use Rattle.formula.specs.Formula.{run, first_group, variables_of, prefix_of, formula_of}
 use Rattle.formula.specs.Limits.{limits, max_variables}
 use Rattle.formula.specs.Laws.Limits.{group_small, variables_are}
+use Rattle.formula.specs.Block.{refusal}
 use Rattle.formula.specs.Laws.Accepted.{accepted, variables_most, prefix_named, prefix_length, Accepted}
 use Rattle.record.specs.declared.rule.State.TheVariants.{Open}
 use Rattle.record.specs.Search.{Search, search}
@@ -31,58 +31,55 @@ use Rattle.listing.proofs.Laws.Start.{starts}
 use Rattle.listing.proofs.Laws.Values.{group_few}
 use Rattle.listing.specs.Inner.Pages.{OnGroup, Writable}
 
--- ---- the first group: u is the sign of the prefix's first word
-pub group_begins : (p : List ℤ) {u : Bool} → u ≡ negative (get_or p 0 (pos 0)) → 0 + run u p ≡ first_group p
-unfolding first_group run
-group_begins [] e = refl
-group_begins (q ∷ p) {u = u} e = let f : u ≡ negative q = e in omega (arith, ap (λ v. run v (q ∷ p)) f)
+-- ---- the first group: the words that are counted have the first one's sign, u
+run_counted : (u : Bool) (p : List ℤ) → prefix_len (λ q. beq (negative q) u) p ≡ run u p
+unfolding run
+run_counted u [] = refl
+run_counted u (q ∷ p) = rw (run_counted u p) (go u (negative q))
+  where
+    go : (u v : Bool) → cond (beq v u) (1 + run u p) 0 ≡ cond (beq u v) (suc (run u p)) 0
+    go true true = omega arith
+    go true false = refl
+    go false true = refl
+    go false false = omega arith
 
--- the loop is at i, with the words before it in the group
-module _ (p : List ℤ) (i : ℕ) (u : Bool) (e : i + run u (drop i p) ≡ first_group p) where
-  pub group_ended : length p ≤ i → i ≡ first_group p
-  unfolding run
-  group_ended h = let z : run u (drop i p) ≡ 0 = rw (ended p i h) in omega arith
-
-  module _ (h : i < length p) {s : Bool} (is : s ≡ negative (get_or p i (pos 0))) where
-    pub group_stops : not (beq u s) ≡ true → i ≡ first_group p
-    unfolding run
-    group_stops t = let z : run u (drop i p) ≡ 0 = rw (next p i (pos 0) h, ← is, not-true (beq u s) t) in omega arith
-
-    pub group_goes : not (beq u s) ≡ false → i + 1 + run u (drop (i + 1) p) ≡ first_group p
-    unfolding run
-    group_goes t = let z : run u (drop i p) ≡ suc (run u (drop (i + 1) p)) = rw (next p i (pos 0) h, ← is, not-false (beq u s) t) in omega arith
+pub group_counted : (p : List ℤ) {u : Bool} → u ≡ negative (get_or p 0 (pos 0)) → let test : ℤ → Bool = λ q. beq (negative q) u in length (take (prefix_len test p) p) ≡ first_group p
+unfolding first_group
+group_counted [] e = refl
+group_counted (q ∷ p) {u = u} e = length-prefix_len (λ x. beq (negative x) u) (q ∷ p) ∙ run_counted u (q ∷ p) ∙ ap (λ v. run v (q ∷ p)) e
 
 -- ---- how many openings there are
 pub shifted : (k : ℕ) → k ≤ limits.group → 1 * 2 ^ k % 4294967296 ≡ 2 ^ k
 shifted k h = let m : 2 ^ k ≤ 2 ^ 31 = pow_mono (le_trans h group_small) in omega arith
 
--- ---- one value: a word that has the other sign is flipped
-word_value : (q : ℤ) (v : Bool) → cond (beq (negative q) v) (neg_ℤ q) q ≡ cond v (pos (nat_abs q)) (neg_ℤ (pos (nat_abs q)))
-word_value (pos n) true = refl
-word_value (pos n) false = refl
-word_value (negsuc n) true = refl
-word_value (negsuc n) false = refl
-
-module _ (n place : ℕ) (q : ℤ) {s v : Bool} (sign : s ≡ negative q) (one : v ≡ eqb (n / 2 ^ place % 2) 1) where
-  value_is : cond (beq s v) (neg_ℤ q) q ≡ value_at n place q
-  value_is = rw (sign, one) (word_value q (eqb (n / 2 ^ place % 2) 1))
-
-  pub value_flipped : beq s v ≡ true → nat_abs q ≤ 2147483647 → opposite q ≡ value_at n place q
-  value_flipped t h = opposite_is q h ∙ (rw t at value_is)
-
-  pub value_stays : beq s v ≡ false → q ≡ value_at n place q
-  value_stays t = rw t at value_is
-
 -- ---- the values of the number n, written one after the other: the loop is at i
 module _ (n : ℕ) (g ls : List ℤ) (i : ℕ) where
-  pub values_write : i < length g → (place : ℕ) → place ≡ length g - (i + 1) → {w : ℤ} → w ≡ value_at n place (get_or g i (pos 0))
+  pub values_write : i < length g → {w : ℤ} → w ≡ value_at n (length g - 1 - i) (get_or g i (pos 0))
       → sets (set ls i w) (i + 1) (values_of n (drop (i + 1) g)) ≡ sets ls i (values_of n (drop i g))
   unfolding values_of
-  values_write h place p r = rw (r, p, next g i (pos 0) h, length-drop (i + 1) g, add-one i)
+  values_write h r =
+      let place : length g - 1 - i ≡ length g - (i + 1) = omega arith in
+      rw (r, place, next g i (pos 0) h, length-drop (i + 1) g, add-one i)
 
   pub values_written : length g ≤ i → sets ls i (values_of n (drop i g)) ≡ ls
   unfolding values_of
   values_written h = rw (ended g i h)
+
+-- ---- the words of an accepted block's first group are those of its variables
+module _ (b : List ℤ) (block : refusal limits b ≡ 0) where
+  a : Accepted limits b
+  a = accepted limits b block
+
+  pub group_within : first_group (prefix_of b) ≤ variables_of b
+  group_within = omega (arith, group_few (prefix_of b), prefix_length a)
+
+  pub group_long : length (take (first_group (prefix_of b)) (prefix_of b)) ≡ first_group (prefix_of b)
+  group_long = length-take-le (first_group (prefix_of b)) (prefix_of b) (group_few (prefix_of b))
+
+  pub group_word : (i : ℕ) → i < length (take (first_group (prefix_of b)) (prefix_of b)) → nat_abs (get_or (take (first_group (prefix_of b)) (prefix_of b)) i (pos 0)) ≤ limits.variables
+  group_word i h =
+      rw (get_or-take (first_group (prefix_of b)) (prefix_of b) i (pos 0) (omega (arith, group_long)))
+      (omega (arith, variables_most a, ((prefix_named a).at i (omega (arith, group_long, group_within, prefix_length a))).most))
 
 -- ---- where an opening's search starts
 module _ {b : List ℤ} {work : Trail} {k : ℕ} (o : OnGroup b work k) where
@@ -97,23 +94,13 @@ module _ {b : List ℤ} {work : Trail} {k : ℕ} (o : OnGroup b work k) where
 
     -- its words are small, and there is room for them
     pub writable : {ls : List ℤ} → length ls ≡ length work.lits → Writable g ls
-    writable {ls} e = rw (taken, cut) (record {
-      narrow = omega (arith, long, o.narrow);
-      room = omega (arith, long, o.on.room.lits, few);
-      small = λ i h. rw (get_or-take k (prefix_of b) i (pos 0) (omega (arith, long))) (omega (arith, variables_are, variables_most a, ((prefix_named a).at i (omega (arith, long, few, v))).most));
-    })
-      where
-        a : Accepted limits b
-        a = accepted limits b o.on.block
-
-        v : length (prefix_of b) ≡ variables_of b
-        v = prefix_length a
-
-        few : k ≤ variables_of b
-        few = omega (arith, o.group, v, group_few (prefix_of b))
-
-        long : length (take k (prefix_of b)) ≡ k
-        long = length-take-le k (prefix_of b) (omega (arith, few, v))
+    writable {ls} e =
+        let long = group_long b o.on.block in
+        rw group_is_first (record {
+          narrow = omega (arith, long, o.group, o.narrow);
+          room = omega (arith, long, o.on.room.lits, group_within b o.on.block);
+          small = λ i h. omega (arith, variables_are, group_word b o.on.block i h);
+        })
 
     -- wiped, and then the values put at the start
     pub begun : (n : ℕ) {v : ℕ} {blank : Trail} {ls : List ℤ} → v ≡ variables_of b → blank ≡ wiped_trail work 0 v → ls ≡ sets blank.lits 0 (values_of n g)

@@ -8,7 +8,11 @@ use native.Mathlib.Omega.{arith}
 use lib.IntN.{ℤ}
 use lib.ListN.{length}
 use borrow.Author.Tests.{le-leb, lt-leb}
-use Rattle.words.specs.Outcomes.{outcome, unless_number}
+use Rattle.std.specs.Prelude.{Ok, Err}
+use Rattle.words.specs.Outcomes.{outcome}
+use Rattle.words.specs.declared.Refusal.{Refusal}
+use Rattle.formula.specs.Check.{checked_of}
+use Rattle.formula.specs.Laws.Check.{checked_accepted, checked_leaves}
 use Rattle.formula.specs.Limits.{limits}
 use Rattle.formula.specs.Formula.{formula_of, variables_of, prefix_of, first_group}
 use Rattle.record.specs.declared.rule.State.{State}
@@ -18,10 +22,9 @@ use Rattle.record.specs.Search.{Search, reached}
 use Rattle.record.specs.Trail.{Trail, wiped_trail}
 use Rattle.record.specs.Inner.Ready.{Binds, Room}
 use Rattle.record.proofs.Laws.Accepted.{prefix_length}
-use Rattle.listing.specs.declared.Paged.{Paged}
-use Rattle.listing.specs.declared.Paged.TheVariants.{Page, Refused}
+use Rattle.listing.specs.declared.sheets.Page.{Page}
 use Rattle.listing.specs.Opening.{openings, opening_search, opening_end}
-use Rattle.listing.specs.Page.{PageMemory, sheet, written, by_search, page_from, sheet_of, paged, page_refusal, page_of}
+use Rattle.listing.specs.Page.{PageMemory, page_at, sheet, written, by_search, page_from, sheet_of, paged, page_refusal, page_of}
 use Rattle.listing.specs.Rows.{page_binds, PageGuarded, page_guarded}
 use Rattle.listing.specs.Claims.{Beyond}
 use Rattle.listing.specs.Inner.Pages.{OnGroup, OnPage, wiped_outcome}
@@ -72,25 +75,25 @@ module _ {b : List ℤ} {m : PageMemory} {k start : ℕ} {preferred : List ℤ} 
       record { on = record { block = s.on.guard.block; room = rw (← prefix_length limits b s.on.guard.block) lent }; group = s.on.group; narrow = narrow s.on }
 
   -- what the page answers and leaves, once the work record is wiped
-  abbrev Left : Paged → Trail → Type 0
+  abbrev Left : Page → Trail → Type 0
   Left a u = wiped_outcome (formula_of b) a (record { work = u; output = out' }) ≡ paged (formula_of b) m.work (sheet_of (formula_of b) m start preferred budget)
 
-  left : {p : Bool} {u : Trail} → Beyond (length (formula_of b).prefix) m.work u → page_from (ends b m k start preferred budget total) (total - n) n e out' ≡ sheet n e p out' → {a : Paged} → a ≡ Page n e p → Left a u
-  left y q z = rw (z, ← all, ← s.same, q, wiped_again y)
+  left : {p : Bool} {u : Trail} → Beyond (length (formula_of b).prefix) m.work u → page_from (ends b m k start preferred budget total) (total - n) n e out' ≡ sheet n e p out' → Left (page_at n e p) u
+  left y q = rw (← all, ← s.same, q, wiped_again y)
 
   -- no opening is left
-  pub stops : total ≤ n → {a : Paged} → a ≡ Page n e false → Left a work'
+  pub stops : total ≤ n → Left (page_at n e false) work'
   unfolding page_from
-  stops h z = let x : total - n ≡ 0 = omega arith in left s.beyond (rw x) z
+  stops h = let x : total - n ≡ 0 = omega arith in left s.beyond (rw x)
 
   module _ (h : n < total) where
     more : total - n ≡ suc (total - (n + 1))
     more = omega arith
 
     -- there is no room
-    pub full : length out' < 2 * e + 2 → {a : Paged} → a ≡ Page n e false → Left a work'
+    pub full : length out' < 2 * e + 2 → Left (page_at n e false) work'
     unfolding page_from
-    full r z = left s.beyond (rw (more, lt-leb (2 * e + 2) (length out') r)) z
+    full r = left s.beyond (rw (more, lt-leb (2 * e + 2) (length out') r))
 
     -- there is room, and the opening n is searched
     module _ (room : 2 * e + 2 ≤ length out') {r : Reached} {work'' : Trail} (f : reached r work'' ≡ opening_search (formula_of b) preferred budget work' n) where
@@ -105,8 +108,8 @@ module _ {b : List ℤ} {m : PageMemory} {k start : ℕ} {preferred : List ℤ} 
           let x : opening_end (formula_of b) preferred budget m.work n ≡ st = same_end (formula_of b) binds preferred budget m.work s.on.guard.lent n work' lent ∙ ap (λ (u : Search). u.state) (sym f) ∙ z in
           rw (more, le-leb (2 * e + 2) (length out') room, x)
 
-      pub pauses : r.state ≡ Open → {a : Paged} → a ≡ Page n e true → Left a work''
-      pauses z q = left beyond'' (searched z) q
+      pub pauses : r.state ≡ Open → Left (page_at n e true) work''
+      pauses z = left beyond'' (searched z)
 
       pub wins : r.state ≡ Valid → {out'' : List ℕ} → out'' ≡ written n e out' → Round b m k start preferred budget total (n + 1) (e + 1) work'' out''
       wins z w = rw w (record {
@@ -124,24 +127,27 @@ module _ {b : List ℤ} {m : PageMemory} {k start : ℕ} {preferred : List ℤ} 
       loses z = record { on = s.on; count = s.count; same = sym (searched z) ∙ s.same; beyond = beyond''; inside = omega arith; few = omega (arith, s.few); fits = s.fits; long = s.long }
 
 -- ---- the page
-module _ (b : List ℤ) (m : PageMemory) (start : ℕ) {r : ℕ} (e : r ≡ page_refusal limits b m start) where
-  -- a number other than 0 is answered, and nothing is written
-  pub refuses : (preferred : List ℤ) (budget : ℕ) → (r ≡ 0 → ⊥) → outcome (Refused r) m ≡ page_of limits b m start preferred budget
+module _ (b : List ℤ) (m : PageMemory) (start : ℕ) where
+  -- a refused page answers its number, and nothing is written
+  pub refuses : (preferred : List ℤ) (budget : ℕ) (e : Refusal) → Err e ≡ checked_of (page_refusal limits b m start) → outcome (Err e) m ≡ page_of limits b m start preferred budget
   unfolding page_of
-  refuses preferred budget f = rw (← e) (unless_number Refused r m _ f)
+  refuses preferred budget e h = checked_leaves (page_refusal limits b m start) m _ e h
 
-  module _ (z : r ≡ 0) where
+  module _ (u : Unit {0}) (h : Ok u ≡ checked_of (page_refusal limits b m start)) where
+    none : page_refusal limits b m start ≡ 0
+    none = checked_accepted (page_refusal limits b m start) u h
+
     passed : PageGuarded limits b m start
-    passed = page_guarded limits b m start (sym e ∙ z)
+    passed = page_guarded limits b m start none
 
     pub on_page : {p : List ℤ} → p ≡ prefix_of b → {k : ℕ} → k ≡ first_group p → OnPage b m k start
     on_page is q = record { guard = passed; group = q ∙ ap first_group is }
 
     -- the first V places are wiped at the end
-    pub cleans : {v : ℕ} → v ≡ variables_of b → (preferred : List ℤ) (budget : ℕ) {a : Paged} (m' : PageMemory) {work'' : Trail}
+    pub cleans : {v : ℕ} → v ≡ variables_of b → (preferred : List ℤ) (budget : ℕ) {a : Page} (m' : PageMemory) {work'' : Trail}
         → wiped_outcome (formula_of b) a m' ≡ paged (formula_of b) m.work (sheet_of (formula_of b) m start preferred budget)
-        → work'' ≡ wiped_trail m'.work 0 v → outcome a (record { work = work''; output = m'.output }) ≡ page_of limits b m start preferred budget
+        → work'' ≡ wiped_trail m'.work 0 v → outcome (Ok a) (record { work = work''; output = m'.output }) ≡ page_of limits b m start preferred budget
     unfolding formula_of
     cleans {v} is preferred budget {a} m' f w =
         let n : length (prefix_of b) ≡ v = prefix_length limits b passed.block ∙ sym is in
-        rw (w, ← n) (f ∙ sym (page_accepted limits b m start preferred budget (sym e ∙ z)))
+        rw (w, ← n) (f ∙ sym (page_accepted limits b m start preferred budget none))

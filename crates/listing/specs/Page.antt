@@ -1,5 +1,5 @@
 -- [page] A page: when it is refused, what it writes, and its answer with every lent buffer.
-use Rattle.std.specs.Prelude.{ℕ, zero, suc, ◌+◌, ◌*◌, ◌-◌, Bool, true, false, ◌&&◌, cond, List, [], ◌∷◌, ◌++◌, ltb, leb, ℤ, length, set}
+use Rattle.std.specs.Prelude.{ℕ, zero, suc, ◌+◌, ◌*◌, ◌-◌, Bool, true, false, ◌&&◌, cond, List, [], ◌∷◌, ◌++◌, ltb, leb, ℤ, length, set, Result, Ok}
 use Rattle.std.specs.Int.Count.{ones}
 use Rattle.words.specs.Rows.{Row, row, refusal_of}
 use Rattle.words.specs.Words.{negative}
@@ -7,12 +7,12 @@ use Rattle.formula.specs.Formula.{Formula, formula_of, word, first_group}
 use Rattle.record.specs.declared.rule.State.{State}
 use Rattle.record.specs.declared.rule.State.TheVariants.{Open, Valid, Unsat}
 use Rattle.record.specs.Trail.{Trail, trail, wiped_trail}
-use Rattle.words.specs.Outcomes.{Outcome, outcome, unless}
+use Rattle.words.specs.Outcomes.{Outcome, outcome, unless, refused}
+use Rattle.words.specs.declared.Refusal.{Refusal}
 use Rattle.formula.specs.Limits.{Limits}
 use Rattle.memory.specs.Memory.{record_places}
 use Rattle.memory.specs.Refusals.{open_rows}
-use Rattle.listing.specs.declared.Paged.{Paged}
-use Rattle.listing.specs.declared.Paged.TheVariants.{Page, Refused}
+use Rattle.listing.specs.declared.sheets.Page.{Page}
 use Rattle.listing.specs.Opening.{openings, opening_end}
 
 -- ---- what is lent: the work record's two buffers, and the output
@@ -78,16 +78,20 @@ module _ (ends : ℕ → State) where
       (sheet n e false out)
 
 -- ---- the answer and every lent buffer
--- [page.answer] [page.after] the first V places of the work record are 0
-abbrev pub paged : Formula → Trail → Sheet → Outcome PageMemory Paged
+-- [page.answer] where the next page begins, the entries written, and whether it is paused
+abbrev pub page_at : ℕ → ℕ → Bool → Page
+page_at n e p = record { next = n; entries = e; paused = p }
+
+-- [page.after] the first V places of the work record are 0
+abbrev pub paged : Formula → Trail → Sheet → Outcome PageMemory (Result Page Refusal)
 paged F work s =
-    outcome (Page s.next s.entries s.paused) (record { work = wiped_trail work 0 (length F.prefix); output = s.output })
+    outcome (Ok (page_at s.next s.entries s.paused)) (record { work = wiped_trail work 0 (length F.prefix); output = s.output })
 
 -- a page's sheet: all openings from its start on
 abbrev pub sheet_of : Formula → PageMemory → ℕ → List ℤ → ℕ → Sheet
 sheet_of F m start preferred budget = page_from (opening_end F preferred budget m.work) (openings F - start) start 0 m.output
 
-unfoldable pub page_of : Limits → List ℤ → PageMemory → ℕ → List ℤ → ℕ → Outcome PageMemory Paged
+unfoldable pub page_of : Limits → List ℤ → PageMemory → ℕ → List ℤ → ℕ → Outcome PageMemory (Result Page Refusal)
 page_of L b m start preferred budget =
     let F = formula_of b in
-    unless Refused (page_refusal L b m start) m (paged F m.work (sheet_of F m start preferred budget))
+    unless refused (page_refusal L b m start) m (paged F m.work (sheet_of F m start preferred budget))

@@ -1,16 +1,16 @@
 -- [demand.3.pages] Any list of pages, each begun where the last one stopped, and what is claimed of it.
-use Rattle.std.specs.Prelude.{ℕ, ◌+◌, ◌*◌, ◌-◌, ◌^◌, ◌≤◌, ◌≡◌, ℤ, take}
+use Rattle.std.specs.Prelude.{ℕ, ◌+◌, ◌*◌, ◌-◌, ◌^◌, ◌≤◌, ◌≡◌, ℤ, take, Result, Ok, Err}
 use mathlib.Core.List.{List, [], ◌∷◌, ◌++◌}
 use Rattle.std.proofs.Math.ListN.{length}
 use Rattle.formula.specs.Limits.{Limits}
 use Rattle.formula.specs.Formula.{formula_of, variables_of, prefix_of, first_group}
-use Rattle.listing.specs.declared.Paged.{Paged}
-use Rattle.listing.specs.declared.Paged.TheVariants.{Page, Refused}
+use Rattle.listing.specs.declared.sheets.Page.{Page}
 use Rattle.listing.specs.Page.{page_of, PageMemory}
 use Rattle.listing.specs.Opening.{openings}
 use Rattle.listing.specs.Wins.{listing}
 use Rattle.record.specs.Inner.Ready.{Room}
 use Rattle.words.specs.Outcomes.{Outcome}
+use Rattle.words.specs.declared.Refusal.{Refusal}
 
 -- ---- [demand.3.pages] what a page is given besides the block and its start: a work record, preferences, a budget and an output, each its own
 pub record Given : Type 0 where
@@ -27,9 +27,9 @@ abbrev pub ledger : ℕ → List ℕ → Ledger
 ledger n ws = record { next = n; written = ws }
 
 -- a page adds its entries, each of two words; a refused one adds nothing
-abbrev pub after_page : Ledger → Paged → List ℕ → Ledger
-after_page l (Page n e p) out = ledger n (l.written ++ take (2 * e) out)
-after_page l (Refused n) out = l
+abbrev pub after_page : Ledger → Result Page Refusal → List ℕ → Ledger
+after_page l (Ok a) out = ledger a.next (l.written ++ take (2 * a.entries) out)
+after_page l (Err e) out = l
 
 -- [demand.3.pages] each begins where the last one said
 unfoldable pub next_page : Limits → List ℤ → Ledger → Given → Ledger
@@ -61,6 +61,6 @@ pub record Ample (b : List ℤ) (p : Given) : Type 0 where
   pub enough : 2 ^ (variables_of b + 1 - first_group (prefix_of b)) - 1 ≤ p.budget
 
 -- the same answer, and the same output
-pub record SamePage (o o' : Outcome PageMemory Paged) : Type 0 where
+pub record SamePage (o o' : Outcome PageMemory (Result Page Refusal)) : Type 0 where
   pub answer : o.answer ≡ o'.answer
   pub output : o.memory.output ≡ o'.memory.output

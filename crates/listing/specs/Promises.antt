@@ -1,13 +1,14 @@
 -- What a page promises of everything at entry, r being its answer and m' the memory that it leaves; and that this leaves one answer and one content
 -- of each lent buffer.
-use Rattle.std.specs.Prelude.{ℕ, ◌≡◌, List, ℤ}
+use Rattle.std.specs.Prelude.{ℕ, ◌≡◌, List, ℤ, Result}
 use Rattle.words.specs.Outcomes.{only_one, outcome, Same, same}
-use Rattle.listing.specs.declared.Paged.{Paged}
+use Rattle.listing.specs.declared.sheets.Page.{Page}
+use Rattle.words.specs.declared.Refusal.{Refusal}
 use Rattle.listing.specs.Page.{PageMemory, page_of}
 use Rattle.formula.specs.Limits.{limits}
 use Rattle.formula.specs.Formula.{first_group}
 
-abbrev pub PagePromise : List ℤ → PageMemory → ℕ → List ℤ → ℕ → Paged → PageMemory → Type 0
+abbrev pub PagePromise : List ℤ → PageMemory → ℕ → List ℤ → ℕ → Result Page Refusal → PageMemory → Type 0
 PagePromise b m start preferred budget r m' = outcome r m' ≡ page_of limits b m start preferred budget
 
 -- an inner door: the size of the first group
@@ -18,6 +19,6 @@ pub only_first_group : {r r' : ℕ} (p : List ℤ) → FirstGroupPromise p r →
 only_first_group p = only_one
 
 -- [only]
-pub only_page : {r r' : Paged} {m' m'' : PageMemory} (b : List ℤ) (m : PageMemory) (start : ℕ) (preferred : List ℤ) (budget : ℕ)
+pub only_page : {r r' : Result Page Refusal} {m' m'' : PageMemory} (b : List ℤ) (m : PageMemory) (start : ℕ) (preferred : List ℤ) (budget : ℕ)
     → PagePromise b m start preferred budget r m' → PagePromise b m start preferred budget r' m'' → Same r r' m' m''
 only_page b m start preferred budget = same

@@ -9,17 +9,8 @@ mod openings; // an opening: its values and its search
 mod sheets; // the openings of a page, one after the other
 
 pub use openings::first_group;
-
-// What a page answers: where the next one begins, the entries written, and whether a search didn't end within the budget.
-#[derive(Clone, Copy)]
-pub enum Paged {
-    Page {
-        next: u32,
-        entries: u32,
-        paused: bool,
-    },
-    Refused(u32),
-}
+pub use sheets::Page;
+use words::Refusal;
 
 // The winning openings from `start` on, as far as the output's room and the budget for each search go.
 pub fn page(
@@ -30,15 +21,12 @@ pub fn page(
     preferred: &[i32],
     budget: u32,
     output: &mut [u32],
-) -> Paged
+) -> Result<Page, Refusal>
     ensures { PagePromise block.now (page_memory lits.old kinds.old output.old) start preferred.now budget result (page_memory lits.new kinds.new output.new) }
 {
-    let refused = guard::page_refusal(block, lits, kinds, start, output);
-    if refused != 0 {
-        return Paged::Refused(refused);
-    }
+    guard::page_refusal(block, lits, kinds, start, output)?;
     let k = openings::first_group(formula::prefix(block));
-    let answer = sheets::fill(block, lits, kinds, k, start, preferred, budget, output);
+    let page = sheets::fill(block, lits, kinds, k, start, preferred, budget, output);
     record::clear(lits, kinds, words::size_at(block, 0));
-    answer
+    Ok(page)
 }

@@ -1,10 +1,12 @@
 -- What each public function promises of everything at entry, r being its answer and ws' the reasons that it leaves; and [only] that the promise fits
 -- one answer and one content of each lent buffer. A promise is an equation with a definition.
-use Rattle.std.specs.Prelude.{◌≡◌, Bool, List, ℕ, ℤ}
+use Rattle.std.specs.Prelude.{◌≡◌, Bool, List, ℕ, ℤ, Result}
 use Rattle.std.proofs.Common.{ap}
 use Rattle.words.specs.Outcomes.{only_one, Same}
+use Rattle.words.specs.declared.Refusal.{Refusal}
 use Rattle.formula.specs.Limits.{limits}
 use Rattle.formula.specs.Formula.{clause_count_of}
+use Rattle.formula.specs.Check.{checked_of}
 use Rattle.record.specs.declared.rule.State.{State}
 use Rattle.record.specs.declared.rule.Rule.{Rule}
 use Rattle.record.specs.Trail.{Trail, wiped}
@@ -33,8 +35,8 @@ RecordPlacesPromise t r = r ≡ record_places t
 abbrev pub PlacesPromise : Memory → ℕ → Type 0
 PlacesPromise m r = r ≡ places m
 
-abbrev pub OpenRefusalPromise : List ℤ → ℕ → ℕ → Type 0
-OpenRefusalPromise b n r = r ≡ open_refusal limits b n
+abbrev pub OpenRefusalPromise : List ℤ → ℕ → Result (Unit {0}) Refusal → Type 0
+OpenRefusalPromise b n r = r ≡ checked_of (open_refusal limits b n)
 
 abbrev pub BadReasonsPromise : List ℤ → List ℕ → List ℕ → ℕ → Bool → Type 0
 BadReasonsPromise b ks ws n r = r ≡ bad_reasons (clause_count_of b) ks ws n
@@ -45,7 +47,7 @@ only_record_places t = only_one
 pub only_places : {r r' : ℕ} (m : Memory) → PlacesPromise m r → PlacesPromise m r' → r ≡ r'
 only_places m = only_one
 
-pub only_open_refusal : {r r' : ℕ} (b : List ℤ) (n : ℕ) → OpenRefusalPromise b n r → OpenRefusalPromise b n r' → r ≡ r'
+pub only_open_refusal : {r r' : Result (Unit {0}) Refusal} (b : List ℤ) (n : ℕ) → OpenRefusalPromise b n r → OpenRefusalPromise b n r' → r ≡ r'
 only_open_refusal b n = only_one
 
 pub only_bad_reasons : {r r' : Bool} (b : List ℤ) (ks ws : List ℕ) (n : ℕ) → BadReasonsPromise b ks ws n r → BadReasonsPromise b ks ws n r' → r ≡ r'

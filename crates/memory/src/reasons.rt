@@ -10,43 +10,26 @@ use record::Rule;
 fn bad_reason(clauses: usize, kind: u8, reason: u32) -> bool
     ensures { result ≡ bad_reason clauses kind reason }
 {
-    if reason == 0 {
-        return false;
-    }
-    if kind != 0 {
-        return true;
-    }
-    clauses < reason as usize
+    clauses < reason as usize || (kind != 0 && reason != 0)
 }
 
-// Row 12: whether a reason of the record is wrong. The newest entry is looked at first.
+// Row 12: whether a reason of the record is wrong.
 pub fn bad_reasons(block: &[i32], kinds: &[u8], reasons: &[u32], count: usize) -> bool
     requires { Beside count kinds.now reasons.now }
     ensures { BadReasonsPromise block.now kinds.now reasons.now count result }
 {
     let clauses = words::size_at(block, 1);
-    let mut i = count;
-    while 0 < i {
-        i -= 1;
-        if bad_reason(clauses, kinds[i], reasons[i]) {
-            return true;
-        }
-    }
-    false
+    kinds[..count]
+        .iter()
+        .zip(&reasons[..count])
+        .any(|(kind, reason)| bad_reason(clauses, *kind, *reason))
 }
 
 // Sets the places from .. to to 0, as far as there are such places.
 pub fn wipe(reasons: &mut [u32], from: usize, to: usize)
     ensures { WipePromise reasons.old from to reasons.new }
 {
-    let mut i = from;
-    while i < to {
-        if reasons.len() <= i {
-            return;
-        }
-        reasons[i] = 0;
-        i += 1;
-    }
+    record::wipe_places(reasons, from, to, 0)
 }
 
 // A clause's number as a reason: clauses count from 0, and 0 says that there is none.
@@ -68,21 +51,16 @@ pub fn tell(reasons: &mut [u32], rule: Rule, count: usize) -> u32
             named(clause)
         }
         Rule::Fail { clause } => named(clause),
-        Rule::Unit { literal: _, clause } => {
-            let reason = named(clause);
-            reasons[count] = reason;
-            reason
+        Rule::Unit { clause, .. } => {
+            reasons[count] = named(clause);
+            reasons[count]
         }
-        Rule::Monotone { literal: _ } => {
+        Rule::Monotone { .. } | Rule::Decide { .. } => {
             reasons[count] = 0;
             0
         }
-        Rule::Decide { first: _ } => {
-            reasons[count] = 0;
-            0
-        }
-        Rule::BacktrackForall { at: place } => {
-            wipe(reasons, place, count);
+        Rule::BacktrackForall { at } => {
+            wipe(reasons, at, count);
             0
         }
         Rule::Succeed => 0,

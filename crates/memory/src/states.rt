@@ -17,11 +17,9 @@ pub fn number_of(state: State) -> u32
 pub fn state_of(number: u32) -> State
     ensures { StateOfPromise number result }
 {
-    if number == 0 {
-        return State::Open;
+    match number {
+        0 => State::Open,
+        1 => State::Valid,
+        _ => State::Unsat,
     }
-    if number == 1 {
-        return State::Valid;
-    }
-    State::Unsat
 }

@@ -9,7 +9,6 @@ ghost use Rattle.answers.specs.Answers.{session_of};
 ghost use Rattle.mokihazureo.specs.Called.{lent};
 ghost use Rattle.mokihazureo.specs.Promises.{CheckPromise, OpenPromise, StepPromise, RunPromise, CountedPromise, PagePromise, ShownPromise, PlainPromise, ReadPromise, BeginPromise, PiecePromise, EndPromise, WritePromise};
 
-use formula::Checked;
 use session::Revision;
 use words::Literal;
 
@@ -19,8 +18,8 @@ pub extern "C" fn moki_check(block: &[i32]) -> u32
     ensures { CheckPromise block.now result }
 {
     match formula::check(block) {
-        Checked::Accepted => 0,
-        Checked::Refused(number) => number,
+        Ok(()) => 0,
+        Err(refusal) => refusal.0,
     }
 }
 

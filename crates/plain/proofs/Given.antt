@@ -3,21 +3,16 @@ use Prim.Native.Nat.{ℕ, ◌+◌, ◌-◌, ◌≤◌, ◌<◌}
 use mathlib.Core.Path.{◌≡◌, refl, sym, ◌∙◌, ap}
 use mathlib.Core.Bool.{Bool, true, false, not, beq}
 use mathlib.Core.List.{List, ◌∷◌}
-use native.Mathlib.Nat.{lt_of_le_of_lt}
 use native.Mathlib.Omega.{arith}
-use lib.Dec.{lit<}
 use lib.IntN.{ℤ, pos, neg_ℤ}
 use lib.ListN.{length, get_or, set, length-set}
 use lib.Seq.{drop-set-lt, get_or-set_same, drop-drop}
-use mir.Syntax.{w64}
-use mir.Val.{Fits}
 use Rattle.words.specs.Lists.{all}
 use Rattle.words.specs.Words.{negative}
 use Rattle.words.specs.Laws.Bools.{clash}
 use Rattle.words.specs.Laws.Lists.{next, ended}
 use Rattle.formula.specs.Limits.{limits}
-use Rattle.formula.specs.Formula.{variables_of, prefix_of, ends_of, literals_of, formula_of}
-use Rattle.formula.specs.Block.{bad_ends}
+use Rattle.formula.specs.Formula.{variables_of, prefix_of, formula_of}
 use Rattle.formula.specs.Truth.{asked, truth}
 use Rattle.formula.specs.Laws.Accepted as block
 use Rattle.plain.specs.Solve.{most_variables, holds_from}
@@ -32,15 +27,9 @@ module _ (b : List ℤ) (i : ℕ) (r : Ready b i) where
   pub prefix_long : length (prefix_of b) ≡ variables_of b
   prefix_long = block.prefix_length a
 
-  pub ends_good : bad_ends (length (literals_of b)) 0 (ends_of b) ≡ false
-  ends_good = rw (block.literals_length a) a.ends
-
 -- one variable more
 pub one_more : (b : List ℤ) (i : ℕ) → Ready b i → i < variables_of b → Ready b (i + 1)
 one_more b i r h = record { block = r.block; few = r.few; most = omega arith }
-
-pub next_fits : (b : List ℤ) (i : ℕ) → Ready b i → i < variables_of b → Fits w64 (i + 1)
-next_fits b i r h = let f = r.few in let few : i + 1 ≤ most_variables = omega arith in record { fits = lt_of_le_of_lt few (lit< tt) }
 
 pub word_small : (b : List ℤ) (i : ℕ) → Ready b (i + 1) → Small (prefix_of b) i
 word_small b i r =

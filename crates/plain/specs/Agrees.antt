@@ -1,6 +1,6 @@
 -- [plain.session] The second opinion and the session: where both accept the block, any history that ends, whatever was called, ends in the state
 -- that the opinion tells. From the session's claim about every history.
-use Rattle.std.specs.Prelude.{suc, ◌^◌, ◌≤◌, ◌≡◌, Bool, List, ℤ}
+use Rattle.std.specs.Prelude.{suc, ◌^◌, ◌≤◌, ◌≡◌, Bool, List, ℤ, Result, Ok, Err}
 use Rattle.std.proofs.Math.Path.{refl}
 use Rattle.std.proofs.Common.{sym, ◌∙◌, arith, pow_mono}
 use Rattle.std.proofs.Math.Bool.{true, false}
@@ -14,19 +14,17 @@ use Rattle.record.specs.declared.rule.State.TheVariants as state
 use Rattle.memory.specs.Memory.{Memory}
 use Rattle.session.specs.declared.Revision.{Revision}
 use Rattle.session.specs.declared.Session.{Session}
-use Rattle.session.specs.declared.Answer.TheVariants.{To}
 use Rattle.session.specs.Outcome.{open_outcome}
 use Rattle.session.specs.Calls.{Desk, Call, play}
 use Rattle.session.specs.History.{verdict_of, fresh_desk, any_history, some_history_ends}
-use Rattle.plain.specs.declared.Opinion.{Opinion}
-use Rattle.plain.specs.declared.Opinion.TheVariants.{Valid, Unsat, Refused}
+use Rattle.words.specs.declared.Refusal.{Refusal}
 use Rattle.plain.specs.Solve.{most_variables, plain_rows, plain_refusal, opinion_of, solve_of}
 
 -- the state that an opinion tells; one that refuses tells none
-abbrev pub state_told : Opinion → State
-state_told Valid = state.Valid
-state_told Unsat = state.Unsat
-state_told (Refused n) = state.Open
+abbrev pub state_told : Result Bool Refusal → State
+state_told (Ok true) = state.Valid
+state_told (Ok false) = state.Unsat
+state_told (Err e) = state.Open
 
 module _ (L : Limits) (b : List ℤ) (passes : plain_refusal L b ≡ 0) where
   -- an accepted block has few variables, and is told its truth
@@ -42,7 +40,7 @@ module _ (L : Limits) (b : List ℤ) (passes : plain_refusal L b ≡ 0) where
       go true = refl
       go false = refl
 
-  module _ (m : Memory) (first : Revision) (s : Session) (opened : (open_outcome L b m first).answer ≡ To s) where
+  module _ (m : Memory) (first : Revision) (s : Session) (opened : (open_outcome L b m first).answer ≡ Ok s) where
     pub plain_agrees : (calls : List Call) → let d = play L b (fresh_desk L b m first s) calls in (d.latest.state ≡ state.Open → ⊥) → d.latest.state ≡ state_told (solve_of L b)
     plain_agrees calls ended = rw plain_told (go d.latest.state refl)
       where

@@ -1,12 +1,12 @@
 -- [plain] What the second opinion answers: the recursive truth of a block, or the number of the first row that applies.
-use Rattle.std.specs.Prelude.{ℕ, zero, suc, Bool, true, false, List, [], ◌∷◌, ◌++◌, ltb, ℤ, drop}
+use Rattle.std.specs.Prelude.{ℕ, zero, suc, Bool, List, [], ◌∷◌, ◌++◌, ltb, ℤ, drop, Result, Ok}
 use Rattle.words.specs.Rows.{Row, row, refusal_of}
+use Rattle.words.specs.Outcomes.{refused}
+use Rattle.words.specs.declared.Refusal.{Refusal}
 use Rattle.formula.specs.Limits.{Limits}
 use Rattle.formula.specs.Formula.{Formula, variables_of, formula_of}
 use Rattle.formula.specs.Truth.{truth, true?}
 use Rattle.formula.specs.Block.{rows}
-use Rattle.plain.specs.declared.Opinion.{Opinion}
-use Rattle.plain.specs.declared.Opinion.TheVariants.{Valid, Unsat, Refused}
 
 -- [row.22] the constant of the code is this
 abbrev pub most_variables : ℕ
@@ -26,12 +26,11 @@ unfoldable pub plain_refusal : Limits → List ℤ → ℕ
 plain_refusal L b = refusal_of (plain_rows L b)
 
 -- the answer, by the number of the row, 0 for none, and the truth
-unfoldable pub opinion_of : ℕ → Bool → Opinion
-opinion_of zero true = Valid
-opinion_of zero false = Unsat
-opinion_of (suc n) t = Refused (suc n)
+unfoldable pub opinion_of : ℕ → Bool → Result Bool Refusal
+opinion_of zero t = Ok t
+opinion_of (suc n) t = refused (suc n)
 
-unfoldable pub solve_of : Limits → List ℤ → Opinion
+unfoldable pub solve_of : Limits → List ℤ → Result Bool Refusal
 solve_of L b = opinion_of (plain_refusal L b) (true? (formula_of b))
 
 -- [plain.from] the truth from the variable at place i on, where σ holds the literals made true before it

@@ -1,34 +1,32 @@
 // A second opinion: the recursive truth itself, with no rule. It tries the outermost variable both ways and then goes on with the next.
 #![tactic(auto)]
 
+ghost use Rattle.std.specs.Prelude.{◌≡◌};
+ghost use Rattle.plain.specs.Solve.{too_many};
 ghost use Rattle.plain.specs.Promises.{SolvePromise};
 
 mod looked; // the clauses, when nothing is left
 mod tried; // variable by variable
 
-use formula::Checked;
+use words::Refusal;
 
 // [row.22] The most variables that it takes. specs/Solve has the same number.
 const MOST: usize = 24;
 
-#[derive(Clone, Copy)]
-pub enum Opinion {
-    Valid,
-    Unsat,
-    Refused(u32),
+// Whether a block has more.
+fn too_many(block: &[i32]) -> bool
+    ensures { result ≡ too_many block.now }
+{
+    MOST < words::size_at(block, 0)
 }
 
-pub fn solve(block: &[i32]) -> Opinion
+// Whether the block's formula is true.
+pub fn solve(block: &[i32]) -> Result<bool, Refusal>
     ensures { SolvePromise block.now result }
 {
-    match formula::check(block) {
-        Checked::Refused(number) => Opinion::Refused(number),
-        Checked::Accepted => if MOST < words::size_at(block, 0) {
-            Opinion::Refused(22)
-        } else if tried::holds(block) {
-            Opinion::Valid
-        } else {
-            Opinion::Unsat
-        },
+    formula::check(block)?;
+    if too_many(block) {
+        return Err(Refusal(22));
     }
+    Ok(tried::holds(block))
 }

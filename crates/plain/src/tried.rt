@@ -1,25 +1,21 @@
 // Variable by variable, from the outermost on. The values stand in the last places of a table, newest first: one value more is one word more
 // before them.
-ghost use Rattle.std.specs.Prelude.{◌≡◌, ◌∷◌, ◌+◌, pos, length, get_or};
+ghost use Rattle.std.specs.Prelude.{◌≡◌, ◌∷◌, ◌+◌, ◌≤◌, pos, nat_abs, length, get_or};
 ghost use Rattle.words.specs.Lists.{all};
 ghost use Rattle.formula.specs.Formula.{prefix_of, formula_of};
 ghost use Rattle.formula.specs.Truth.{true?};
 ghost use Rattle.plain.specs.Solve.{most_variables, holds_from};
 ghost use Rattle.plain.specs.Inner.Met.{met};
-ghost use Rattle.plain.specs.Inner.Tried.{so_far, Table, value_of, Small, Ready};
+ghost use Rattle.plain.specs.Inner.Tried.{so_far, Table, value_of, Ready};
 
-use crate::MOST;
+use crate::{MOST, looked};
 
-// The literal that makes the variable at place i its first value, which is its prefix word, or the second, the word's opposite.
-fn value_at(prefix: &[i32], i: usize, second: bool) -> i32
-    requires { Small prefix.now i }
-    ensures { result ≡ value_of second (get_or prefix.now i (pos 0)) }
+// The literal that makes a variable its first value, which is its prefix word, or the second, the word's opposite.
+fn value_of(word: i32, second: bool) -> i32
+    requires { nat_abs word ≤ 2147483647 }
+    ensures { result ≡ value_of second word }
 {
-    if second {
-        words::opposite(prefix[i])
-    } else {
-        prefix[i]
-    }
+    if second { words::opposite(word) } else { word }
 }
 
 // Gives it to the variable, before the values so far.
@@ -28,8 +24,7 @@ fn give(block: &[i32], values: &mut [i32; MOST], i: usize, second: bool)
     requires values_len { length values.old ≡ most_variables }
     ensures { Table (i + 1) (value_of second (get_or (prefix_of block.now) i (pos 0)) ∷ so_far i values.old) values.new }
 {
-    let word = value_at(formula::prefix(block), i, second);
-    values[MOST - 1 - i] = word;
+    values[MOST - 1 - i] = value_of(formula::prefix(block)[i], second);
 }
 
 // Whether each clause has a literal that is one of the values so far.
@@ -37,11 +32,10 @@ fn met_so_far(block: &[i32], values: &[i32; MOST], i: usize) -> bool
     requires { Ready block.now i }
     ensures { result ≡ all (met (so_far i values.now)) (formula_of block.now).clauses }
 {
-    let table = &values[..];
-    crate::looked::all_met(
+    looked::all_met(
         formula::ends(block),
         formula::literals(block),
-        words::drop(table, MOST - i),
+        &values[MOST - i..],
     )
 }
 

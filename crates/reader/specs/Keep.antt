@@ -26,66 +26,16 @@ stored large w = cond large (pos 0) w
 
 -- ---- one event
 unfoldable pub keep : Kept → List ℤ → Event → Outcome (List ℤ) Kept
-keep k o (announces n) = outcome (record {
-  variables = capped n;
-  count = k.count;
-  universal = k.universal;
-  bound = k.bound;
-  clauses = k.clauses;
-  literals = k.literals;
-  large = k.large || beyond (pos (capped n));
-  over = k.over;
-}) o
-keep k o (counts n) = outcome (record {
-  variables = k.variables;
-  count = capped n;
-  universal = k.universal;
-  bound = k.bound;
-  clauses = k.clauses;
-  literals = k.literals;
-  large = k.large || beyond (pos (capped n));
-  over = k.over;
-}) o
-keep k o (opens q) = outcome (record {
-  variables = k.variables;
-  count = k.count;
-  universal = is_forall q;
-  bound = k.bound;
-  clauses = k.clauses;
-  literals = k.literals;
-  large = k.large;
-  over = k.over;
-}) o
-keep k o (binds n) = outcome (record {
-  variables = k.variables;
-  count = k.count;
-  universal = k.universal;
+keep k o (announces n) = outcome (record k { variables = capped n; large = k.large || beyond (pos (capped n)) }) o
+keep k o (counts n) = outcome (record k { count = capped n; large = k.large || beyond (pos (capped n)) }) o
+keep k o (opens q) = outcome (record k { universal = is_forall q }) o
+keep k o (binds n) = outcome (record k {
   bound = capped (suc k.bound);
-  clauses = k.clauses;
-  literals = k.literals;
   large = k.large || beyond (pos (capped n));
   over = k.over || no_variable k.variables (pos (capped n));
 }) (set o (6 + k.bound) (stored (beyond (pos (capped n))) (signed k.universal (capped n))))
-keep k o (holds l) = outcome (record {
-  variables = k.variables;
-  count = k.count;
-  universal = k.universal;
-  bound = k.bound;
-  clauses = k.clauses;
-  literals = capped (suc k.literals);
-  large = k.large || beyond l;
-  over = k.over;
-}) (set o (6 + k.variables + k.count + k.literals) (stored (beyond l) l))
-keep k o ends = outcome (record {
-  variables = k.variables;
-  count = k.count;
-  universal = k.universal;
-  bound = k.bound;
-  clauses = capped (suc k.clauses);
-  literals = k.literals;
-  large = k.large;
-  over = k.over;
-}) (set o (6 + k.variables + k.clauses) (stored (beyond (pos k.literals)) (pos k.literals)))
+keep k o (holds l) = outcome (record k { literals = capped (suc k.literals); large = k.large || beyond l }) (set o (6 + k.variables + k.count + k.literals) (stored (beyond l) l))
+keep k o ends = outcome (record k { clauses = capped (suc k.clauses) }) (set o (6 + k.variables + k.clauses) (stored (beyond (pos k.literals)) (pos k.literals)))
 
 unfoldable pub keeps : Kept → List ℤ → List Event → Outcome (List ℤ) Kept
 keeps k o [] = outcome k o

@@ -4,7 +4,5 @@
 pub mod Keep
 -- one byte
 pub mod Byte
--- what the one public function promises, and that it leaves one answer
+-- what each public function promises, and that it leaves one answer
 pub mod Promises
--- what functions say to each other
-pub mod Inner

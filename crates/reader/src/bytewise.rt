@@ -1,8 +1,9 @@
 // One byte of a text.
+#![tactic(auto, unfolding(crate::specs::Byte::byte_of, grammar::specs::Machine::shift))]
+
 ghost use Rattle.reader.specs.Promises.{TakePromise};
 
 use crate::Reader;
-use crate::keep::keep;
 use crate::numbers::{next_number, next_place};
 use grammar::step;
 
@@ -10,20 +11,11 @@ use grammar::step;
 pub fn take(reader: Reader, b: u8, output: &mut [i32]) -> Reader
     ensures { TakePromise reader output.old b result output.new }
 {
-    let from = reader.state;
-    let number = reader.number;
-    let kept = reader.kept;
-    let at = reader.at;
-    let went = step(from, b);
-    let to = went.to;
-    let says = went.says;
-    let keeps = keep(kept, says, number, output);
-    let next = next_number(from, to, b, number);
-    let place = next_place(to, at);
+    let went = step(reader.state, b);
     Reader {
-        state: to,
-        number: next,
-        at: place,
-        kept: keeps,
+        state: went.to,
+        number: next_number(reader.state, went.to, b, reader.number),
+        at: next_place(went.to, reader.at),
+        kept: reader.kept.keep(went.says, reader.number, output),
     }
 }

@@ -1,51 +1,23 @@
 // What is kept of a text: what each event does to the counts and to the output.
-ghost use Rattle.std.specs.Prelude.{◌≡◌, true, false, [], pos, set};
+#![tactic(auto, using(std::proofs::lemmas::Bool::Decides::nat_tests), unfolding(crate::specs::Keep::keep, crate::specs::Keep::keeps))]
+
+ghost use Rattle.std.specs.Prelude.{◌≡◌, [], pos, set};
 ghost use Rattle.words.specs.Outcomes.{outcome};
 ghost use Rattle.formula.specs.Block.{no_variable};
 ghost use Rattle.grammar.specs.Machine.{announces, counts, binds, holds, ends, signed, numbered, events};
 ghost use Rattle.reader.specs.Keep.{keep as after, keeps};
-ghost use Rattle.reader.specs.Inner.Opened.{opened};
 
 use crate::Kept;
-use crate::numbers::{cap, either, is_beyond, stored_word};
+use crate::numbers::{capped, is_beyond, stored_word};
 use grammar::{Says, Slot};
 
-// A word at its place, if the output goes so far.
+// A word at its place, if the output goes so far. The writer has the same of bytes: one function for both would be a door between crates for two lines.
 fn put(output: &mut [i32], at: usize, word: i32)
     ensures { output.new ≡ set output.old at word }
 {
     if at < output.len() {
         output[at] = word;
     }
-}
-
-// The problem line's two numbers.
-fn announce(mut kept: Kept, n: u32) -> Kept
-    ensures { result ≡ (after kept [] (announces n)).answer }
-{
-    let v = cap(n as u64);
-    let large = kept.large;
-    kept.variables = v;
-    kept.large = either(large, is_beyond(false, v));
-    kept
-}
-
-fn count(mut kept: Kept, n: u32) -> Kept
-    ensures { result ≡ (after kept [] (counts n)).answer }
-{
-    let c = cap(n as u64);
-    let large = kept.large;
-    kept.count = c;
-    kept.large = either(large, is_beyond(false, c));
-    kept
-}
-
-// A quantifier.
-fn open(mut kept: Kept, universal: bool) -> Kept
-    ensures { result ≡ opened kept universal }
-{
-    kept.universal = universal;
-    kept
 }
 
 // Whether a number names none of v variables.
@@ -55,74 +27,105 @@ fn is_strange(v: u32, n: u32) -> bool
     n == 0 || v < n
 }
 
-// A bound number.
-fn bind(mut kept: Kept, n: u32, output: &mut [i32]) -> Kept
-    ensures { outcome result output.new ≡ after kept output.old (binds n) }
-{
-    let m = cap(n as u64);
-    let beyond = is_beyond(false, m);
-    let at = 6 + kept.bound as usize;
-    let universal = kept.universal;
-    put(output, at, stored_word(beyond, universal, m));
-    let large = kept.large;
-    let over = kept.over;
-    let variables = kept.variables;
-    let bound = kept.bound;
-    kept.bound = cap(bound as u64 + 1);
-    kept.large = either(large, beyond);
-    kept.over = either(over, is_strange(variables, m));
-    kept
-}
-
-// A literal.
-fn hold(mut kept: Kept, negative: bool, n: u32, output: &mut [i32]) -> Kept
-    ensures { outcome result output.new ≡ after kept output.old (holds (signed negative n)) }
-{
-    let beyond = is_beyond(negative, n);
-    let literals = kept.literals;
-    let at = 6 + kept.variables as usize + kept.count as usize + literals as usize;
-    put(output, at, stored_word(beyond, negative, n));
-    let large = kept.large;
-    kept.literals = cap(literals as u64 + 1);
-    kept.large = either(large, beyond);
-    kept
-}
-
-// A clause's end.
-fn close(mut kept: Kept, output: &mut [i32]) -> Kept
-    ensures { outcome result output.new ≡ after kept output.old ends }
-{
-    let literals = kept.literals;
-    let clauses = kept.clauses;
-    let beyond = is_beyond(false, literals);
-    let at = 6 + kept.variables as usize + clauses as usize;
-    put(output, at, stored_word(beyond, false, literals));
-    kept.clauses = cap(clauses as u64 + 1);
-    kept
-}
-
-// A number of the text.
-fn number(kept: Kept, slot: Slot, n: u32, output: &mut [i32]) -> Kept
-    ensures { outcome result output.new ≡ after kept output.old (numbered slot n) }
-{
-    match slot {
-        Slot::OfVariables => announce(kept, n),
-        Slot::OfCount => count(kept, n),
-        Slot::OfGroup => bind(kept, n, output),
-        Slot::OfClause(negative) => hold(kept, negative, n, output),
+impl Kept {
+    // The problem line's two numbers. They differ in the field that they fill, which no parameter can name.
+    fn announce(self, n: u32) -> Kept
+        ensures { result ≡ (after self [] (announces n)).answer }
+    {
+        let variables = capped(u64::from(n));
+        Kept {
+            variables,
+            large: self.large || is_beyond(false, variables),
+            ..self
+        }
     }
-}
 
-// What a byte says, n being the number before it.
-pub(crate) fn keep(kept: Kept, says: Says, n: u32, output: &mut [i32]) -> Kept
-    ensures { outcome result output.new ≡ keeps kept output.old (events says n) }
-{
-    match says {
-        Says::Nothing => kept,
-        Says::Zero(slot) => number(kept, slot, 0, output),
-        Says::Value(slot) => number(kept, slot, n, output),
-        Says::Forall => open(kept, true),
-        Says::Exists => open(kept, false),
-        Says::Ends => close(kept, output),
+    fn count(self, n: u32) -> Kept
+        ensures { result ≡ (after self [] (counts n)).answer }
+    {
+        let count = capped(u64::from(n));
+        Kept {
+            count,
+            large: self.large || is_beyond(false, count),
+            ..self
+        }
+    }
+
+    // A bound number.
+    fn bind(self, n: u32, output: &mut [i32]) -> Kept
+        ensures { outcome result output.new ≡ after self output.old (binds n) }
+    {
+        let number = capped(u64::from(n));
+        let beyond = is_beyond(false, number);
+        put(
+            output,
+            6 + self.bound as usize,
+            stored_word(beyond, self.universal, number),
+        );
+        Kept {
+            bound: capped(u64::from(self.bound) + 1),
+            large: self.large || beyond,
+            over: self.over || is_strange(self.variables, number),
+            ..self
+        }
+    }
+
+    // A literal.
+    fn hold(self, negative: bool, n: u32, output: &mut [i32]) -> Kept
+        ensures { outcome result output.new ≡ after self output.old (holds (signed negative n)) }
+    {
+        let beyond = is_beyond(negative, n);
+        let at = 6 + self.variables as usize + self.count as usize + self.literals as usize;
+        put(output, at, stored_word(beyond, negative, n));
+        Kept {
+            literals: capped(u64::from(self.literals) + 1),
+            large: self.large || beyond,
+            ..self
+        }
+    }
+
+    // A clause's end.
+    fn close(self, output: &mut [i32]) -> Kept
+        ensures { outcome result output.new ≡ after self output.old ends }
+    {
+        let beyond = is_beyond(false, self.literals);
+        let at = 6 + self.variables as usize + self.clauses as usize;
+        put(output, at, stored_word(beyond, false, self.literals));
+        Kept {
+            clauses: capped(u64::from(self.clauses) + 1),
+            ..self
+        }
+    }
+
+    // A number of the text.
+    fn number(self, slot: Slot, n: u32, output: &mut [i32]) -> Kept
+        ensures { outcome result output.new ≡ after self output.old (numbered slot n) }
+    {
+        match slot {
+            Slot::OfVariables => self.announce(n),
+            Slot::OfCount => self.count(n),
+            Slot::OfGroup => self.bind(n, output),
+            Slot::OfClause(negative) => self.hold(negative, n, output),
+        }
+    }
+
+    // What a byte says, n being the number before it.
+    pub(crate) fn keep(self, says: Says, n: u32, output: &mut [i32]) -> Kept
+        ensures { outcome result output.new ≡ keeps self output.old (events says n) }
+    {
+        match says {
+            Says::Nothing => self,
+            Says::Zero(slot) => self.number(slot, 0, output),
+            Says::Value(slot) => self.number(slot, n, output),
+            Says::Forall => Kept {
+                universal: true,
+                ..self
+            },
+            Says::Exists => Kept {
+                universal: false,
+                ..self
+            },
+            Says::Ends => self.close(output),
+        }
     }
 }

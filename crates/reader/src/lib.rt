@@ -8,9 +8,11 @@ mod keep; // what is kept of a text
 mod bytewise; // one byte
 
 pub use bytewise::take;
+// A state's numbers from outside are capped too.
+pub use numbers::capped;
 
-// What is kept of a text so far, beside the words that stand in the output. Counts go up to 2^31 + 1 and no further.
-#[derive(Clone, Copy)]
+// What is kept of a text so far, beside the words that stand in the output: at first nothing. Counts go up to 2^31 + 1 and no further.
+#[derive(Clone, Copy, Default)]
 pub struct Kept {
     // the announced counts
     pub variables: u32,

@@ -1,47 +1,36 @@
 // Numbers of any length in 32 bits, and the state's part in them.
-ghost use Rattle.std.specs.Prelude.{◌≡◌, ◌||◌, false, ◌-◌};
+#![tactic(auto, using(std::proofs::lemmas::Bool::Decides::nat_tests), unfolding(crate::specs::Keep::capped, crate::specs::Keep::beyond, crate::specs::Keep::stored))]
+
+ghost use Rattle.std.specs.Prelude.{◌≡◌, false, ◌-◌};
 ghost use Rattle.grammar.specs.Machine.{alive, if_inside, one_more, signed};
 ghost use Rattle.reader.specs.Keep.{beyond, capped, stored};
 ghost use Rattle.reader.specs.Byte.{counted};
+ghost use Rattle.reader.specs.Promises.{CappedPromise};
 
 use grammar::{State, is_alive, is_inside};
 
-// 2^31 + 1: numbers go up to it and no further. The largest word.
-const CAP: u32 = 2147483649;
+// 2^31 + 1: too large for a word, with a minus before it or not. Numbers go up to it and no further.
+const CAP: u64 = i32::MAX as u64 + 2;
 
-const LARGEST: u32 = 2147483647;
-
-// The least word.
-const LEAST: i32 = -2147483648;
-
-// 2^64 - 1.
-const LAST_PLACE: u64 = 18446744073709551615;
-
-pub(crate) fn cap(n: u64) -> u32
-    ensures { result ≡ capped n }
+pub fn capped(n: u64) -> u32
+    ensures { CappedPromise n result }
 {
-    if n < CAP as u64 { n as u32 } else { CAP }
-}
-
-// How far a byte is past the digit 0.
-fn digit_value(b: u8) -> u64
-    ensures { result ≡ b - 48 }
-{
-    if b < 48 { 0 } else { (b - 48) as u64 }
+    n.min(CAP) as u32
 }
 
 // The number after the byte b, on the way from one state to another.
 pub(crate) fn next_number(from: State, to: State, b: u8, n: u32) -> u32
     ensures { result ≡ capped (if_inside to (one_more from (b - 48) n)) }
 {
-    if is_inside(to) {
-        let d = digit_value(b);
-        if is_inside(from) {
-            return cap(n as u64 * 10 + d);
-        }
-        return cap(d);
+    if !is_inside(to) {
+        return 0;
     }
-    0
+    let digit = u64::from(b.saturating_sub(b'0'));
+    if is_inside(from) {
+        capped(u64::from(n) * 10 + digit)
+    } else {
+        capped(digit)
+    }
 }
 
 // The bytes taken: one more if the state after it is alive.
@@ -49,28 +38,22 @@ pub(crate) fn next_place(to: State, at: u64) -> u64
     ensures { result ≡ counted (alive to) at }
 {
     if is_alive(to) {
-        if at < LAST_PLACE {
-            return at + 1;
-        }
-        return at;
+        at.saturating_add(1)
+    } else {
+        at
     }
-    at
-}
-
-pub(crate) fn either(a: bool, b: bool) -> bool
-    ensures { result ≡ (a || b) }
-{
-    a || b
 }
 
 // Whether a number, with a minus before it or not, is beyond 32 signed bits.
 pub(crate) fn is_beyond(negative: bool, n: u32) -> bool
     ensures { result ≡ beyond (signed negative n) }
 {
-    if negative {
-        return LARGEST + 1 < n;
-    }
-    LARGEST < n
+    let largest = if negative {
+        i32::MIN.unsigned_abs()
+    } else {
+        i32::MAX as u32
+    };
+    largest < n
 }
 
 // The word that is stored.
@@ -79,13 +62,10 @@ pub(crate) fn stored_word(large: bool, negative: bool, n: u32) -> i32
     ensures { result ≡ stored large (signed negative n) }
 {
     if large {
-        return 0;
+        0
+    } else if negative {
+        (-i64::from(n)) as i32
+    } else {
+        n as i32
     }
-    if negative {
-        if n == LARGEST + 1 {
-            return LEAST;
-        }
-        return words::opposite(n as i32);
-    }
-    n as i32
 }

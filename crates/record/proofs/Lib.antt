@@ -2,7 +2,6 @@
 
 -- the table of values; the buffers, and row 12
 pub mod Values
-pub mod Places
 pub mod Row12
 -- what is proved about the definitions
 pub mod Laws

@@ -1,57 +1,31 @@
 // The record's two buffers: the last entry of a kind, and the places set to 0.
 ghost use Rattle.std.specs.Prelude.{◌≡◌, ◌≤◌, pos, length};
 ghost use Rattle.record.specs.Trail.{trail, wiped};
-ghost use Rattle.record.specs.Promises.{LastKindPromise, WipePromise, ClearPromise};
-
-use crate::found::Found;
+ghost use Rattle.record.specs.Promises.{LastKindPromise, WipePlacesPromise, WipePromise, ClearPromise};
 
 // The place of the last entry of a kind.
-pub fn last_kind(kinds: &[u8], count: usize, kind: u8) -> Found
+pub fn last_kind(kinds: &[u8], count: usize, kind: u8) -> Option<usize>
     requires { count ≤ length kinds.now }
     ensures { LastKindPromise kinds.now count kind result }
 {
-    let mut i = count;
-    while 0 < i {
-        i -= 1;
-        if kinds[i] == kind {
-            return Found::At(i);
-        }
-    }
-    Found::Nothing
+    kinds[..count].iter().rposition(|k| *k == kind)
 }
 
-// Sets the places from .. to to 0, as far as there are such places: the words, the kinds, and both.
-fn wipe_lits(lits: &mut [i32], from: usize, to: usize)
-    ensures { lits.new ≡ wiped (pos 0) lits.old from to }
+// Sets the places from .. to to `blank`, as far as there are such places.
+pub fn wipe_places<T: Copy>(places: &mut [T], from: usize, to: usize, blank: T)
+    ensures { WipePlacesPromise places.old from to blank places.new }
 {
-    let mut i = from;
-    while i < to {
-        if lits.len() <= i {
-            return;
-        }
-        lits[i] = 0;
-        i += 1;
+    for i in from..to.min(places.len()) {
+        places[i] = blank;
     }
 }
 
-fn wipe_kinds(kinds: &mut [u8], from: usize, to: usize)
-    ensures { kinds.new ≡ wiped 0 kinds.old from to }
-{
-    let mut i = from;
-    while i < to {
-        if kinds.len() <= i {
-            return;
-        }
-        kinds[i] = 0;
-        i += 1;
-    }
-}
-
+// The same of both buffers, with 0.
 pub fn wipe(lits: &mut [i32], kinds: &mut [u8], from: usize, to: usize)
     ensures { WipePromise (trail lits.old kinds.old) from to (trail lits.new kinds.new) }
 {
-    wipe_lits(lits, from, to);
-    wipe_kinds(kinds, from, to)
+    wipe_places(lits, from, to, 0);
+    wipe_places(kinds, from, to, 0)
 }
 
 // Sets the first n places of both buffers to 0.

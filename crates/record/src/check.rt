@@ -14,13 +14,12 @@ use crate::tables::values_of;
 fn wrong_kind(kind: u8, quantifier: u8) -> bool
     ensures { result ≡ wrong_kind kind quantifier }
 {
-    if kind == 1 {
-        return quantifier == 2;
+    match kind {
+        0 => false,
+        1 => quantifier == 2,
+        2 => quantifier != 2,
+        _ => true,
     }
-    if kind == 2 {
-        return quantifier != 2;
-    }
-    2 < kind
 }
 
 // Whether some entry has a wrong kind.
@@ -29,15 +28,10 @@ fn bad_kinds(prefix: &[i32], lits: &[i32], kinds: &[u8], count: usize) -> bool
     ensures { result ≡ any (bad_kind prefix.now) (record_of (trail lits.now kinds.now) count) }
 {
     let quantifiers = values_of(prefix, prefix.len());
-    let mut i = 0;
-    while i < count {
-        let v = words::size_at(lits, i);
-        if wrong_kind(kinds[i], quantifiers[v]) {
-            return true;
-        }
-        i += 1;
-    }
-    false
+    lits[..count].iter().zip(kinds).any(|(word, kind)| wrong_kind(
+        *kind,
+        quantifiers[words::size(*word)],
+    ))
 }
 
 // Whether the record is turned away.

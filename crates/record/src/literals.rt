@@ -9,20 +9,17 @@ use words::Literal;
 pub fn literal_at(ws: &[i32], i: usize) -> Literal
     ensures { LiteralAtPromise ws.now i result }
 {
-    if i < ws.len() {
-        let word = ws[i];
-        return Literal(word);
+    match ws.get(i) {
+        Some(word) => Literal(*word),
+        None => Literal(0),
     }
-    Literal(0)
 }
 
 pub fn opposite_at(ws: &[i32], i: usize) -> Literal
     requires { nat_abs (get_or ws.now i (pos 0)) ≤ limits.variables }
     ensures { OppositeAtPromise ws.now i result }
 {
-    let l = literal_at(ws, i);
-    let word = words::opposite(l.0);
-    Literal(word)
+    Literal(words::opposite(literal_at(ws, i).0))
 }
 
 pub fn true_at(ws: &[i32], i: usize) -> Literal

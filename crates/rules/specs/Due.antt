@@ -1,5 +1,7 @@
 -- The due rule: the searches of the five conditions, each with what follows if it finds nothing. To be read from the end.
-use Rattle.std.specs.Prelude.{ℕ, Bool, cond, List, [], ◌∷◌, ℤ, pos, neg_ℤ, get_or}
+use Rattle.clauses.specs.Found.{unit_clause}
+use Rattle.clauses.specs.declared.found.UnitClause.{UnitClause}
+use Rattle.std.specs.Prelude.{ℕ, Bool, cond, List, [], ◌∷◌, ℤ, pos, neg_ℤ, get_or, Option, Some, None}
 use Rattle.words.specs.declared.Literal.{Literal}
 use Rattle.formula.specs.Formula.{Formula}
 use Rattle.theory.specs.Record.{Record, Assignment, true_in}
@@ -7,17 +9,8 @@ use Rattle.theory.specs.Tests.{unassigned_existential, in_conflict, unit_on, mon
 use Rattle.record.specs.Found.{literal, on_found, last}
 use Rattle.record.specs.declared.rule.Rule.{Rule}
 use Rattle.record.specs.declared.rule.Rule.TheVariants.{BacktrackExists, Fail, Unit, Monotone, Decide, BacktrackForall, Succeed}
-use Rattle.choice.specs.First.{on_picked, first_of, first_unassigned}
-use Rattle.choice.specs.declared.found.Picked.{Picked}
-use Rattle.choice.specs.declared.found.Picked.TheVariants.{Is, NoLiteral}
-use Rattle.clauses.specs.declared.found.UnitFound.{UnitFound}
-use Rattle.clauses.specs.declared.found.UnitFound.TheVariants.{On, NoUnit}
+use Rattle.choice.specs.First.{first_of, first_unassigned}
 use Rattle.clauses.specs.Lowest.{lowest}
-
--- what follows a search
-abbrev pub on_unit : {A : Type 0} → UnitFound → (Literal → ℕ → A) → A → A
-on_unit (On l c) f b = f l c
-on_unit NoUnit f b = b
 
 -- the first unassigned existential literal of a clause, 0 if there is none
 unfoldable pub candidate : List ℤ → Assignment → List ℤ → ℤ
@@ -29,12 +22,12 @@ abbrev pub is_unit : List ℤ → Assignment → List ℤ → Bool
 is_unit p ρ C = unit_on p ρ C (candidate p ρ C)
 
 -- the lowest of these clauses, and its literal [unit]
-unfoldable pub lowest_unit : List ℤ → Assignment → List (List ℤ) → UnitFound
-lowest_unit p ρ m = on_found (lowest (is_unit p ρ) 0 m) (λ c. On (literal (candidate p ρ (get_or m c []))) c) NoUnit
+unfoldable pub lowest_unit : List ℤ → Assignment → List (List ℤ) → Option UnitClause
+lowest_unit p ρ m = on_found (lowest (is_unit p ρ) 0 m) (λ c. Some (unit_clause (literal (candidate p ρ (get_or m c []))) c)) None
 
 -- the first variable in prefix order that is monotone in the clauses m: the literal that it takes [monotone]
-unfoldable pub first_monotone : List ℤ → List (List ℤ) → Assignment → Picked
-first_monotone p m ρ = first_of (λ q. cond (monotone p m ρ q) (Is (literal q)) (cond (monotone p m ρ (neg_ℤ q)) (Is (literal (neg_ℤ q))) NoLiteral)) p
+unfoldable pub first_monotone : List ℤ → List (List ℤ) → Assignment → Option Literal
+first_monotone p m ρ = first_of (λ q. cond (monotone p m ρ q) (Some (literal q)) (cond (monotone p m ρ (neg_ℤ q)) (Some (literal (neg_ℤ q))) None)) p
 
 -- 5: with no unassigned variable, by the last entry of kind 2 [backtrack-forall] [succeed]
 abbrev pub due_assigned : Record → Rule
@@ -42,15 +35,15 @@ due_assigned r = on_found (last 2 0 r) (λ i. BacktrackForall i) Succeed
 
 -- 4: Decide, where a variable is unassigned [decide]
 abbrev pub due_decide : List ℤ → Record → Rule
-due_decide p r = on_picked (first_unassigned (true_in r) p) (λ l. Decide l) (due_assigned r)
+due_decide p r = on_found (first_unassigned (true_in r) p) (λ l. Decide l) (due_assigned r)
 
 -- 3: Monotone, in which only the clauses with no true literal count [monotone]
 abbrev pub due_monotone : Formula → Record → Rule
-due_monotone F r = on_picked (first_monotone F.prefix (untrue_of (true_in r) F.clauses) (true_in r)) (λ l. Monotone l) (due_decide F.prefix r)
+due_monotone F r = on_found (first_monotone F.prefix (untrue_of (true_in r) F.clauses) (true_in r)) (λ l. Monotone l) (due_decide F.prefix r)
 
 -- 2: Unit [unit]
 abbrev pub due_unit : Formula → Record → Rule
-due_unit F r = on_unit (lowest_unit F.prefix (true_in r) F.clauses) (λ l c. Unit l c) (due_monotone F r)
+due_unit F r = on_found (lowest_unit F.prefix (true_in r) F.clauses) (λ u. Unit u.literal u.clause) (due_monotone F r)
 
 -- 1: with clause c in conflict, by the last entry of kind 1 [backtrack-exists] [fail]
 abbrev pub due_conflict : Record → ℕ → Rule

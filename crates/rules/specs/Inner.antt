@@ -3,7 +3,6 @@
 -- the searches by the tables, and which tables are lent
 pub mod Occurrences
 pub mod Variables
-pub mod Lent
 -- what the tables say of the record
 pub mod Tabled
 -- what they mean of a clause

@@ -8,22 +8,15 @@ ghost use Rattle.tables.specs.Inner.ByLiteral.{status_in};
 ghost use Rattle.rules.specs.Inner.Occurrences.{true_by, Occurring, Marked, Counted};
 ghost use Rattle.clauses.specs.Inner.Clauses.{Placed, Clauses};
 
-use clauses::status_at;
-use formula::{LITERAL_PLACES, place_at};
+use clauses::status;
+use formula::{LITERAL_PLACES, place};
 
 // Whether a clause has a true literal.
 fn has_true(clause: &[i32], statuses: &[u8; LITERAL_PLACES]) -> bool
     requires { Placed clause.now }
     ensures { result ≡ any (true_by (status_in statuses.now)) clause.now }
 {
-    let mut at = 0;
-    while at < clause.len() {
-        if status_at(clause, at, statuses) == 1 {
-            return true;
-        }
-        at += 1;
-    }
-    false
+    clause.iter().any(|word| status(*word, statuses) == 1)
 }
 
 // Marks the literals of a clause.
@@ -32,11 +25,8 @@ fn mark(clause: &[i32], occurs: &mut [u8; LITERAL_PLACES])
     requires occurs_len { length occurs.old ≡ literal_places }
     ensures { Marked clause.now occurs.old occurs.new }
 {
-    let mut i = 0;
-    while i < clause.len() {
-        let at = place_at(clause, i);
-        occurs[at] = 1;
-        i += 1;
+    for word in clause {
+        occurs[place(*word)] = 1;
     }
 }
 
@@ -46,10 +36,9 @@ fn count(clause: &[i32], statuses: &[u8; LITERAL_PLACES], occurs: &mut [u8; LITE
     requires occurs_len { length occurs.old ≡ literal_places }
     ensures { Counted (true_by (status_in statuses.now)) clause.now occurs.old occurs.new }
 {
-    if has_true(clause, statuses) {
-        return;
+    if !has_true(clause, statuses) {
+        mark(clause, occurs);
     }
-    mark(clause, occurs);
 }
 
 // 1 for each literal that occurs in a clause with no true literal, else 0.
@@ -62,13 +51,8 @@ pub(crate) fn occurring(
     ensures { Occurring (untrue_of (true_by (status_in statuses.now)) (clauses_from literals.now 0 ends.now)) result }
 {
     let mut occurs = [0u8; LITERAL_PLACES];
-    let mut from = 0;
-    let mut c = 0;
-    while c < ends.len() {
-        let end = words::size_at(ends, c);
-        count(&literals[from..end], statuses, &mut occurs);
-        from = end;
-        c += 1;
+    for clause in formula::Clauses::of(ends, literals) {
+        count(clause, statuses, &mut occurs);
     }
     occurs
 }

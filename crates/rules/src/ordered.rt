@@ -5,7 +5,7 @@ ghost use Rattle.formula.specs.Formula.{prefix_of, clauses_from, formula_of};
 ghost use Rattle.formula.specs.Block.{refusal};
 ghost use Rattle.theory.specs.Record.{Record, Assignment, true_in};
 ghost use Rattle.theory.specs.Tests.{untrue_of};
-ghost use Rattle.choice.specs.First.{on_picked};
+ghost use Rattle.record.specs.Found.{on_found};
 ghost use Rattle.rules.specs.Due.{first_monotone, due_monotone, due};
 ghost use Rattle.record.specs.declared.rule.Rule.TheVariants.{Monotone, Decide};
 ghost use Rattle.record.specs.Trail.{trail};
@@ -13,32 +13,27 @@ ghost use Rattle.rules.specs.Promises.{DuePromise, DueConflictPromise};
 ghost use Rattle.record.specs.Inner.Tables.{Values};
 ghost use Rattle.tables.specs.Inner.Levels.{Levels};
 ghost use Rattle.record.specs.Inner.Ready.{formula, Ready, OnBlock};
-ghost use Rattle.rules.specs.Inner.Lent.{LentTables};
 ghost use Rattle.rules.specs.Inner.Tabled.{Sorts, Tabled};
 
 use crate::by_literal::LITERAL_PLACES;
 use crate::{by_literal, occurrences, variables};
-use choice::Picked;
-use clauses::{Deciding, UnitFound};
-use record::{Found, PLACES, Rule};
+use clauses::{Deciding, UnitClause};
+use record::{PLACES, Rule};
+use tables::Tables;
 use words::Literal;
 
-// The due rule of a record. The two tables are lent, so that a step costs what the block has and not what a table has room for; the second
-// is blank, and is left so.
-pub fn due(
-    block: &[i32],
-    lits: &[i32],
-    kinds: &[u8],
-    count: usize,
-    levels: &[u16; PLACES],
-    statuses: &mut [u8; LITERAL_PLACES],
-) -> Rule
-    requires on_block { OnBlock limits block.now (trail lits.now kinds.now) count }
-    requires lent_tables { LentTables block.now levels.now statuses.old }
-    ensures { DuePromise block.now (trail lits.now kinds.now) count statuses.old result statuses.new }
+// The due rule of a record. The tables are lent, so that a step costs what the block has and not what a table has room for, and are left as they were.
+pub fn due(tables: &mut Tables, lits: &[i32], kinds: &[u8], count: usize) -> Rule
+    requires { OnBlock limits tables.old.block.now (trail lits.now kinds.now) count }
+    ensures rule { DuePromise tables.old.block.now (trail lits.now kinds.now) count tables.old.statuses result tables.new.statuses }
+    ensures block { tables.new.block.now ≡ tables.old.block.now }
+    ensures levels { tables.new.levels ≡ tables.old.levels }
 {
+    let block = tables.block;
     let prefix = formula::prefix(block);
     let values = record::values_of(lits, count);
+    let levels = &tables.levels;
+    let statuses = &mut tables.statuses;
     tables::fill(prefix, &values, statuses);
     let rule = due_by(block, kinds, count, &values, statuses, levels);
     by_literal::wipe(prefix.len(), statuses);
@@ -64,13 +59,8 @@ fn due_by(
     let literals = formula::literals(block);
     match clauses::deciding(ends, literals, statuses, levels) {
         Deciding::Conflict(clause) => due_conflict(kinds, count, clause),
-        Deciding::Quiet(unit) => match unit {
-            UnitFound::On { literal, clause } => Rule::Unit {
-                literal: literal,
-                clause: clause,
-            },
-            UnitFound::NoUnit => due_free(prefix, ends, literals, kinds, count, values, statuses),
-        },
+        Deciding::Quiet(Some(UnitClause { literal, clause })) => Rule::Unit { literal, clause },
+        Deciding::Quiet(None) => due_free(prefix, ends, literals, kinds, count, values, statuses),
     }
 }
 
@@ -80,11 +70,8 @@ pub fn due_conflict(kinds: &[u8], count: usize, clause: usize) -> Rule
     ensures { DueConflictPromise kinds.now count clause result }
 {
     match record::last_kind(kinds, count, 1) {
-        Found::At(at) => Rule::BacktrackExists {
-            at: at,
-            clause: clause,
-        },
-        Found::Nothing => Rule::Fail { clause: clause },
+        Some(at) => Rule::BacktrackExists { at, clause },
+        None => Rule::Fail { clause },
     }
 }
 
@@ -103,10 +90,10 @@ fn due_free(
     ensures { (R : Record) → Tabled R values.now kinds.now count → Sorts prefix.now (true_in R) statuses.now → result ≡ due_monotone (formula prefix.now ends.now literals.now) R }
 {
     match choice::first_unassigned(prefix, values) {
-        Picked::Is(first) => due_chosen(prefix, ends, literals, values, statuses, first),
-        Picked::NoLiteral => match record::last_kind(kinds, count, 2) {
-            Found::At(at) => Rule::BacktrackForall { at: at },
-            Found::Nothing => Rule::Succeed,
+        Some(first) => due_chosen(prefix, ends, literals, values, statuses, first),
+        None => match record::last_kind(kinds, count, 2) {
+            Some(at) => Rule::BacktrackForall { at },
+            None => Rule::Succeed,
         },
     }
 }
@@ -121,11 +108,11 @@ fn due_chosen(
     first: Literal,
 ) -> Rule
     requires { Ready prefix.now ends.now literals.now }
-    ensures { (ρ : Assignment) → Values ρ values.now → Sorts prefix.now ρ statuses.now → result ≡ on_picked (first_monotone prefix.now (untrue_of ρ (clauses_from literals.now 0 ends.now)) ρ) (λ l. Monotone l) (Decide first) }
+    ensures { (ρ : Assignment) → Values ρ values.now → Sorts prefix.now ρ statuses.now → result ≡ on_found (first_monotone prefix.now (untrue_of ρ (clauses_from literals.now 0 ends.now)) ρ) (λ l. Monotone l) (Decide first) }
 {
     let occurs = occurrences::occurring(ends, literals, statuses);
     match variables::first_monotone(prefix, values, &occurs) {
-        Picked::Is(literal) => Rule::Monotone { literal: literal },
-        Picked::NoLiteral => Rule::Decide { first: first },
+        Some(literal) => Rule::Monotone { literal },
+        None => Rule::Decide { first },
     }
 }

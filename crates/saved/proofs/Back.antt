@@ -1,6 +1,6 @@
 -- What goes out comes back in: the reader of a reader's numbers is that reader.
 use Rattle.std.specs.Prelude.{◌≡◌, refl, Bool, true, false, List, [], ◌∷◌, ℕ, ◌≤◌, ℤ, length}
-use Rattle.std.proofs.Common.{◌∙◌, ap, arith}
+use Rattle.std.proofs.Common.{◌∙◌, ap}
 use Rattle.std.proofs.lemmas.List.Edits.{sets-eq}
 use mir.Val.{bool_byte}
 use Rattle.grammar.specs.declared.Place.{Place}
@@ -14,6 +14,7 @@ use Rattle.reader.specs.declared.Reader.{Reader}
 use Rattle.grammar.specs.Machine.{Event, announces, counts, opens, binds, holds, ends, move, events}
 use Rattle.reader.specs.Keep.{capped, keep, keeps}
 use Rattle.reader.specs.Byte.{byte_of}
+use Rattle.reader.proofs.Laws.Capped.{cap_cap}
 use Rattle.text.specs.Pieces.{piece_of, begun}
 use Rattle.saved.specs.Numbers.{bit_of, bit_number, place_of, place_number, slot_of, slot_number, state_of, kind_number, held_number, kept_of, reader_numbers, reader_of, written}
 use Rattle.saved.specs.Within.{KeptWithin, Within}
@@ -71,18 +72,14 @@ comes_back r s w h =
     (state_back r.state, w.number, k.variables, k.count, k.bound, k.clauses, k.literals, bit_back r.kept.universal, bit_back r.kept.large, bit_back r.kept.over)
 
 -- ---- all that the calls give are within it
-twice : (n : ℕ) → capped (capped n) ≡ capped n
-unfolding capped
-twice n = omega arith
-
 keep_within : (k : Kept) (o : List ℤ) (e : Event) → KeptWithin k → KeptWithin (keep k o e).answer
 unfolding keep
-keep_within k o (announces n) w = record { variables = twice n; count = w.count; bound = w.bound; clauses = w.clauses; literals = w.literals }
-keep_within k o (counts n) w = record { variables = w.variables; count = twice n; bound = w.bound; clauses = w.clauses; literals = w.literals }
+keep_within k o (announces n) w = record { variables = cap_cap n; count = w.count; bound = w.bound; clauses = w.clauses; literals = w.literals }
+keep_within k o (counts n) w = record { variables = w.variables; count = cap_cap n; bound = w.bound; clauses = w.clauses; literals = w.literals }
 keep_within k o (opens q) w = record { variables = w.variables; count = w.count; bound = w.bound; clauses = w.clauses; literals = w.literals }
-keep_within k o (binds n) w = record { variables = w.variables; count = w.count; bound = twice _; clauses = w.clauses; literals = w.literals }
-keep_within k o (holds l) w = record { variables = w.variables; count = w.count; bound = w.bound; clauses = w.clauses; literals = twice _ }
-keep_within k o ends w = record { variables = w.variables; count = w.count; bound = w.bound; clauses = twice _; literals = w.literals }
+keep_within k o (binds n) w = record { variables = w.variables; count = w.count; bound = cap_cap _; clauses = w.clauses; literals = w.literals }
+keep_within k o (holds l) w = record { variables = w.variables; count = w.count; bound = w.bound; clauses = w.clauses; literals = cap_cap _ }
+keep_within k o ends w = record { variables = w.variables; count = w.count; bound = w.bound; clauses = cap_cap _; literals = w.literals }
 
 keeps_within : (k : Kept) (o : List ℤ) (es : List Event) → KeptWithin k → KeptWithin (keeps k o es).answer
 unfolding keeps
@@ -91,7 +88,7 @@ keeps_within k o (e ∷ es) w = keeps_within (keep k o e).answer (keep k o e).me
 
 byte_within : (r : Reader) (o : List ℤ) (b : ℕ) → Within r → Within (byte_of r o b).answer
 unfolding byte_of
-byte_within r o b w = record { number = twice _; kept = keeps_within r.kept o (events (move r.state b).says r.number) w.kept }
+byte_within r o b w = record { number = cap_cap _; kept = keeps_within r.kept o (events (move r.state b).says r.number) w.kept }
 
 pub piece_within : (bs : List ℕ) (r : Reader) (o : List ℤ) → Within r → Within (piece_of bs r o).answer
 unfolding piece_of
@@ -100,7 +97,7 @@ piece_within (b ∷ bs) r o w = piece_within bs (byte_of r o b).answer (byte_of 
 
 pub reader_within : (s : List ℕ) → Within (reader_of s)
 unfolding reader_of kept_of
-reader_within s = record { number = twice _; kept = record { variables = twice _; count = twice _; bound = twice _; clauses = twice _; literals = twice _ } }
+reader_within s = record { number = cap_cap _; kept = record { variables = cap_cap _; count = cap_cap _; bound = cap_cap _; clauses = cap_cap _; literals = cap_cap _ } }
 
 pub begun_within : Within begun
 unfolding begun capped

@@ -1,14 +1,13 @@
 -- [demand.2.history] A desk after a list of calls, each on that block and that record and with the latest session.
-use Rattle.std.specs.Prelude.{ℕ, ◌+◌, List, [], ◌∷◌, ℤ}
+use Rattle.words.specs.declared.Refusal.{Refusal}
+use Rattle.std.specs.Prelude.{ℕ, ◌+◌, List, [], ◌∷◌, ℤ, Result, Ok, Err}
 use Rattle.words.specs.Outcomes.{Outcome}
 use Rattle.words.specs.declared.Literal.{Literal}
 use Rattle.formula.specs.Limits.{Limits}
 use Rattle.session.specs.declared.Revision.{Revision}
 use Rattle.session.specs.declared.Session.{Session}
 use Rattle.session.specs.declared.Stepped.{Stepped}
-use Rattle.session.specs.declared.Stepped.TheVariants.{Next, Not}
 use Rattle.session.specs.declared.Ran.{Ran}
-use Rattle.session.specs.declared.Ran.TheVariants.{Until, Stopped}
 use Rattle.memory.specs.Memory.{Memory}
 use Rattle.search.specs.Run.{last_reason}
 use Rattle.session.specs.Outcome.{step_outcome}
@@ -29,19 +28,19 @@ pub data Call : Type 0 where
   run : Revision → ℕ → List ℤ → Call
 
 -- an answer's session, accepted steps and reason; a refused call leaves them
-abbrev pub after_step : Desk → Stepped → Memory → Desk
-after_step d (Next s w) m = desk s m (d.steps + 1) w
-after_step d (Not n) m = desk d.latest m d.steps d.reason
+abbrev pub after_step : Desk → Result Stepped Refusal → Memory → Desk
+after_step d (Ok r) m = desk r.session m (d.steps + 1) r.reason
+after_step d (Err e) m = desk d.latest m d.steps d.reason
 
-abbrev pub after_run : Desk → Ran → Memory → Desk
-after_run d (Until s n w) m = desk s m (d.steps + n) (last_reason n d.reason w)
-after_run d (Stopped n) m = desk d.latest m d.steps d.reason
+abbrev pub after_run : Desk → Result Ran Refusal → Memory → Desk
+after_run d (Ok r) m = desk r.session m (d.steps + r.steps) (last_reason r.steps d.reason r.reason)
+after_run d (Err e) m = desk d.latest m d.steps d.reason
 
 -- the calls on a desk
-abbrev pub step_at : Limits → List ℤ → Desk → Revision → Literal → Outcome Memory Stepped
+abbrev pub step_at : Limits → List ℤ → Desk → Revision → Literal → Outcome Memory (Result Stepped Refusal)
 step_at L b d = step_outcome L d.latest b d.memory
 
-abbrev pub run_at : Limits → List ℤ → Desk → Revision → ℕ → List ℤ → Outcome Memory Ran
+abbrev pub run_at : Limits → List ℤ → Desk → Revision → ℕ → List ℤ → Outcome Memory (Result Ran Refusal)
 run_at L b d = run_of L d.latest b d.memory
 
 unfoldable pub call : Limits → List ℤ → Desk → Call → Desk

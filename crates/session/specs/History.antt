@@ -1,13 +1,15 @@
 -- [demand.2] Any history of calls from an accepted opening on. On every desk that they lead to, the accepted steps are a path of the theory's rules
 -- from the empty record to the search that stands there; what [order] says of every such path is said of the desk.
+use Rattle.session.specs.Run.{run_to}
+use Rattle.words.specs.declared.Refusal.{Refusal}
 use Prim.Native.Nat.{ℕ, zero, suc, ◌+◌, ◌-◌, ◌^◌, ◌≤◌, ◌<◌}
-use Rattle.std.specs.Prelude.{◌≡◌, Bool, ℤ, pos, get_or}
+use Rattle.std.specs.Prelude.{◌≡◌, Bool, ℤ, pos, get_or, Ok, Err, Result}
 use Rattle.std.proofs.Math.Path.{refl, ap}
 use Rattle.std.proofs.Common.{inl}
 use Rattle.std.proofs.Math.Bool.{true, false}
 use mathlib.Core.List.{List, [], ◌∷◌}
 use native.Mathlib.Omega.{arith}
-use Rattle.words.specs.Outcomes.{Outcome}
+use Rattle.words.specs.Outcomes.{Outcome, unless_ok, by_row}
 use Rattle.words.specs.declared.Literal.{Literal}
 use Rattle.formula.specs.Limits.{Limits}
 use Rattle.formula.specs.Formula.{formula_of, variables_of, prefix_of}
@@ -27,22 +29,19 @@ use Rattle.record.specs.Inner.Ready.{KeptIn, OnBlock}
 use Rattle.record.proofs.Laws.Accepted.{prefix_length, accepted_binds}
 use Rattle.session.specs.declared.Revision.{Revision}
 use Rattle.session.specs.declared.Session.{Session}
-use Rattle.session.specs.declared.Answer.TheVariants.{To}
 use Rattle.session.specs.declared.Stepped.{Stepped}
-use Rattle.session.specs.declared.Stepped.TheVariants.{Next, Not}
 use Rattle.session.specs.declared.Ran.{Ran}
-use Rattle.session.specs.declared.Ran.TheVariants.{Until, Stopped}
 use Rattle.memory.specs.Memory.{Memory, places}
 use Rattle.session.specs.Forced.{Forced, Explained}
 use Rattle.memory.specs.Reasons.{bad_reasons}
 use Rattle.memory.specs.Refusals.{open_refusal}
 use Rattle.session.specs.Refusals.{last_revision}
-use Rattle.session.specs.Outcome.{session, open_outcome}
+use Rattle.session.specs.Outcome.{session, open_outcome, step_to}
 use Rattle.session.specs.Calls.{Desk, desk, Call, step, run, after_step, step_at, run_at, call, play}
 use Rattle.memory.proofs.Laws.Opened.{opened, buffers_room, reasons_room}
 use Rattle.session.specs.Laws.Accepted.{Sound, Guarded, step_last, run_last, step_passes}
 use Rattle.session.specs.Laws.Each.{Each}
-use Rattle.session.specs.Refused.{unless_to, step_refused, run_refused, step_refused_leaves}
+use Rattle.session.specs.Refused.{step_refused, run_refused, step_refused_leaves}
 use Rattle.session.specs.Stepped.{accepted_is, accepted_step}
 use Rattle.session.specs.RunSteps.{search_at, handed, by_hand, hand_used, run_is_steps, run_pauses}
 
@@ -64,12 +63,12 @@ pub record Demand (L : Limits) (b : List ℤ) (first : ℕ) (d : Desk) : Type 0 
   pub unsat_false : d.latest.state ≡ Unsat → true? (formula_of b) ≡ false
   -- [demand.2.goes-on]
   pub accepted : d.latest.state ≡ Open → (d.latest.revision.0 ≡ last_revision → ⊥)
-      → (s : Session) × (w : ℕ) × ((step_at L b d d.latest.revision (literal (pos 0))).answer ≡ Next s w)
+      → (s : Session) × (w : ℕ) × ((step_at L b d d.latest.revision (literal (pos 0))).answer ≡ Ok (step_to s w))
   -- [demand.2.last] whatever is proposed; and so is a run that would go past the last revision
   pub refused : d.latest.state ≡ Open → d.latest.revision.0 ≡ last_revision
-      → (l : Literal) → (step_at L b d d.latest.revision l).answer ≡ Not 15
+      → (l : Literal) → (step_at L b d d.latest.revision l).answer ≡ Err (by_row 15)
   pub run_stopped : d.latest.state ≡ Open → (budget : ℕ) → last_revision < d.latest.revision.0 + budget
-      → (preferred : List ℤ) → (run_at L b d d.latest.revision budget preferred).answer ≡ Stopped 15
+      → (preferred : List ℤ) → (run_at L b d d.latest.revision budget preferred).answer ≡ Err (by_row 15)
 
 -- ---- what every call keeps
 -- the record of a desk was reached by a path, and one more rule made its state
@@ -93,9 +92,9 @@ module _ (L : Limits) (b : List ℤ) (first : ℕ) where
   unfolding call
   step_holds d seen l r = go (step_at L b d seen l).answer refl
     where
-      go : (a : Stepped) → (step_at L b d seen l).answer ≡ a → Invariant b first (after_step d a (step_at L b d seen l).memory)
-      go (Next s' w) e =
-          let f = accepted_step L d.latest b d.memory seen l s' w e in
+      go : (a : Result Stepped Refusal) → (step_at L b d seen l).answer ≡ a → Invariant b first (after_step d a (step_at L b d seen l).memory)
+      go (Ok q) e =
+          let f = accepted_step L d.latest b d.memory seen l q.session q.reason e in
           let x : d.steps + 1 ≡ suc d.steps = omega arith in
           let y = r.revision in
           let z = f.revision in
@@ -104,13 +103,13 @@ module _ (L : Limits) (b : List ℤ) (first : ℕ) where
             kept = f.kept;
             ended = λ g.
                 let (t, c) = f.ended_leaves g in
-                let same : record_of (step_at L b d seen l).memory.trail s'.length ≡ record_of d.memory.trail d.latest.length = rw (t, c) in
+                let same : record_of (step_at L b d seen l).memory.trail q.session.length ≡ record_of d.memory.trail d.latest.length = rw (t, c) in
                 record { before = d.steps; path = rw same (rw f.live at r.path); rule = rw same (rw same at f.step) };
             sound = f.sound;
             explained = f.explained r.explained;
             revision = omega arith;
           }
-      go (Not n) e = let w = step_refused_leaves L d.latest b d.memory seen l n e in rw w.memory r
+      go (Err n) e = let w = step_refused_leaves L d.latest b d.memory seen l n.0 e in rw w.memory r
 
   hand_holds : (preferred : List ℤ) (c : ℕ) (d : Desk) → Invariant b first d → Invariant b first (by_hand L b preferred c d)
   unfolding by_hand handed
@@ -148,9 +147,9 @@ module _ (L : Limits) (b : List ℤ) (block : refusal L b ≡ 0) (first : ℕ) w
         unsat_false = λ e. any.right false (rw e at r.path);
         accepted = λ o h.
             let e = step_passes L _ _ _ _ (guard d r o) h (literal (pos 0)) (inl refl) (inl refl) in
-            (_, _, ap (λ (o : Outcome Memory Stepped). o.answer) (accepted_is L _ _ _ _ _ e));
-        refused = λ o h l. ap (λ (o : Outcome Memory Stepped). o.answer) (step_refused L _ _ _ _ l 14 (step_last L _ _ _ _ (guard d r o) h l));
-        run_stopped = λ o budget h preferred. ap (λ (o : Outcome Memory Ran). o.answer) (run_refused L _ _ _ _ budget preferred 14 (run_last L _ _ _ _ (guard d r o) budget h));
+            (_, _, ap (λ (o : Outcome Memory (Result Stepped Refusal)). o.answer) (accepted_is L _ _ _ _ _ e));
+        refused = λ o h l. ap (λ (o : Outcome Memory (Result Stepped Refusal)). o.answer) (step_refused L _ _ _ _ l 14 (step_last L _ _ _ _ (guard d r o) h l));
+        run_stopped = λ o budget h preferred. ap (λ (o : Outcome Memory (Result Ran Refusal)). o.answer) (run_refused L _ _ _ _ budget preferred 14 (run_last L _ _ _ _ (guard d r o) budget h));
       }
 
   -- a session that isn't open tells the truth
@@ -167,10 +166,10 @@ module _ (L : Limits) (b : List ℤ) (block : refusal L b ≡ 0) (first : ℕ) w
 abbrev pub fresh_desk : Limits → List ℤ → Memory → Revision → Session → Desk
 fresh_desk L b m rev s = desk s (open_outcome L b m rev).memory 0 0
 
-module _ (L : Limits) (b : List ℤ) (m : Memory) (rev : Revision) (s : Session) (a : (open_outcome L b m rev).answer ≡ To s) where
+module _ (L : Limits) (b : List ℤ) (m : Memory) (rev : Revision) (s : Session) (a : (open_outcome L b m rev).answer ≡ Ok s) where
   open_passed : open_refusal L b (places m) ≡ 0
   unfolding open_outcome
-  open_passed = unless_to (open_refusal L b (places m)) m _ s a
+  open_passed = unless_ok (open_refusal L b (places m)) m _ s a
 
   pub block : refusal L b ≡ 0
   block = (opened L b (places m) open_passed).block
@@ -226,7 +225,7 @@ module _ (L : Limits) (b : List ℤ) (m : Memory) (rev : Revision) (s : Session)
   -- [demand.2.steps] so an accepted run ends the session, with the truth, if the steps so far and its budget are together at least 2^(V+1) - 1. A
   -- budget has 32 bits: with 32 variables or more none is so large, and a fresh session may need more runs than one
   pub enough_ends : (calls : List Call) (seen : Revision) (budget : ℕ) (preferred : List ℤ) (s' : Session) (c w : ℕ) → let d = play L b (fresh_desk L b m rev s) calls in
-      (run_at L b d seen budget preferred).answer ≡ Until s' c w → 2 ^ suc (variables_of b) ≤ suc (d.steps + budget) → s'.state ≡ verdict_of (true? (formula_of b))
+      (run_at L b d seen budget preferred).answer ≡ Ok (run_to s' c w) → 2 ^ suc (variables_of b) ≤ suc (d.steps + budget) → s'.state ≡ verdict_of (true? (formula_of b))
   unfolding call
   enough_ends calls seen budget preferred s' c w e h =
       let d = play L b (fresh_desk L b m rev s) calls in

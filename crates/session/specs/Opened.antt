@@ -1,5 +1,6 @@
 -- What an accepted opening leaves: a fresh session, zeros in the first V places, and no other place written. By the laws of the wiped places.
-use Rattle.std.specs.Prelude.{ℕ, ◌≤◌, ◌<◌, ◌≡◌, List, ℤ, pos, length, get_or}
+use Rattle.words.specs.Outcomes.{unless_ok}
+use Rattle.std.specs.Prelude.{ℕ, ◌≤◌, ◌<◌, ◌≡◌, List, ℤ, pos, length, get_or, Ok}
 use Rattle.std.proofs.Common.{zero-le, inr}
 use Rattle.formula.specs.Formula.{variables_of}
 use Rattle.formula.specs.Limits.{Limits}
@@ -7,10 +8,8 @@ use Rattle.record.specs.declared.rule.State.TheVariants.{Open}
 use Rattle.record.proofs.Laws.Wiped.{wiped_length, wiped_inside, wiped_outside}
 use Rattle.session.specs.declared.Revision.{Revision}
 use Rattle.session.specs.declared.Session.{Session}
-use Rattle.session.specs.declared.Answer.TheVariants.{To}
 use Rattle.memory.specs.Memory.{Memory, places}
 use Rattle.memory.specs.Refusals.{open_refusal}
-use Rattle.session.specs.Refused.{unless_to}
 use Rattle.session.specs.Outcome.{session, open_outcome}
 use Rattle.record.proofs.Laws.Wiped.{wiped_blank, wiped_other}
 use Rattle.record.specs.Trail.{entry_at, no_entry}
@@ -25,10 +24,10 @@ pub record Fresh (b : List ℤ) (rev : Revision) (s : Session) (m m' : Memory) :
   pub lengths : (length m'.trail.lits ≡ length m.trail.lits) × (length m'.trail.kinds ≡ length m.trail.kinds) × (length m'.reasons ≡ length m.reasons)
 
 pub accepted_open : (L : Limits) → (b : List ℤ) (m : Memory) (rev : Revision) (s : Session) → let o = open_outcome L b m rev in
-    o.answer ≡ To s → Fresh b rev s m o.memory
+    o.answer ≡ Ok s → Fresh b rev s m o.memory
 unfolding open_outcome
 accepted_open L b m rev s a =
-    let e = unless_to (open_refusal L b (places m)) m _ s a in
+    let e = unless_ok (open_refusal L b (places m)) m _ s a in
     let v = variables_of b in
     let a' = rw e at a in
     rw e

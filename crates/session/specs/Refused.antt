@@ -1,23 +1,17 @@
 -- [demand.1] [demand.1.leaves] [table.leaves] A refused call answers its number and leaves all memory as it was; and some calls that are always refused.
 -- By the two cases of the number, 0 and not 0.
-use Rattle.std.specs.Prelude.{◌≡◌, true, List, ℕ, zero, suc, ◌+◌, ◌<◌, ℤ}
+use Rattle.std.specs.Prelude.{◌≡◌, true, List, ℕ, suc, ◌+◌, ◌<◌, ℤ}
 use Rattle.std.proofs.Math.Path.{refl}
-use Rattle.std.proofs.Common.{sym, arith, eq-eqb, ne_eqb, lt-ltb}
+use Rattle.std.proofs.Common.{eq-eqb, ne_eqb, lt-ltb}
 use Rattle.words.specs.Laws.Bools.{not_f}
 use Rattle.words.specs.Lists.{In}
-use Rattle.words.specs.Outcomes.{Outcome, outcome, unless, Left, unless_left}
+use Rattle.words.specs.Outcomes.{outcome, Left, unless_left, refused, ok_none}
 use Rattle.words.specs.Rows.{test, up_to}
 use Rattle.words.specs.Laws.Rows.{refused_by}
 use Rattle.words.specs.declared.Literal.{Literal}
 use Rattle.formula.specs.Limits.{Limits}
 use Rattle.session.specs.declared.Revision.{Revision}
 use Rattle.session.specs.declared.Session.{Session}
-use Rattle.session.specs.declared.Answer.{Answer}
-use Rattle.session.specs.declared.Answer.TheVariants.{To, Refused}
-use Rattle.session.specs.declared.Stepped.{Stepped}
-use Rattle.session.specs.declared.Stepped.TheVariants.{Next, Not}
-use Rattle.session.specs.declared.Ran.{Ran}
-use Rattle.session.specs.declared.Ran.TheVariants.{Until, Stopped}
 use Rattle.memory.specs.Memory.{Memory, places}
 use Rattle.memory.specs.Refusals.{open_refusal}
 use Rattle.search.specs.Run.{over}
@@ -25,60 +19,38 @@ use Rattle.session.specs.Refusals.{last_revision, step_rows, step_refusal, run_r
 use Rattle.session.specs.Outcome.{open_outcome, step_outcome}
 use Rattle.session.specs.Run.{run_of}
 
-accepted_none : (s : Session) (n : ℕ) → To s ≡ Refused n → ⊥
-accepted_none s n e = let z : ◌≡◌ {A = ℕ} 0 1 = cc in omega arith
-
-stepped_none : (s : Session) (w n : ℕ) → Next s w ≡ Not n → ⊥
-stepped_none s w n e = let z : ◌≡◌ {A = ℕ} 0 1 = cc in omega arith
-
-ran_none : (s : Session) (c w n : ℕ) → Until s c w ≡ Stopped n → ⊥
-ran_none s c w n e = let z : ◌≡◌ {A = ℕ} 0 1 = cc in omega arith
-
--- and a session is answered only where no row applies
-pub unless_to : (n : ℕ) (m : Memory) (o : Outcome Memory Answer) (s : Session) → (unless Refused n m o).answer ≡ To s → n ≡ 0
-unless_to zero m o s e = refl
-unless_to (suc n) m o s e = absurd (accepted_none s (suc n) (sym e))
-
-pub unless_next : (n : ℕ) (m : Memory) (o : Outcome Memory Stepped) (s : Session) (w : ℕ) → (unless Not n m o).answer ≡ Next s w → n ≡ 0
-unless_next zero m o s w e = refl
-unless_next (suc n) m o s w e = absurd (stepped_none s w (suc n) (sym e))
-
-pub unless_until : (n : ℕ) (m : Memory) (o : Outcome Memory Ran) (s : Session) (c w : ℕ) → (unless Stopped n m o).answer ≡ Until s c w → n ≡ 0
-unless_until zero m o s c w e = refl
-unless_until (suc n) m o s c w e = absurd (ran_none s c w (suc n) (sym e))
-
 -- ---- a refused call leaves all buffers as they were
 pub open_refused_leaves : (L : Limits) → (b : List ℤ) (m : Memory) (rev : Revision) (n : ℕ) → let o = open_outcome L b m rev in
-    o.answer ≡ Refused n → Left (open_refusal L b (places m)) n m o.memory
+    o.answer ≡ refused n → Left (open_refusal L b (places m)) n m o.memory
 unfolding open_outcome
-open_refused_leaves L b m rev n = unless_left Refused (λ j k e. cc) (open_refusal L b (places m)) m _ n (accepted_none _ n)
+open_refused_leaves L b m rev n = unless_left (open_refusal L b (places m)) m _ n (ok_none _ n)
 
 module _ (L : Limits) (s : Session) (b : List ℤ) (m : Memory) (seen : Revision) where
   pub step_refused_leaves : (l : Literal) (n : ℕ) → let o = step_outcome L s b m seen l in
-      o.answer ≡ Not n → Left (step_refusal L s b m seen l) n m o.memory
+      o.answer ≡ refused n → Left (step_refusal L s b m seen l) n m o.memory
   unfolding step_outcome
-  step_refused_leaves l n = unless_left Not (λ j k e. cc) (step_refusal L s b m seen l) m _ n (stepped_none _ _ n)
+  step_refused_leaves l n = unless_left (step_refusal L s b m seen l) m _ n (ok_none _ n)
 
   pub run_refused_leaves : (budget : ℕ) (preferred : List ℤ) (n : ℕ) → let o = run_of L s b m seen budget preferred in
-      o.answer ≡ Stopped n → Left (run_refusal L s b m seen budget) n m o.memory
+      o.answer ≡ refused n → Left (run_refusal L s b m seen budget) n m o.memory
   unfolding run_of
-  run_refused_leaves budget preferred n = unless_left Stopped (λ j k e. cc) (run_refusal L s b m seen budget) m _ n (ran_none _ _ _ n)
+  run_refused_leaves budget preferred n = unless_left (run_refusal L s b m seen budget) m _ n (ok_none _ n)
 
   -- ---- a number other than 0 is answered
-  pub step_refused : (l : Literal) (n : ℕ) → step_refusal L s b m seen l ≡ suc n → step_outcome L s b m seen l ≡ outcome (Not (suc n)) m
+  pub step_refused : (l : Literal) (n : ℕ) → step_refusal L s b m seen l ≡ suc n → step_outcome L s b m seen l ≡ outcome (refused (suc n)) m
   unfolding step_outcome
   step_refused l n e = rw e
 
-  pub run_refused : (budget : ℕ) (preferred : List ℤ) (n : ℕ) → run_refusal L s b m seen budget ≡ suc n → run_of L s b m seen budget preferred ≡ outcome (Stopped (suc n)) m
+  pub run_refused : (budget : ℕ) (preferred : List ℤ) (n : ℕ) → run_refusal L s b m seen budget ≡ suc n → run_of L s b m seen budget preferred ≡ outcome (refused (suc n)) m
   unfolding run_of
   run_refused budget preferred n e = rw e
 
   -- ---- a row that applies: the call is refused, with its number or that of a row before it
   abbrev pub StepRefusedBy : ℕ → Literal → Type 0
-  StepRefusedBy k l = (n : ℕ) × In (suc n) (up_to k (step_rows L s b m seen l)) × (step_outcome L s b m seen l ≡ outcome (Not (suc n)) m)
+  StepRefusedBy k l = (n : ℕ) × In (suc n) (up_to k (step_rows L s b m seen l)) × (step_outcome L s b m seen l ≡ outcome (refused (suc n)) m)
 
   abbrev pub RunRefusedBy : ℕ → ℕ → List ℤ → Type 0
-  RunRefusedBy k budget preferred = (n : ℕ) × In (suc n) (up_to k (run_rows L s b m seen budget)) × (run_of L s b m seen budget preferred ≡ outcome (Stopped (suc n)) m)
+  RunRefusedBy k budget preferred = (n : ℕ) × In (suc n) (up_to k (run_rows L s b m seen budget)) × (run_of L s b m seen budget preferred ≡ outcome (refused (suc n)) m)
 
   step_by : (k : ℕ) (l : Literal) → test k (step_rows L s b m seen l) ≡ true → StepRefusedBy k l
   unfolding step_refusal

@@ -1,9 +1,11 @@
 -- A run is steps made by hand, one after the other, each at the revision of the moment and with the proposal that the preferences give: they leave
 -- the same desk. By induction on the budget: each rule of the run is an accepted step, and after the end a step is refused.
+use Rattle.words.specs.Outcomes.{unless_ok}
+use Rattle.words.specs.declared.Refusal.{Refusal}
 use Prim.Native.Nat.{ℕ, zero, suc, ◌+◌, ◌≤◌, ◌<◌}
-use Rattle.std.specs.Prelude.{◌≡◌, true, List, ℤ}
+use Rattle.std.specs.Prelude.{◌≡◌, true, List, ℤ, Ok, Err}
 use Rattle.std.proofs.Math.Path.{refl, sym, ap, ap₂}
-use Rattle.std.proofs.Common.{◌∙◌}
+use Rattle.std.proofs.Common.{◌∙◌, Result}
 use Rattle.std.proofs.Math.Logic.{inl, inr}
 use native.Mathlib.Omega.{arith}
 use Rattle.words.specs.Laws.Bools.{look}
@@ -21,7 +23,6 @@ use Rattle.choice.specs.Preferred.{proposal_of}
 use Rattle.session.specs.declared.Revision.{Revision}
 use Rattle.session.specs.declared.Session.{Session}
 use Rattle.session.specs.declared.Ran.{Ran}
-use Rattle.session.specs.declared.Ran.TheVariants.{Until, Stopped}
 use Rattle.memory.specs.Memory.{memory_of}
 use Rattle.search.specs.Run.{over, Trip, trip, advance, run_from, why_from}
 use Rattle.session.specs.Refusals.{last_revision, run_refusal}
@@ -29,10 +30,10 @@ use Rattle.memory.specs.Reasons.{Why, why, told}
 use Rattle.session.specs.Laws.Accepted.{Sound, Guarded, run_guarded, step_passes}
 use Rattle.session.specs.Laws.Sound.{sound_after}
 use Rattle.session.specs.Outcome.{moved, search_of}
-use Rattle.session.specs.Run.{ran, run_of}
+use Rattle.session.specs.Run.{ran, run_of, run_to}
 use Rattle.search.proofs.Laws.Runs.{over_open, proposal_passes, advance_keeps, run_ended, loop_last, run_further, run_counted, why_more, why_ended, why_none, why_counted, why_latest, why_silent, Travelled, travelled}
 use Rattle.session.specs.Calls.{Desk, desk, step, run, after_run, run_at, call}
-use Rattle.session.specs.Refused.{unless_until, run_refused, ended_step_refused}
+use Rattle.session.specs.Refused.{run_refused, ended_step_refused}
 use Rattle.session.specs.Stepped.{accepted_is}
 
 abbrev pub search_at : Desk → Search
@@ -126,9 +127,9 @@ module _ (L : Limits) (b : List ℤ) (preferred : List ℤ) where
 
 -- ---- the run
 -- how many steps an answer counts; a refused run has none
-abbrev pub counted : Ran → ℕ
-counted (Until s n w) = n
-counted (Stopped n) = 0
+abbrev pub counted : Result Ran Refusal → ℕ
+counted (Ok r) = r.steps
+counted (Err e) = 0
 
 module _ (L : Limits) (b : List ℤ) (d : Desk) (seen : Revision) (budget : ℕ) (preferred : List ℤ) where
   -- where an accepted run leads
@@ -177,24 +178,26 @@ module _ (L : Limits) (b : List ℤ) (d : Desk) (seen : Revision) (budget : ℕ)
     pub within : c ≤ budget
     pub used : s'.state ≡ Open → c ≡ budget
 
-  pub run_pauses : (s' : Session) (c w : ℕ) → (run_at L b d seen budget preferred).answer ≡ Until s' c w → Pauses s' c
+  pub run_pauses : (s' : Session) (c w : ℕ) → (run_at L b d seen budget preferred).answer ≡ Ok (run_to s' c w) → Pauses s' c
   unfolding run_of led led_why
   run_pauses s' c w₀ a =
-      let e = unless_until (run_refusal L d.latest b d.memory seen budget) d.memory _ s' c w₀ a in
+      let e = unless_ok (run_refusal L d.latest b d.memory seen budget) d.memory _ (run_to s' c w₀) a in
       let w = led_far e in
       let a' = rw (run_accepted e) at a in
-      let x : led.steps ≡ c = cc in
-      let y : moved d.latest led.steps led.reached ≡ s' = cc in
+      let f : run_to (moved d.latest led.steps led.reached) led.steps (led_why 0).last ≡ run_to s' c w₀ = cc in
+      let x = ap (λ (r : Ran). r.steps) f in
+      let y = ap (λ (r : Ran). r.session) f in
       rw (← x, ← y)
       (record { as_by_hand = ap (λ (d : Desk). d.latest) (accepted_hand e budget (omega arith) refl refl); within = w.within; used = w.used })
 
   -- [run.reason] a run that made no step answers the reason 0, and leaves the reasons; of any other `run_is_steps` says that it is the last step's
-  pub run_silent : (s' : Session) (w : ℕ) → (run_at L b d seen budget preferred).answer ≡ Until s' 0 w → (w ≡ 0) × ((run_at L b d seen budget preferred).memory.reasons ≡ d.memory.reasons)
+  pub run_silent : (s' : Session) (w : ℕ) → (run_at L b d seen budget preferred).answer ≡ Ok (run_to s' 0 w) → (w ≡ 0) × ((run_at L b d seen budget preferred).memory.reasons ≡ d.memory.reasons)
   unfolding run_of led led_why
   run_silent s' w a =
-      let e = unless_until (run_refusal L d.latest b d.memory seen budget) d.memory _ s' 0 w a in
+      let e = unless_ok (run_refusal L d.latest b d.memory seen budget) d.memory _ (run_to s' 0 w) a in
       let a' = rw (run_accepted e) at a in
-      let x : led.steps ≡ 0 = cc in
-      let y : (led_why 0).last ≡ w = cc in
+      let f : run_to (moved d.latest led.steps led.reached) led.steps (led_why 0).last ≡ run_to s' 0 w = cc in
+      let x = ap (λ (r : Ran). r.steps) f in
+      let y = ap (λ (r : Ran). r.reason) f in
       let z = why_silent (formula_of b) preferred budget (search_at d) d.memory.reasons x in
       (sym y ∙ ap (λ (w : Why). w.last) z, rw (run_accepted e) (ap (λ (w : Why). w.reasons) z))

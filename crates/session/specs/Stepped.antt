@@ -1,6 +1,9 @@
 -- What an accepted step leaves: the due rule's search, which is a step of the theory, and its reason, with a revision one more; and it writes no
 -- place that the rule doesn't. What the guard has shown holds again after it. From the laws of the rules.
-use Rattle.std.specs.Prelude.{ℕ, ◌+◌, ◌≤◌, ◌<◌, ◌≡◌, refl, List, ℤ, length, get_or}
+use Rattle.std.proofs.Common.{ap}
+use Rattle.session.specs.declared.Stepped.{Stepped}
+use Rattle.words.specs.Outcomes.{unless_ok}
+use Rattle.std.specs.Prelude.{ℕ, ◌+◌, ◌≤◌, ◌<◌, ◌≡◌, refl, List, ℤ, length, get_or, Ok}
 use Rattle.words.specs.declared.Literal.{Literal}
 use Rattle.formula.specs.Formula.{formula_of, prefix_of}
 use Rattle.formula.specs.Limits.{Limits}
@@ -16,7 +19,6 @@ use Rattle.applied.specs.Laws.Untouched.{apply_lengths, Elsewhere, apply_untouch
 use Rattle.rules.proofs.Laws.Steps.{due_step, due_keeps}
 use Rattle.session.specs.declared.Revision.{Revision}
 use Rattle.session.specs.declared.Session.{Session}
-use Rattle.session.specs.declared.Stepped.TheVariants.{Next}
 use Rattle.memory.specs.Memory.{Memory, memory_of}
 use Rattle.session.specs.Refusals.{step_refusal}
 use Rattle.memory.specs.Reasons.{reason_of, noted}
@@ -26,8 +28,7 @@ use Rattle.memory.proofs.Laws.Noted.{noted_length, noted_untouched, noted_zeros}
 use Rattle.session.specs.Laws.Each.{Each}
 use Rattle.session.specs.Laws.Sound.{sound_after}
 use Rattle.session.specs.Laws.Forced.{explained_after}
-use Rattle.session.specs.Refused.{unless_next}
-use Rattle.session.specs.Outcome.{moved, search_of, stepped, step_outcome}
+use Rattle.session.specs.Outcome.{moved, search_of, stepped, step_outcome, step_to}
 
 -- from a session s and its memory to the next, by an accepted step with the proposal l, whose answer has the reason w
 pub record Ruled (b : List ℤ) (l : ℤ) (s s' : Session) (w : ℕ) (m m' : Memory) : Type 0 where
@@ -88,12 +89,13 @@ module _ (L : Limits) (s : Session) (b : List ℤ) (m : Memory) (seen : Revision
         explained = explained_after L b t m.reasons g.guard.on g.guard.sound.places l.0;
       }
 
-  pub accepted_step : (s' : Session) (w : ℕ) → let o = step_outcome L s b m seen l in o.answer ≡ Next s' w → Ruled b l.0 s s' w m o.memory
+  pub accepted_step : (s' : Session) (w : ℕ) → let o = step_outcome L s b m seen l in o.answer ≡ Ok (step_to s' w) → Ruled b l.0 s s' w m o.memory
   unfolding step_outcome due_rule ruled
   accepted_step s' w a =
-      let e = unless_next (step_refusal L s b m seen l) m _ s' w a in
+      let e = unless_ok (step_refusal L s b m seen l) m _ (step_to s' w) a in
       let q = accepted_is e in
       let a' = rw q at a in
-      let z : moved s 1 ruled ≡ s' = cc in
-      let y : reason_of due_rule ≡ w = cc in
+      let f : step_to (moved s 1 ruled) (reason_of due_rule) ≡ step_to s' w = cc in
+      let z = ap (λ (r : Stepped). r.session) f in
+      let y = ap (λ (r : Stepped). r.reason) f in
       rw (q, ← z, ← y) (stepped_ruled e)

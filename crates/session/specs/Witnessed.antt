@@ -1,6 +1,6 @@
 -- [witness] A session that has ended, whatever its history, shows why: its record's entries at the outer levels, and the values that it shows for
 -- the first group, leave the rest of the formula with the answer. From the path that a history is and the rule that ended it.
-use Rattle.std.specs.Prelude.{ℕ, ◌≡◌, Bool, true, false, List, ℤ}
+use Rattle.std.specs.Prelude.{ℕ, ◌≡◌, Bool, true, false, List, ℤ, Ok}
 use Rattle.std.proofs.Common.{arith}
 use Rattle.formula.specs.Limits.{Limits}
 use Rattle.formula.specs.Formula.{formula_of}
@@ -16,7 +16,6 @@ use Rattle.record.specs.Search.{record_in, standing_of}
 use Rattle.memory.specs.Memory.{Memory}
 use Rattle.session.specs.declared.Revision.{Revision}
 use Rattle.session.specs.declared.Session.{Session}
-use Rattle.session.specs.declared.Answer.TheVariants.{To}
 use Rattle.session.specs.Outcome.{open_outcome}
 use Rattle.session.specs.Calls.{Desk, Call, play}
 use Rattle.session.specs.RunSteps.{search_at}
@@ -29,7 +28,7 @@ pub record Witnessed (b : List ℤ) (d : Desk) (v : Bool) : Type 0 where
   -- [witness.opening] [witness.counter]
   pub values : truth (rest_of (formula_of b)) (formula_of b).clauses (witness_of (formula_of b) (record_in (search_at d))) ≡ v
 
-module _ (L : Limits) (b : List ℤ) (m : Memory) (rev : Revision) (s : Session) (a : (open_outcome L b m rev).answer ≡ To s) where
+module _ (L : Limits) (b : List ℤ) (m : Memory) (rev : Revision) (s : Session) (a : (open_outcome L b m rev).answer ≡ Ok s) where
   pub history_shows : (calls : List Call) (v : Bool) → let d = play L b (fresh_desk L b m rev s) calls in d.latest.state ≡ verdict_of v → Witnessed b d v
   history_shows calls v e =
       let F = formula_of b in

@@ -1,18 +1,19 @@
 // The rows of the table that speak of a session and of a proposal, in its order. Row 15 needs no look at them: it stands with the calls.
 ghost use Rattle.std.specs.Prelude.{◌≡◌, take};
 ghost use Rattle.formula.specs.Formula.{prefix_of};
+ghost use Rattle.formula.specs.Check.{checked_of};
 ghost use Rattle.theory.specs.Record.{among};
 ghost use Rattle.memory.specs.Memory.{memory};
 ghost use Rattle.record.specs.Inner.Ready.{HeldOn};
-ghost use Rattle.tables.specs.Inner.Levels.{Levels};
 ghost use Rattle.session.specs.Promises.{SessionRefusalPromise};
 ghost use Rattle.session.specs.Inner.Guards.{proposal_refusal};
 
 use crate::{Revision, Session};
-use record::{PLACES, Rule};
-use words::Literal;
+use record::Rule;
+use tables::Tables;
+use words::{Literal, Refusal};
 
-// The block's rows and rows 11 to 14, which a step and a run share: the number of the first that applies, 0 if none does.
+// The block's rows and rows 11 to 14, which a step and a run share.
 pub fn session_refusal(
     session: Session,
     block: &[i32],
@@ -20,52 +21,44 @@ pub fn session_refusal(
     kinds: &[u8],
     reasons: &[u32],
     seen: Revision,
-) -> u32
+) -> Result<(), Refusal>
     ensures { SessionRefusalPromise session block.now (memory lits.now kinds.now reasons.now) seen result }
 {
-    let refused = memory::open_refusal(block, memory::places(lits, kinds, reasons));
-    if refused != 0 {
-        return refused;
-    }
+    memory::open_refusal(block, memory::places(lits, kinds, reasons))?;
     let count = session.length;
-    if record::bad_record(block, lits, kinds, count) {
-        return 12;
+    if record::bad_record(block, lits, kinds, count)
+        || memory::bad_reasons(block, kinds, reasons, count)
+    {
+        return Err(Refusal(12));
     }
-    if memory::bad_reasons(block, kinds, reasons, count) {
-        return 12;
+    if search::is_over(session.state) {
+        return Err(Refusal(13));
     }
-    let state = session.state;
-    if search::is_over(state) {
-        return 13;
+    if seen.0 != session.revision.0 {
+        return Err(Refusal(14));
     }
-    let mine = session.revision.0;
-    if seen.0 != mine {
-        return 14;
-    }
-    0
+    Ok(())
 }
 
 // Rows 16 and 17, where a rule is due.
 pub(crate) fn proposal_refusal(
-    block: &[i32],
+    tables: &Tables,
     lits: &[i32],
     count: usize,
     rule: Rule,
     proposal: Literal,
-    levels: &[u16; PLACES],
-) -> u32
-    requires held_on { HeldOn block.now lits.now count }
-    requires levels { Levels (prefix_of block.now) levels.now }
-    ensures { result ≡ proposal_refusal (prefix_of block.now) (among (take count lits.now)) rule proposal }
+) -> Result<(), Refusal>
+    requires { HeldOn tables.now.block.now lits.now count }
+    ensures { result ≡ checked_of (proposal_refusal (prefix_of tables.now.block.now) (among (take count lits.now)) rule proposal) }
 {
-    if words::size(proposal.0) == 0 {
-        return 0;
+    if proposal.0 == 0 {
+        return Ok(());
     }
     if !search::is_decide(rule) {
-        return 16;
+        return Err(Refusal(16));
     }
-    if !choice::is_open(block, lits, count, proposal, levels) {
-        return 17;
+    if !choice::is_open(tables.block, lits, count, proposal, &tables.levels) {
+        return Err(Refusal(17));
     }
-    0
+    Ok(())
 }

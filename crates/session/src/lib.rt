@@ -9,17 +9,17 @@ ghost use Rattle.session.specs.Promises.{OpenPromise, StepPromise, RunPromise};
 
 mod guard; // which row of the table turns a call away, but for row 15
 
-use formula::LITERAL_PLACES;
 pub use guard::session_refusal;
 use record::{Reached, State};
-use words::Literal;
+use tables::Tables;
+use words::{Literal, Refusal};
 
 // [session.types] A revision and a literal are numbers of different types: neither can stand for the other.
 #[derive(Clone, Copy)]
 pub struct Revision(pub u64);
 
-// 2^64 - 1: no step goes past it.
-const LAST_REVISION: u64 = 18446744073709551615;
+// No step goes past it.
+const LAST_REVISION: u64 = u64::MAX;
 
 // [session] Record length, revision, and open, Valid or Unsat. Any words may be handed in.
 #[derive(Clone, Copy)]
@@ -29,29 +29,19 @@ pub struct Session {
     pub state: State,
 }
 
-// What opening answers.
+// What an accepted step answers: the session, and the reason of its rule.
 #[derive(Clone, Copy)]
-pub enum Answer {
-    To(Session),
-    Refused(u32),
+pub struct Stepped {
+    pub session: Session,
+    pub reason: u32,
 }
 
-// What a step answers: the session, and the reason of its rule.
+// What an accepted run answers: the session, the count of steps, and the reason of the last one. A run has paused if its session is still open.
 #[derive(Clone, Copy)]
-pub enum Stepped {
-    Next { session: Session, reason: u32 },
-    Not(u32),
-}
-
-// What a run answers: the session, the count of accepted steps, and the reason of the last one. A run has paused if its session is still open.
-#[derive(Clone, Copy)]
-pub enum Ran {
-    Until {
-        session: Session,
-        steps: u32,
-        reason: u32,
-    },
-    Stopped(u32),
+pub struct Ran {
+    pub session: Session,
+    pub steps: u32,
+    pub reason: u32,
 }
 
 // A fresh session at the given revision. The first V places of the record and of the reasons are set to 0.
@@ -61,17 +51,14 @@ pub fn open(
     kinds: &mut [u8],
     reasons: &mut [u32],
     first: Revision,
-) -> Answer
+) -> Result<Session, Refusal>
     ensures { OpenPromise block.now (memory lits.old kinds.old reasons.old) first result (memory lits.new kinds.new reasons.new) }
 {
-    let refused = memory::open_refusal(block, memory::places(lits, kinds, reasons));
-    if refused != 0 {
-        return Answer::Refused(refused);
-    }
+    memory::open_refusal(block, memory::places(lits, kinds, reasons))?;
     let n = words::size_at(block, 0);
     record::clear(lits, kinds, n);
     memory::wipe(reasons, 0, n);
-    Answer::To(Session {
+    Ok(Session {
         length: 0,
         revision: first,
         state: State::Open,
@@ -88,31 +75,24 @@ impl Session {
         reasons: &mut [u32],
         seen: Revision,
         proposal: Literal,
-    ) -> Stepped
+    ) -> Result<Stepped, Refusal>
         ensures { StepPromise self block.now (memory lits.old kinds.old reasons.old) seen proposal result (memory lits.new kinds.new reasons.new) }
     {
-        let refused = guard::session_refusal(self, block, lits, kinds, reasons, seen);
-        if refused != 0 {
-            return Stepped::Not(refused);
-        }
+        guard::session_refusal(self, block, lits, kinds, reasons, seen)?;
         let revision = self.revision.0;
         if revision == LAST_REVISION {
-            return Stepped::Not(15);
+            return Err(Refusal(15));
         }
         let count = self.length;
-        let levels = tables::levels(block);
-        let mut statuses = [0u8; LITERAL_PLACES];
-        let rule = rules::due(block, lits, kinds, count, &levels, &mut statuses);
-        let improper = guard::proposal_refusal(block, lits, count, rule, proposal, &levels);
-        if improper != 0 {
-            return Stepped::Not(improper);
-        }
+        let mut tables = Tables::of(block);
+        let rule = rules::due(&mut tables, lits, kinds, count);
+        guard::proposal_refusal(&tables, lits, count, rule, proposal)?;
         let reason = memory::tell(reasons, rule, count);
         let reached = applied::apply(block, lits, kinds, count, rule, proposal);
-        Stepped::Next {
+        Ok(Stepped {
             session: moved(reached, revision + 1),
-            reason: reason,
-        }
+            reason,
+        })
     }
 
     // At most `budget` steps, with the preferred literals proposed.
@@ -125,40 +105,23 @@ impl Session {
         seen: Revision,
         budget: u32,
         preferred: &[i32],
-    ) -> Ran
+    ) -> Result<Ran, Refusal>
         ensures { RunPromise self block.now (memory lits.old kinds.old reasons.old) seen budget preferred.now result (memory lits.new kinds.new reasons.new) }
     {
-        let refused = guard::session_refusal(self, block, lits, kinds, reasons, seen);
-        if refused != 0 {
-            return Ran::Stopped(refused);
-        }
+        guard::session_refusal(self, block, lits, kinds, reasons, seen)?;
         let revision = self.revision.0;
         let most = LAST_REVISION - revision;
-        if most < budget as u64 {
-            return Ran::Stopped(15);
+        if most < u64::from(budget) {
+            return Err(Refusal(15));
         }
         let count = self.length;
-        let levels = tables::levels(block);
-        let mut statuses = [0u8; LITERAL_PLACES];
-        let found = search::search(
-            block,
-            lits,
-            kinds,
-            reasons,
-            count,
-            budget,
-            preferred,
-            &levels,
-            &mut statuses,
-        );
-        let reached = found.reached;
-        let steps = found.steps;
-        let reason = found.reason;
-        Ran::Until {
-            session: moved(reached, revision + (steps as u64)),
-            steps: steps,
-            reason: reason,
-        }
+        let mut tables = Tables::of(block);
+        let found = search::search(&mut tables, lits, kinds, reasons, count, budget, preferred);
+        Ok(Ran {
+            session: moved(found.reached, revision + u64::from(found.steps)),
+            steps: found.steps,
+            reason: found.reason,
+        })
     }
 }
 
@@ -166,11 +129,9 @@ impl Session {
 fn moved(reached: Reached, revision: u64) -> Session
     ensures { result ≡ session reached.count revision reached.state }
 {
-    let count = reached.count;
-    let state = reached.state;
     Session {
-        length: count,
+        length: reached.count,
         revision: Revision(revision),
-        state: state,
+        state: reached.state,
     }
 }

@@ -1,5 +1,4 @@
 -- What only the proofs of this crate need.
 pub mod Guards
-pub mod Clauses
 pub mod Shows
 pub mod Exits

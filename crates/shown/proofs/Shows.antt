@@ -1,47 +1,20 @@
--- What a literal of a clause and a value of a table say of a value that is shown, and values written one by one.
+-- What a value of a table and a clause say of a value that is shown, and values written one by one.
 use Prim.Native.Nat.{ℕ, ◌+◌, ◌≤◌, ◌<◌}
-use mathlib.Core.Path.{◌≡◌, refl, sym, ◌∙◌}
-use mathlib.Core.Bool.{Bool, true, false, not, cond, ◌||◌}
+use mathlib.Core.Path.{◌≡◌, refl, ◌∙◌}
+use mathlib.Core.Bool.{Bool, true, false, not, cond}
 use mathlib.Core.List.{List}
 use native.Mathlib.Numerals.{add-one}
 use native.Mathlib.Omega.{arith}
 use lib.Dec.{eqb}
-use lib.IntN.{ℤ, pos, negsuc, neg_ℤ, nat_abs}
+use lib.IntN.{ℤ, pos, neg_ℤ, nat_abs}
 use lib.ListN.{length, get_or, drop, set}
 use lib.Seq.{sets}
-use Rattle.words.specs.Laws.Bools.{eqb_ne, eqb_i}
 use Rattle.words.specs.Laws.Lists.{next, ended}
-use Rattle.words.specs.Words.{negative, eq_z, mem}
+use Rattle.words.specs.Words.{mem}
 use Rattle.theory.specs.Record.{Assignment, assigned}
 use Rattle.theory.proofs.Laws.Assignment.{assigned_var}
 use Rattle.theory.specs.Witness.{shown_true, signed_as, signed}
 use Rattle.record.specs.Inner.Tables.{value_in}
-
--- ---- a clause that holds a variable unnegated
-pub is_word : (v : ℕ) (w : ℤ) {n : Bool} → nat_abs w ≡ v → n ≡ negative w → not n ≡ eq_z (pos v) w
-unfolding eq_z
-is_word v (pos m) e n = rw n (sym (eqb_i (sym e)))
-is_word v (negsuc m) e n = rw n
-
-pub no_word : (v : ℕ) (w : ℤ) → (nat_abs w ≡ v → ⊥) → false ≡ eq_z (pos v) w
-unfolding eq_z
-no_word v (pos m) f = sym (eqb_ne v m (λ e. f (sym e)))
-no_word v (negsuc m) f = refl
-
-module _ (v : ℕ) (C : List ℤ) (i : ℕ) where
-  mem_at : i < length C → mem (pos v) (drop i C) ≡ (eq_z (pos v) (get_or C i (pos 0)) || mem (pos v) (drop (i + 1) C))
-  unfolding mem
-  mem_at h = rw (next C i (pos 0) h)
-
-  pub holds_here : i < length C → {t : Bool} → t ≡ eq_z (pos v) (get_or C i (pos 0)) → t ≡ true → true ≡ mem (pos v) (drop i C)
-  holds_here h e y = sym (mem_at h ∙ rw (← e, y))
-
-  pub holds_later : i < length C → {t : Bool} → t ≡ eq_z (pos v) (get_or C i (pos 0)) → t ≡ false → mem (pos v) (drop (i + 1) C) ≡ mem (pos v) (drop i C)
-  holds_later h e y = sym (mem_at h ∙ rw (← e, y))
-
-  pub holds_none : length C ≤ i → false ≡ mem (pos v) (drop i C)
-  unfolding mem
-  holds_none h = rw (ended C i h)
 
 -- ---- a value by the table
 module _ (ρ : Assignment) (C : List ℤ) (v : ℕ) where

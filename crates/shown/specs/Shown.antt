@@ -1,8 +1,9 @@
 -- [shown] The witness of an ended session: when the call is refused, and what it writes, for any words.
-use Rattle.std.specs.Prelude.{ℕ, Bool, true, not, List, [], ◌∷◌, ◌++◌, ltb, ℤ, length}
+use Rattle.std.specs.Prelude.{ℕ, Bool, true, not, List, [], ◌∷◌, ◌++◌, ltb, ℤ, length, Result, Ok}
 use Rattle.std.proofs.lemmas.List.Edits.{sets}
 use Rattle.words.specs.Rows.{Row, row, refusal_of}
-use Rattle.words.specs.Outcomes.{Outcome, outcome, unless}
+use Rattle.words.specs.Outcomes.{Outcome, outcome, unless, refused}
+use Rattle.words.specs.declared.Refusal.{Refusal}
 use Rattle.formula.specs.Limits.{Limits}
 use Rattle.formula.specs.Formula.{variables_of, formula_of, prefix_of, first_group}
 use Rattle.theory.specs.Witness.{witness_of}
@@ -14,8 +15,6 @@ use Rattle.memory.specs.Memory.{record_places}
 use Rattle.memory.specs.Refusals.{open_rows}
 use Rattle.session.specs.declared.Session.{Session}
 use Rattle.listing.specs.Page.{first_universal}
-use Rattle.shown.specs.declared.Told.{Told}
-use Rattle.shown.specs.declared.Told.TheVariants.{Values, Refused}
 
 -- [row.32] nothing is to be shown: while the session is open; of a universal first group where it is Valid, of any other where it is Unsat
 abbrev pub no_witness : State → Bool → Bool
@@ -39,8 +38,8 @@ unfoldable pub shown_refusal : Limits → Session → List ℤ → Trail → ℕ
 shown_refusal L s b t room = refusal_of (shown_rows L s b t room)
 
 -- ---- [shown.output] the values in the output's first places, and how many there are; [table.leaves] else the number, and the output as it was
-unfoldable pub shown_of : Limits → Session → List ℤ → Trail → List ℤ → Outcome (List ℤ) Told
+unfoldable pub shown_of : Limits → Session → List ℤ → Trail → List ℤ → Outcome (List ℤ) (Result ℕ Refusal)
 shown_of L s b t out =
     let F = formula_of b in
-    unless Refused (shown_refusal L s b t (length out)) out
-    (outcome (Values (first_group F.prefix)) (sets out 0 (witness_of F (record_of t s.length))))
+    unless refused (shown_refusal L s b t (length out)) out
+    (outcome (Ok (first_group F.prefix)) (sets out 0 (witness_of F (record_of t s.length))))

@@ -1,6 +1,6 @@
 -- [shown.true] What the call writes after any history: an opening that wins, or a counter-example. The record of a history passes rows 1 to 12, and
 -- the values that it shows are those of an opening.
-use Rattle.std.specs.Prelude.{ℕ, ◌≤◌, ◌<◌, ◌≡◌, refl, Bool, List, ℤ, length}
+use Rattle.std.specs.Prelude.{ℕ, ◌≤◌, ◌<◌, ◌≡◌, refl, Bool, List, ℤ, length, Ok}
 use Rattle.std.proofs.Common.{◌∙◌}
 use Rattle.std.proofs.Math.Bool.{true, false}
 use Rattle.std.proofs.lemmas.List.Edits.{sets}
@@ -19,7 +19,6 @@ use Rattle.memory.specs.Refusals.{open_rows, open_refusal}
 use Rattle.memory.proofs.Laws.Opened.{open_passes, room_record}
 use Rattle.session.specs.declared.Revision.{Revision}
 use Rattle.session.specs.declared.Session.{Session}
-use Rattle.session.specs.declared.Answer.TheVariants.{To}
 use Rattle.session.specs.Outcome.{open_outcome}
 use Rattle.session.specs.Calls.{Desk, Call, play}
 use Rattle.session.specs.History.{fresh_desk, history_kept}
@@ -28,7 +27,6 @@ use Rattle.listing.specs.Page.{first_universal}
 use Rattle.listing.specs.Wins.{wins}
 use Rattle.listing.proofs.Found.{valid_wins, unsat_loses}
 use Rattle.listing.specs.Found.{Found}
-use Rattle.shown.specs.declared.Told.TheVariants.{Values}
 use Rattle.shown.specs.Shown.{no_witness, of_shown, shown_refusal, shown_of}
 
 -- the call is accepted, and writes the values of an opening that wins or loses as v says
@@ -36,14 +34,14 @@ pub record Shows (L : Limits) (b : List ℤ) (d : Desk) (out : List ℤ) (v : Bo
   pub opening : ℕ
   pub below : opening < openings (formula_of b)
   pub won : wins (formula_of b) opening ≡ v
-  pub leaves : shown_of L d.latest b d.memory.trail out ≡ outcome (Values (first_group (formula_of b).prefix)) (sets out 0 (values_of opening (group_of (formula_of b))))
+  pub leaves : shown_of L d.latest b d.memory.trail out ≡ outcome (Ok (first_group (formula_of b).prefix)) (sets out 0 (values_of opening (group_of (formula_of b))))
 
 -- rows 12, 32 and 30, where those before have passed
 pub from_12 : (L : Limits) (s : Session) (b : List ℤ) (t : Trail) (room : ℕ) → open_refusal L b (record_places t) ≡ 0 → shown_refusal L s b t room ≡ refusal_of (of_shown s b t room)
 unfolding open_refusal shown_refusal
 from_12 L s b t room = goes_on (open_rows L b (record_places t)) (of_shown s b t room) refl
 
-module _ (L : Limits) (b : List ℤ) (m : Memory) (rev : Revision) (s : Session) (a : (open_outcome L b m rev).answer ≡ To s) (calls : List Call) (out : List ℤ) where
+module _ (L : Limits) (b : List ℤ) (m : Memory) (rev : Revision) (s : Session) (a : (open_outcome L b m rev).answer ≡ Ok s) (calls : List Call) (out : List ℤ) where
   d : Desk
   d = play L b (fresh_desk L b m rev s) calls
 

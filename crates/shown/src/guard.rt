@@ -1,11 +1,13 @@
 // The rows of the table that speak of what is to be shown, in its order.
 ghost use Rattle.std.specs.Prelude.{◌≡◌};
 ghost use Rattle.formula.specs.Limits.{limits};
+ghost use Rattle.formula.specs.Check.{checked_of};
 ghost use Rattle.record.specs.Trail.{trail};
 ghost use Rattle.shown.specs.Shown.{no_witness, shown_refusal};
 
 use record::State;
 use session::Session;
+use words::Refusal;
 
 // Row 32: whether there is nothing to show. `universal` says whether the first group is.
 fn shows_nothing(state: State, universal: bool) -> bool
@@ -25,23 +27,19 @@ pub(crate) fn shown_refusal(
     lits: &[i32],
     kinds: &[u8],
     room: usize,
-) -> u32
-    ensures { result ≡ shown_refusal limits session block.now (trail lits.now kinds.now) room }
+) -> Result<(), Refusal>
+    ensures { result ≡ checked_of (shown_refusal limits session block.now (trail lits.now kinds.now) room) }
 {
-    let refused = memory::open_refusal(block, memory::record_places(lits, kinds));
-    if refused != 0 {
-        return refused;
-    }
+    memory::open_refusal(block, memory::record_places(lits, kinds))?;
     if record::bad_record(block, lits, kinds, session.length) {
-        return 12;
+        return Err(Refusal(12));
     }
     let prefix = formula::prefix(block);
-    let state = session.state;
-    if shows_nothing(state, words::negative_at(prefix, 0)) {
-        return 32;
+    if shows_nothing(session.state, words::negative_at(prefix, 0)) {
+        return Err(Refusal(32));
     }
     if room < words::size_at(block, 0) {
-        return 30;
+        return Err(Refusal(30));
     }
-    0
+    Ok(())
 }

@@ -9,33 +9,25 @@ mod conflict; // the clause that unassigned variables are held against
 mod values; // the values of the first group
 
 use session::Session;
+use words::Refusal;
 
-// What the call answers: how many values it wrote, or the number of the first row that applies.
-#[derive(Clone, Copy)]
-pub enum Told {
-    Values(usize),
-    Refused(u32),
-}
-
-// The first group's literals as the record of an ended session shows them, in prefix order, in the output's first places.
+// The first group's literals as the record of an ended session shows them, in prefix order, in the output's first places. The answer is how many
+// there are.
 pub fn shown(
     session: Session,
     block: &[i32],
     lits: &[i32],
     kinds: &[u8],
     output: &mut [i32],
-) -> Told
+) -> Result<usize, Refusal>
     ensures { ShownPromise session block.now (trail lits.now kinds.now) output.old result output.new }
 {
-    let refused = guard::shown_refusal(session, block, lits, kinds, output.len());
-    if refused != 0 {
-        return Told::Refused(refused);
-    }
+    guard::shown_refusal(session, block, lits, kinds, output.len())?;
     let count = session.length;
     let clause = conflict::clause(block, conflict::lowest(block, lits, kinds, count));
     let values = record::values_of(lits, count);
     let prefix = formula::prefix(block);
     let k = listing::first_group(prefix);
     values::write(words::take(prefix, k), &values, clause, output);
-    Told::Values(k)
+    Ok(k)
 }

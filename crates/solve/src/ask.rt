@@ -19,7 +19,10 @@ pub(crate) struct Request {
 
 const WORD_BYTES: usize = 32;
 
-fn mode_of(word: &[u8; WORD_BYTES]) -> Mode {
+// Where there is no first word, its first letter is 0. Of a longer one than there is room for the first letter is there too.
+fn mode_of(rt: &impl Env) -> Mode {
+    let mut word = [0; WORD_BYTES];
+    let _ = rt.arg(1, &mut word);
     match word[0] {
         b's' => Mode::Solve,
         b'p' => Mode::Plain,
@@ -29,40 +32,20 @@ fn mode_of(word: &[u8; WORD_BYTES]) -> Mode {
     }
 }
 
-// A number with one digit more; past 64 bits it is the largest that they hold.
-fn grown(number: u64, byte: u8) -> u64 {
-    if byte < b'0' || b'9' < byte {
-        return number;
-    }
-    let digit = (byte - b'0') as u64;
-    if (u64::MAX - digit) / 10 < number {
-        return u64::MAX;
-    }
-    number * 10 + digit
-}
-
-fn number_of(word: &[u8; WORD_BYTES], length: usize) -> u64 {
-    let mut number = 0;
-    let mut i = 0;
-    while i < WORD_BYTES && i < length {
-        number = grown(number, word[i]);
-        i += 1;
-    }
-    number
-}
-
-// Where there is no first word, its first letter is 0. Of a longer one than there is room for the first letter is there too.
-fn mode_word(rt: &impl Env) -> Mode {
-    let mut word = [0; WORD_BYTES];
-    let _ = rt.arg(1, &mut word);
-    mode_of(&word)
+// The number that a word's digits make; past 64 bits it is the largest that they hold.
+fn number_of(word: &[u8]) -> u64 {
+    word.iter()
+        .filter_map(|byte| char::from(*byte).to_digit(10))
+        .fold(0, |number: u64, digit| {
+            number.saturating_mul(10).saturating_add(u64::from(digit))
+        })
 }
 
 // A word that is missing, or longer than there is room for, is 0.
 fn budget(rt: &impl Env) -> u64 {
     let mut word = [0; WORD_BYTES];
     match rt.arg(2, &mut word) {
-        Ok(length) => number_of(&word, length),
+        Ok(length) => number_of(&word[..length]),
         Err(_) => 0,
     }
 }
@@ -75,7 +58,7 @@ fn progress(rt: &impl Env) -> bool {
 
 pub(crate) fn asked(rt: &impl Env) -> Request {
     Request {
-        mode: mode_word(rt),
+        mode: mode_of(rt),
         budget: budget(rt),
         progress: progress(rt),
     }

@@ -1,141 +1,108 @@
 // The openings that win, page by page.
+use crate::ask::{Mode, Request};
+use crate::opening::{Opening, group};
 use crate::room::{ENTRIES, OUTPUT_WORDS, PLACES};
-use crate::{opening, said};
-use listing::Paged;
+use crate::said;
+use listing::Page;
+use words::Refusal;
 
-const COUNT_MOST: u64 = 4294967295;
-
-// The budget of an opening's search has 32 bits; a larger one is the largest of these.
-fn budget_of(budget: u64) -> u32 {
-    if budget < COUNT_MOST {
-        budget as u32
-    } else {
-        COUNT_MOST as u32
-    }
-}
-
-// How far the pages have come: how many openings have won, where the next page begins, and whether there is one.
+// How far the pages have come: how many openings have won, and where the next page begins.
 #[derive(Clone, Copy)]
-struct Listed {
+struct Place {
     count: u64,
     next: u32,
-    more: bool,
 }
 
-// Writes the openings of a page.
-fn lines(rt: &impl Print, block: &[i32], output: &[u32; OUTPUT_WORDS], entries: u32) {
-    let prefix = formula::prefix(block);
-    let k = opening::group(prefix);
-    let mut i = 0;
-    while i < ENTRIES && i < entries as usize {
-        opening::write(rt, prefix, k, output[2 * i]);
-        i += 1;
-    }
+// What a page is lent.
+#[derive(Drop)]
+struct Sheet {
+    literals: [i32; PLACES],
+    kinds: [u8; PLACES],
+    output: [u32; OUTPUT_WORDS],
 }
 
 // The last line: what all pages together have come to, and where they have paused.
-fn last(rt: &impl Print, block: &[i32], count: u64, next: u32, paused: bool) {
-    if !paused {
+fn end(rt: &impl Print, block: &[i32], place: Place, paused: bool) {
+    let Place { count, next } = place;
+    if paused {
+        let opening = Opening {
+            group: group(block),
+            number: next,
+        };
+        said::paused(rt, count, opening);
+    } else {
         said::all(rt, count);
-        return;
     }
-    let prefix = formula::prefix(block);
-    said::paused(rt, count, next);
-    opening::write(rt, prefix, opening::group(prefix), next);
 }
 
-// Only a page that is full leaves more to ask for.
-fn after(
-    rt: &impl Print,
-    block: &[i32],
-    old: u64,
-    next: u32,
-    entries: u32,
-    paused: bool,
-) -> Listed {
-    let count = std::num::wrapping_add_u64(old, entries as u64);
-    let more = !paused && ENTRIES <= entries as usize;
-    if !more {
-        last(rt, block, count, next, paused);
-    }
-    Listed { count, next, more }
-}
-
-fn page(
-    rt: &impl Print,
-    block: &[i32],
-    literals: &mut [i32; PLACES],
-    kinds: &mut [u8; PLACES],
-    output: &mut [u32; OUTPUT_WORDS],
-    from: Listed,
-    budget: u32,
-    shown: bool,
-) -> Listed {
-    let answer = listing::page(block, literals, kinds, from.next, &[0], budget, output);
-    match answer {
-        Paged::Page {
-            next,
-            entries,
-            paused,
-        } => {
-            if shown {
-                lines(rt, block, output, entries);
-            }
-            after(rt, block, from.count, next, entries, paused)
-        }
-        Paged::Refused(number) => {
-            said::refused(rt, number);
-            Listed {
-                count: 0,
-                next: 0,
-                more: false,
-            }
+impl Sheet {
+    // Writes the openings of a page. An entry is the opening's number and a second word.
+    fn write(&self, rt: &impl Print, block: &[i32], entries: u32) {
+        let group = group(block);
+        let (all, _) = self.output.as_chunks::<2>();
+        for &[number, _] in all.iter().take(entries as usize) {
+            said::winner(rt, Opening { group, number });
         }
     }
+
+    // The budget of an opening's search has 32 bits; a larger one is the largest of these.
+    fn fill(&mut self, block: &[i32], start: u32, budget: u64) -> Result<Page, Refusal> {
+        listing::page(
+            block,
+            &mut self.literals,
+            &mut self.kinds,
+            start,
+            &[0],
+            u32::try_from(budget).unwrap_or(u32::MAX),
+            &mut self.output,
+        )
+    }
+
+    // Where there is a page behind this one, how far the pages have come: only one that is full leaves more to ask for.
+    fn page(
+        &mut self,
+        rt: &(impl Print + Eprint),
+        block: &[i32],
+        from: Place,
+        request: Request,
+    ) -> Option<Place> {
+        match self.fill(block, from.next, request.budget) {
+            Ok(page) => {
+                if matches!(request.mode, Mode::List) {
+                    self.write(rt, block, page.entries);
+                }
+                let place = Place {
+                    count: from.count.wrapping_add(u64::from(page.entries)),
+                    next: page.next,
+                };
+                said::progress(rt, u64::from(page.next), request.progress);
+                if !page.paused && ENTRIES <= page.entries as usize {
+                    return Some(place);
+                }
+                end(rt, block, place, page.paused);
+                None
+            }
+            Err(refusal) => {
+                said::refused(rt, refusal);
+                said::progress(rt, 0, request.progress);
+                None
+            }
+        }
+    }
 }
 
-// The loop counts its turns down, from a number that no run uses up.
-fn pages(
-    rt: &(impl Print + Eprint),
-    block: &[i32],
-    literals: &mut [i32; PLACES],
-    kinds: &mut [u8; PLACES],
-    output: &mut [u32; OUTPUT_WORDS],
-    budget: u32,
-    shown: bool,
-    progress: bool,
-) {
-    let mut listed = Listed {
-        count: 0,
-        next: 0,
-        more: true,
+// A proved loop has to end: this one has more turns than any run uses up.
+pub(crate) fn winners(rt: &(impl Print + Eprint), block: &[i32], request: Request) {
+    let mut sheet = Sheet {
+        literals: [0; PLACES],
+        kinds: [0; PLACES],
+        output: [0; OUTPUT_WORDS],
     };
-    let mut turns = u64::MAX;
-    while 0 < turns && listed.more {
-        turns -= 1;
-        listed = page(rt, block, literals, kinds, output, listed, budget, shown);
-        said::progress(rt, listed.next as u64, progress);
+    let mut place = Place { count: 0, next: 0 };
+    for _ in 0..u64::MAX {
+        match sheet.page(rt, block, place, request) {
+            Some(next) => place = next,
+            None => return,
+        }
     }
-}
-
-pub(crate) fn winners(
-    rt: &(impl Print + Eprint),
-    block: &[i32],
-    budget: u64,
-    shown: bool,
-    progress: bool,
-) {
-    let mut literals = [0; PLACES];
-    let mut kinds = [0; PLACES];
-    let mut output = [0; OUTPUT_WORDS];
-    pages(
-        rt,
-        block,
-        &mut literals,
-        &mut kinds,
-        &mut output,
-        budget_of(budget),
-        shown,
-        progress,
-    );
 }

@@ -3,7 +3,6 @@
 
 mod ask; // what the arguments ask for
 mod intake; // the text, read into a block
-mod line; // a line of literals, byte by byte
 mod list; // the openings that win
 mod opening; // the literals of an opening
 mod room; // how large the buffers are
@@ -13,7 +12,8 @@ mod witness; // what an ended session shows
 
 use ask::{Mode, Request};
 use room::BLOCK_WORDS;
-use text::Answer;
+use text::Unread;
+use words::Refusal;
 
 // The refusals of a text that tell more than their number.
 const MISFIT: u32 = 27;
@@ -21,22 +21,25 @@ const MISFIT: u32 = 27;
 const ROW: u32 = 31;
 
 fn serve(rt: &(impl Print + Eprint), asked: Request, block: &[i32]) {
-    let mode = asked.mode;
-    match mode {
-        Mode::Solve => run::solve(rt, block, asked.budget, asked.progress),
+    match asked.mode {
+        Mode::Solve => run::solve(rt, block, asked),
         Mode::Plain => said::opinion(rt, block, plain::solve(block)),
-        Mode::List => list::winners(rt, block, asked.budget, true, asked.progress),
-        Mode::Count => list::winners(rt, block, asked.budget, false, asked.progress),
+        Mode::List | Mode::Count => list::winners(rt, block, asked),
         Mode::Unknown => said::usage(rt),
     }
 }
 
-fn answer(rt: &(impl Print + Eprint), asked: Request, block: &[i32; BLOCK_WORDS], reading: Answer) {
+fn answer(
+    rt: &(impl Print + Eprint),
+    asked: Request,
+    block: &[i32; BLOCK_WORDS],
+    reading: Result<usize, Unread>,
+) {
     match reading {
-        Answer::Accepted(length) => serve(rt, asked, words::take(block, length)),
-        Answer::Misfit(place) => said::refused_at(rt, MISFIT, place),
-        Answer::Refused(number) => said::refused(rt, number),
-        Answer::Row(row) => said::refused_at(rt, ROW, row as u64),
+        Ok(length) => serve(rt, asked, words::take(block, length)),
+        Err(Unread::Misfit(place)) => said::refused_at(rt, MISFIT, place),
+        Err(Unread::Refused(refusal)) => said::refused(rt, refusal),
+        Err(Unread::Row(Refusal(row))) => said::refused_at(rt, ROW, u64::from(row)),
     }
 }
 

@@ -1,65 +1,48 @@
 // The literals of an opening.
-ghost use Rattle.std.specs.Prelude.{◌≡◌, ◌-◌, ◌/◌, ◌%◌, ◌^◌, ◌<◌, ◌≤◌, pos, neg_ℤ, if◌then◌else◌, ◌==◌, slice_index_or};
+ghost use Rattle.std.specs.Prelude.{◌≡◌, ◌-◌, ◌<◌, ◌≤◌, ◌^◌, ◌/◌, ◌%◌, ◌==◌, length, pos, slice_index_or};
 ghost use Rattle.formula.specs.Limits.{max_group};
 ghost use Rattle.listing.specs.Opening.{value_at};
 
-use crate::line;
-use crate::room::LINE_BYTES;
 use formula::MAX_GROUP;
+use std::fmt;
 
-// A literal, as it is written: a minus or none, and the variable.
+// [group.first] The first group, which is existential and has at most 20 variables where a page is accepted.
+pub(crate) fn group(block: &[i32]) -> &[i32]
+    ensures { length result.now ≤ max_group }
+{
+    let prefix = formula::prefix(block);
+    words::take(prefix, listing::first_group(prefix).min(MAX_GROUP))
+}
+
+// An opening, by its number: printed as the literals that it gives to the first group, a line's 0 behind them.
 #[derive(Clone, Copy)]
-struct Value {
-    negative: bool,
-    variable: usize,
+pub(crate) struct Opening<'a> {
+    pub(crate) group: &'a [i32],
+    pub(crate) number: u32,
+    ghost within: { length group.now ≤ max_group },
 }
 
-// Whether a number has a 1 at a place; place 0 is the lowest bit.
-fn has_one(n: u32, place: usize) -> bool
-    requires { place < max_group }
-    ensures { result ≡ (n / 2 ^ place % 2 == 1) }
-{
-    (n >> place) % 2 == 1
-}
-
-// [opening.bits] The literal that the opening n gives to the variable at an index of the first group, which has k of them.
-fn literal_of(prefix: &[i32], k: usize, i: usize, n: u32) -> Value
-    requires k_le_max_group { k ≤ max_group }
-    requires i_lt_k { i < k }
-    ensures { (if result.negative then neg_ℤ (pos result.variable) else pos result.variable) ≡ value_at n (k - 1 - i) (slice_index_or prefix.now i (pos 0)) }
-{
-    let one = has_one(n, k - 1 - i);
-    Value {
-        negative: !one,
-        variable: words::size_at(prefix, i),
-    }
-}
-
-// [group.first] The size of the first group, which is existential and has at most 20 variables where a page is accepted.
-pub(crate) fn group(prefix: &[i32]) -> usize
-    ensures { result ≤ max_group }
-{
-    let mut k = 0;
-    while k < MAX_GROUP && k < prefix.len() {
-        if words::negative_at(prefix, k) {
-            return k;
+impl Opening<'_> {
+    // [opening.bits] The literal that it gives to the variable at an index of the first group, whose last one has the lowest bit.
+    fn literal_at(&self, i: usize) -> i64
+        requires { i < length self.now.group.now }
+        ensures { result ≡ value_at self.now.number (length self.now.group.now - 1 - i) (slice_index_or self.now.group.now i (pos 0)) }
+    {
+        let variable = words::size(self.group[i]) as i64;
+        let place = self.group.len() - 1 - i;
+        if (self.number >> place) % 2 == 1 {
+            variable
+        } else {
+            -variable
         }
-        k += 1;
     }
-    k
 }
 
-// Writes the literals of the opening n as a line.
-pub(crate) fn write(rt: &impl Print, prefix: &[i32], k: usize, n: u32)
-    requires { k ≤ max_group }
-{
-    let mut line = [0; LINE_BYTES];
-    let mut at = 0;
-    let mut i = 0;
-    while i < k {
-        let literal = literal_of(prefix, k, i, n);
-        at = line::put_literal(&mut line, at, literal.negative, literal.variable);
-        i += 1;
+impl fmt::Display for Opening<'_> {
+    fn fmt<W: fmt::Write>(&self, f: &mut fmt::Formatter<W>) -> fmt::Result {
+        for i in 0..self.group.len() {
+            write!(f, "{} ", self.literal_at(i))?;
+        }
+        f.write_str("0")
     }
-    line::send(rt, &mut line, at);
 }

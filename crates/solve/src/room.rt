@@ -17,6 +17,3 @@ pub(crate) const PIECE_BYTES: usize = 65536;
 pub(crate) const ENTRIES: usize = 4096;
 
 pub(crate) const OUTPUT_WORDS: usize = 2 * ENTRIES;
-
-// A line of literals: at most 20 of them, each with a sign, four digits and a space.
-pub(crate) const LINE_BYTES: usize = 128;

@@ -1,7 +1,8 @@
 -- The table of levels: the words left begin at the level reached, and no word passed stands again.
 use mathlib.Core.Path.{◌≡◌, refl, sym, ◌∙◌}
 use mathlib.Core.Logic.{◌⊎◌, inl, inr}
-use mathlib.Core.Bool.{Bool, true, false, cond, beq, or-false}
+use mir.Val.{bool_byte}
+use mathlib.Core.Bool.{Bool, true, false, not, cond, beq, or-false}
 use mathlib.Core.List.{List}
 use Prim.Native.Nat.{ℕ, ◌+◌, ◌≤◌, ◌<◌}
 use native.Mathlib.Decide.{ℕ_discrete}
@@ -27,9 +28,13 @@ pub change_last : (q : ℤ) (p : List ℤ) (i : ℕ) → length p ≤ i + 1 → 
 unfolding change
 change_last q p i h = rw (ended p (i + 1) h)
 
-pub change_next : (q : ℤ) (p : List ℤ) (i : ℕ) → i + 1 < length p → (a b t : Bool) → a ≡ negative q → b ≡ negative (get_or p (i + 1) (pos 0)) → beq a b ≡ t → change q (drop (i + 1) p) ≡ cond t 0 1
+pub change_next : (q : ℤ) (p : List ℤ) (i : ℕ) → i + 1 < length p → (a b : Bool) → a ≡ negative q → b ≡ negative (get_or p (i + 1) (pos 0)) → bool_byte (not (beq a b)) ≡ change q (drop (i + 1) p)
 unfolding change
-change_next q p i h a b t one two flag = rw (next p (i + 1) (pos 0) h, ← one, ← two, flag)
+change_next q p i h a b one two = rw (next p (i + 1) (pos 0) h, ← one, ← two) (go (beq a b))
+  where
+    go : (t : Bool) → bool_byte (not t) ≡ cond t 0 1
+    go true = refl
+    go false = refl
 
 -- ---- the levels of a prefix p, up to i
 pub record Levelled (p : List ℤ) (t : List ℕ) (level i : ℕ) : Type 0 where

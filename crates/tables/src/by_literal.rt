@@ -5,20 +5,19 @@ ghost use Rattle.tables.specs.Promises.{FillPromise};
 ghost use Rattle.tables.specs.Inner.ByLiteral.{status_of, Blank};
 
 use formula::{LITERAL_PLACES, MIDDLE};
-use record::{PLACES, sign_at};
+use record::{PLACES, sign};
 
 // What a literal is to its clause, by its variable's value and quantifier and the literal's sign: 0 false, 1 true,
-// 2 unassigned existential, 3 unassigned universal.
+// 2 unassigned existential, 3 unassigned universal. A number, as the lent table holds it.
 fn status_of(value: u8, quantifier: u8, sign: u8) -> u8
     ensures { result ≡ status_of value quantifier sign }
 {
-    if value == 0 {
-        if quantifier == 2 {
-            return 3;
-        }
-        return 2;
+    match (value, quantifier) {
+        (0, 2) => 3,
+        (0, _) => 2,
+        _ if value == sign => 1,
+        _ => 0,
     }
-    if value == sign { 1 } else { 0 }
 }
 
 // Writes what each literal of the prefix's variables is to its clause.
@@ -27,13 +26,11 @@ pub fn fill(prefix: &[i32], values: &[u8; PLACES], statuses: &mut [u8; LITERAL_P
     requires blank { Blank statuses.old }
     ensures { FillPromise prefix.now values.now statuses.new }
 {
-    let mut i = 0;
-    while i < prefix.len() {
-        let v = words::size_at(prefix, i);
-        let quantifier = sign_at(prefix, i);
+    for word in prefix {
+        let v = words::size(*word);
         let value = values[v];
+        let quantifier = sign(*word);
         statuses[MIDDLE + v] = status_of(value, quantifier, 1);
         statuses[MIDDLE - v] = status_of(value, quantifier, 2);
-        i += 1;
     }
 }

@@ -17,14 +17,9 @@ fn change_at(prefix: &[i32], i: usize) -> u16
     requires { i < length prefix.now }
     ensures { result ≡ change (get_or prefix.now i (pos 0)) (drop (i + 1) prefix.now) }
 {
-    let next = i + 1;
-    if prefix.len() <= next {
-        return 0;
-    }
-    if words::negative_at(prefix, i) == words::negative_at(prefix, next) {
-        0
-    } else {
-        1
+    match prefix.get(i + 1) {
+        Some(next) => u16::from(words::negative(prefix[i]) != words::negative(*next)),
+        None => 0,
     }
 }
 
@@ -35,12 +30,9 @@ fn levels_of(prefix: &[i32]) -> [u16; PLACES]
 {
     let mut levels = [0u16; PLACES];
     let mut level: u16 = 0;
-    let mut i = 0;
-    while i < prefix.len() {
-        let v = words::size_at(prefix, i);
-        levels[v] = level;
+    for (i, word) in prefix.iter().enumerate() {
+        levels[words::size(*word)] = level;
         level += change_at(prefix, i);
-        i += 1;
     }
     levels
 }

@@ -6,5 +6,5 @@ pub mod Block
 pub mod Rows
 pub mod Settled
 pub mod Turns
-pub mod Wiped
+pub mod Passed
 pub mod Exits

@@ -1,6 +1,7 @@
 -- The theorems on an accepted text. [text.accepted] What stands in the output is the block of the tree that the bytes spell, `check` accepts it, and past
 -- it all is 0. [text.meaning] The block's formula is as true as the text's own, which is made from the tree alone.
-use Rattle.std.specs.Prelude.{◌≡◌, refl, ◌⊎◌, Bool, true, false, not, ◌||◌, ℕ, zero, suc, ◌+◌, ℤ, neg_ℤ, nat_abs, length}
+use Rattle.std.specs.Prelude.{◌≡◌, refl, ◌⊎◌, false, not, ℕ, zero, suc, ◌+◌, ℤ, neg_ℤ, nat_abs, length, Ok}
+use Rattle.std.proofs.Math.Bool.{or_self}
 use Rattle.std.proofs.Common.{sym, ◌∙◌, inl, inr, arith}
 use mathlib.Core.List.{List, [], ◌∷◌, ◌++◌}
 use Rattle.words.specs.Laws.Bools.{clash, and_r, not_t, or_fl, or_fr, eqb_i}
@@ -14,12 +15,10 @@ use Rattle.formula.specs.Limits.{Limits}
 use Rattle.formula.specs.Formula.{formula_of}
 use Rattle.formula.specs.Truth.{asked, truth, true?}
 use Rattle.formula.specs.Block.{names, refusal}
-use Rattle.text.specs.declared.Answer.{Answer}
-use Rattle.text.specs.declared.Answer.TheVariants.{Accepted, Misfit, Refused, Row as AtRow}
 use Rattle.grammar.specs.Grammar.{Text}
 use Rattle.grammar.specs.Reads.{Read, spelled, misfit, reads}
 use Rattle.laid.specs.Block.{those, free, idle, completed}
-use Rattle.text.specs.Tree.{words_of, literals_of, ends_of, block_of, text_refusal, row_of, tree_rows, zeros, filled, text_of, answered, read_of, own_formula}
+use Rattle.text.specs.Tree.{Reading, misfit_at, text_refused, block_refused, words_of, literals_of, ends_of, block_of, text_refusal, row_of, tree_rows, zeros, filled, text_of, answered, read_of, own_formula}
 use Rattle.grammar.proofs.Spelled.{reads_right}
 use Rattle.laid.specs.Laws.Completed.{those_in, completed_length}
 use Rattle.laid.specs.Laws.Parts.{laid_length}
@@ -50,10 +49,6 @@ clauses_same (c ∷ cs) σ w h =
 pub record Idle (cs : List (List ℤ)) (w : ℤ) : Type 0 where
   pub some : negative w ≡ false
   pub unnamed : any (names (nat_abs w)) (literals_of cs) ≡ false
-
-or_self : (b : Bool) → (b || b) ≡ b
-or_self true = refl
-or_self false = refl
 
 idle_last : (cs : List (List ℤ)) (ws σ : List ℤ) → ((w : ℤ) → In w ws → Idle cs w) → truth ws cs σ ≡ all (any (λ l. mem l σ)) cs
 unfolding truth asked
@@ -94,24 +89,24 @@ tree_passes L t room f e =
     tree_rows_lem t.variables (words_of t.groups) t.clauses b.known b.once L f.variables f.clauses f.literals ∙ rw (b.known, b.once) at r
 
 -- an answer by its cases: accepted is neither a misfit nor a number
-no_answer {ℓ} : {A : Type ℓ} {n m : ℕ} → Misfit m ≡ Accepted n → A
+no_answer {ℓ} : {A : Type ℓ} {n m : ℕ} → misfit_at m ≡ Ok n → A
 no_answer e = let z : ◌≡◌ {A = ℕ} 0 1 = cc in absurd (omega arith)
 
-module _ (a : Answer) (m z : List ℤ) where
-  passed_both : (n table row : ℕ) → (unless Refused table z (unless AtRow row z (outcome a m))).answer ≡ Accepted n
-      → (table ≡ 0) × (row ≡ 0) × (a ≡ Accepted n) × ((unless Refused table z (unless AtRow row z (outcome a m))).memory ≡ m)
+module _ (a : Reading) (m z : List ℤ) where
+  passed_both : (n table row : ℕ) → (unless text_refused table z (unless block_refused row z (outcome a m))).answer ≡ Ok n
+      → (table ≡ 0) × (row ≡ 0) × (a ≡ Ok n) × ((unless text_refused table z (unless block_refused row z (outcome a m))).memory ≡ m)
   passed_both n zero zero e = (refl, refl, e, refl)
   passed_both n zero (suc r) e = let z : ◌≡◌ {A = ℕ} 0 1 = cc in absurd (omega arith)
   passed_both n (suc k) r e = let z : ◌≡◌ {A = ℕ} 0 1 = cc in absurd (omega arith)
 
-pub accepted_text : (L : Limits) (bs : List ℕ) (o : List ℤ) (n : ℕ) → (read_of L bs o).answer ≡ Accepted n → AcceptedText L bs o n
+pub accepted_text : (L : Limits) (bs : List ℕ) (o : List ℤ) (n : ℕ) → (read_of L bs o).answer ≡ Ok n → AcceptedText L bs o n
 unfolding read_of answered text_of
 accepted_text L bs o n e = by (reads bs) refl e
   where
-    by : (r : Read) → reads bs ≡ r → (answered L r o).answer ≡ Accepted n → AcceptedText L bs o n
+    by : (r : Read) → reads bs ≡ r → (answered L r o).answer ≡ Ok n → AcceptedText L bs o n
     by (misfit i) h e = no_answer e
     by (spelled t) h e =
-        let (k, r, a, m) = passed_both (Accepted (6 + t.variables + length t.clauses + length (literals_of t.clauses))) (filled (block_of t) o) (zeros (length o)) n (text_refusal L t (length o)) (row_of t) e in
+        let (k, r, a, m) = passed_both (Ok (6 + t.variables + length t.clauses + length (literals_of t.clauses))) (filled (block_of t) o) (zeros (length o)) n (text_refusal L t (length o)) (row_of t) e in
         let b = bound t r in
         let long : length (block_of t) ≡ n = block_length t b ∙ cc in
         record {
@@ -125,16 +120,16 @@ accepted_text L bs o n e = by (reads bs) refl e
 
 -- ---- [text.wiped] a text that is not accepted leaves all of the output 0
 module _ (k : ℕ) (m z : List ℤ) where
-  accepted_else : (table row : ℕ) → let u = unless Refused table z (unless AtRow row z (outcome (Accepted k) m)) in ((n : ℕ) × (u.answer ≡ Accepted n)) ⊎ (u.memory ≡ z)
+  accepted_else : (table row : ℕ) → let u = unless text_refused table z (unless block_refused row z (outcome (Ok k) m)) in ((n : ℕ) × (u.answer ≡ Ok n)) ⊎ (u.memory ≡ z)
   accepted_else zero zero = inl (k, refl)
   accepted_else zero (suc r) = inr refl
   accepted_else (suc t) r = inr refl
 
-pub accepted_or_wiped : (L : Limits) (bs : List ℕ) (o : List ℤ) → ((n : ℕ) × ((read_of L bs o).answer ≡ Accepted n)) ⊎ ((read_of L bs o).memory ≡ zeros (length o))
+pub accepted_or_wiped : (L : Limits) (bs : List ℕ) (o : List ℤ) → ((n : ℕ) × ((read_of L bs o).answer ≡ Ok n)) ⊎ ((read_of L bs o).memory ≡ zeros (length o))
 unfolding read_of answered text_of
 accepted_or_wiped L bs o = by (reads bs)
   where
-    by : (r : Read) → ((n : ℕ) × ((answered L r o).answer ≡ Accepted n)) ⊎ ((answered L r o).memory ≡ zeros (length o))
+    by : (r : Read) → ((n : ℕ) × ((answered L r o).answer ≡ Ok n)) ⊎ ((answered L r o).memory ≡ zeros (length o))
     by (misfit i) = inr refl
     by (spelled t) =
         accepted_else (6 + t.variables + length t.clauses + length (literals_of t.clauses)) (filled (block_of t) o) (zeros (length o)) (text_refusal L t (length o)) (row_of t)

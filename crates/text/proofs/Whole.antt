@@ -1,5 +1,5 @@
 -- The theorem on pieces: begin, any pieces in turn and end answer what reading their concatenation answers, and leave the same output. [text.pieces]
-use Rattle.std.specs.Prelude.{◌≡◌, refl, ◌⊎◌, true, false, List, [], ◌∷◌, ◌++◌, ℕ, ◌+◌, ℤ, length}
+use Rattle.std.specs.Prelude.{◌≡◌, refl, ◌⊎◌, true, false, List, [], ◌∷◌, ℕ, ◌+◌, ℤ, length}
 use Rattle.std.proofs.Common.{sym, ◌∙◌, ap, inl, inr}
 use native.Mathlib.Omega.{arith}
 use Rattle.words.specs.Laws.Bools.{look}
@@ -7,16 +7,15 @@ use Rattle.words.specs.Outcomes.{Outcome, outcome}
 use Rattle.formula.specs.Limits.{Limits, limits}
 use Rattle.reader.specs.declared.Kept.{Kept}
 use Rattle.reader.specs.declared.Reader.{Reader}
-use Rattle.text.specs.declared.Answer.{Answer}
 use Rattle.grammar.specs.Machine.{Event, fresh, start, trace}
 use Rattle.grammar.specs.Events.{heard, hear_say}
 use Rattle.grammar.specs.Reads.{taken, reads}
-use Rattle.text.specs.Tree.{text_of, answered, read_of}
+use Rattle.text.specs.Tree.{Reading, text_of, answered, read_of}
 use Rattle.reader.specs.Keep.{capped, keeps}
-use Rattle.reader.specs.Byte.{byte_of}
 use Rattle.text.specs.Pieces.{piece_of, nothing_kept, begun, settled, end_of, in_pieces, whole}
 use Rattle.grammar.proofs.Laws.Left.{sound}
 use Rattle.grammar.proofs.Laws.Viable.{fresh_state}
+pub use Rattle.text.proofs.Laws.Turns.{cut}
 use Rattle.text.proofs.Laws.Followed.{Followed, followed}
 use Rattle.reader.proofs.Laws.Kept.{keeps_length}
 use Rattle.text.proofs.Laws.Kept.{tree_kept_lem, tree_kept, tree_output}
@@ -24,18 +23,13 @@ use Rattle.text.proofs.Laws.Rows.{Hidden, limits_hidden}
 use Rattle.text.proofs.Laws.Settled.{settled_is}
 
 -- ---- however a text is cut
-pub cut : (xs ys : List ℕ) (r : Reader) (o : List ℤ) → piece_of (xs ++ ys) r o ≡ piece_of ys (piece_of xs r o).answer (piece_of xs r o).memory
-unfolding piece_of
-cut [] ys r o = refl
-cut (x ∷ xs) ys r o = cut xs ys (byte_of r o x).answer (byte_of r o x).memory
-
 pub however_cut : (ps : List (List ℕ)) (r : Reader) (o : List ℤ) → in_pieces ps r o ≡ piece_of (whole ps) r o
 unfolding in_pieces whole piece_of
 however_cut [] r o = refl
 however_cut (p ∷ ps) r o = however_cut ps (piece_of p r o).answer (piece_of p r o).memory ∙ sym (cut p (whole ps) r o)
 
 -- ---- a whole text
-abbrev pub ended : Limits → Outcome (List ℤ) Reader → Outcome (List ℤ) Answer
+abbrev pub ended : Limits → Outcome (List ℤ) Reader → Outcome (List ℤ) Reading
 ended L r = end_of L r.answer r.memory
 
 module _ (L : Limits) (hidden : Hidden L) (bs : List ℕ) (o : List ℤ) where

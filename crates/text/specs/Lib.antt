@@ -10,3 +10,5 @@ pub mod Promises
 pub mod Inner
 -- what is claimed of an accepted text
 pub mod Accepted
+-- what a refused call of any answer leaves
+pub mod Refused

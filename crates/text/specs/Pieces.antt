@@ -1,5 +1,5 @@
 -- A text in pieces: the state before the first byte, what many bytes do to it and to the output, and what is answered at the end. For any state and output.
-use Rattle.std.specs.Prelude.{ℕ, ◌+◌, min, false, cond, ◌||◌, List, [], ◌∷◌, ◌++◌, ltb, ℤ, length, take, drop}
+use Rattle.std.specs.Prelude.{ℕ, ◌+◌, min, false, cond, ◌||◌, List, [], ◌∷◌, ◌++◌, ltb, ℤ, length, take, drop, Ok}
 use Rattle.words.specs.Lists.{any}
 use Rattle.words.specs.Rows.{row, refusal_of}
 use Rattle.words.specs.Outcomes.{Outcome, outcome, unless}
@@ -7,12 +7,10 @@ use Rattle.formula.specs.Limits.{Limits}
 use Rattle.formula.specs.Block.{no_variable, twice, rows}
 use Rattle.reader.specs.declared.Kept.{Kept}
 use Rattle.reader.specs.declared.Reader.{Reader}
-use Rattle.text.specs.declared.Answer.{Answer}
-use Rattle.text.specs.declared.Answer.TheVariants.{Accepted, Misfit, Refused, Row as AtRow}
 use Rattle.grammar.specs.Machine.{fresh, start}
 use Rattle.reader.specs.Byte.{byte_of}
 use Rattle.laid.specs.Block.{laid}
-use Rattle.text.specs.Tree.{count_rows, zeros, filled}
+use Rattle.text.specs.Tree.{Reading, misfit_at, text_refused, block_refused, count_rows, zeros, filled}
 
 -- ---- many bytes
 unfoldable pub piece_of : List ℕ → Reader → List ℤ → Outcome (List ℤ) Reader
@@ -48,14 +46,14 @@ module _ (k : Kept) (o : List ℤ) where
       ∷ row 6 (ltb k.variables k.bound || twice kept_words)
       ∷ rows L kept_block)
 
-  unfoldable pub settled : Limits → Outcome (List ℤ) Answer
+  unfoldable pub settled : Limits → Outcome (List ℤ) Reading
   settled L =
-      unless Refused (refusal_of (count_rows L k.large k.variables k.count k.clauses k.literals (length o))) (zeros (length o))
-      (unless AtRow (kept_row L) (zeros (length o))
-      (outcome (Accepted (6 + k.variables + k.clauses + k.literals)) (filled kept_block o)))
+      unless text_refused (refusal_of (count_rows L k.large k.variables k.count k.clauses k.literals (length o))) (zeros (length o))
+      (unless block_refused (kept_row L) (zeros (length o))
+      (outcome (Ok (6 + k.variables + k.clauses + k.literals)) (filled kept_block o)))
 
-unfoldable pub end_of : Limits → Reader → List ℤ → Outcome (List ℤ) Answer
-end_of L r o = cond (fresh r.state) (settled r.kept o L) (outcome (Misfit r.at) (zeros (length o)))
+unfoldable pub end_of : Limits → Reader → List ℤ → Outcome (List ℤ) Reading
+end_of L r o = cond (fresh r.state) (settled r.kept o L) (outcome (misfit_at r.at) (zeros (length o)))
 
 -- ---- any number of pieces, one after the other
 unfoldable pub in_pieces : List (List ℕ) → Reader → List ℤ → Outcome (List ℤ) Reader

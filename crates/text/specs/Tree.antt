@@ -1,14 +1,14 @@
 -- What a text's tree says: its words, which rows refuse it, and the block that it gives.
-use Rattle.std.specs.Prelude.{ℕ, ◌+◌, ◌-◌, min, Bool, not, ◌||◌, List, [], ◌∷◌, ◌++◌, map, eqb, ltb, ℤ, pos, length, get_or, replicate}
+use Rattle.std.specs.Prelude.{ℕ, ◌+◌, ◌-◌, min, Bool, not, ◌||◌, List, [], ◌∷◌, ◌++◌, map, eqb, ltb, ℤ, pos, length, get_or, replicate, Result, Ok, Err}
 use Rattle.words.specs.Lists.{any}
 use Rattle.words.specs.Rows.{Row, row, refusal_of}
 use Rattle.words.specs.Words.{negative}
-use Rattle.words.specs.Outcomes.{Outcome, outcome, unless}
+use Rattle.words.specs.Outcomes.{Outcome, outcome, unless, by_row}
 use Rattle.formula.specs.Limits.{Limits}
 use Rattle.formula.specs.Formula.{Formula}
 use Rattle.formula.specs.Block.{no_variable, twice, both_signs, repeats}
-use Rattle.text.specs.declared.Answer.{Answer}
-use Rattle.text.specs.declared.Answer.TheVariants.{Accepted, Misfit, Refused, Row as AtRow}
+use Rattle.text.specs.declared.Unread.{Unread}
+use Rattle.text.specs.declared.Unread.TheVariants.{Misfit, Refused, Row as AtRow}
 use Rattle.grammar.specs.Grammar.{Group, Text}
 use Rattle.grammar.specs.Machine.{signed}
 use Rattle.reader.specs.Keep.{is_forall, beyond}
@@ -73,6 +73,19 @@ unfoldable pub row_of : Text → ℕ
 row_of t = refusal_of (tree_rows t.variables (words_of t.groups) t.clauses)
 
 -- ---- the whole call
+-- what reading answers: the block's length, or why there is none: [row.27] with a place, [row.28] to [row.30], [row.31] with a row of the block
+abbrev pub Reading : Type 0
+Reading = Result ℕ Unread
+
+abbrev pub misfit_at : ℕ → Reading
+misfit_at i = Err (Misfit i)
+
+abbrev pub text_refused : ℕ → Reading
+text_refused n = Err (Refused (by_row n))
+
+abbrev pub block_refused : ℕ → Reading
+block_refused n = Err (AtRow (by_row n))
+
 -- [text.wiped] a refused text leaves the output 0; past an accepted block it is 0 too
 abbrev pub zeros : ℕ → List ℤ
 zeros n = replicate n (pos 0)
@@ -80,17 +93,17 @@ zeros n = replicate n (pos 0)
 abbrev pub filled : List ℤ → List ℤ → List ℤ
 filled b o = b ++ zeros (length o - length b)
 
-unfoldable pub text_of : Limits → Text → List ℤ → Outcome (List ℤ) Answer
+unfoldable pub text_of : Limits → Text → List ℤ → Outcome (List ℤ) Reading
 text_of L t o =
-    unless Refused (text_refusal L t (length o)) (zeros (length o))
-    (unless AtRow (row_of t) (zeros (length o))
-    (outcome (Accepted (6 + t.variables + length t.clauses + length (literals_of t.clauses))) (filled (block_of t) o)))
+    unless text_refused (text_refusal L t (length o)) (zeros (length o))
+    (unless block_refused (row_of t) (zeros (length o))
+    (outcome (Ok (6 + t.variables + length t.clauses + length (literals_of t.clauses))) (filled (block_of t) o)))
 
-unfoldable pub answered : Limits → Read → List ℤ → Outcome (List ℤ) Answer
+unfoldable pub answered : Limits → Read → List ℤ → Outcome (List ℤ) Reading
 answered L (spelled t) o = text_of L t o
-answered L (misfit i) o = outcome (Misfit (min i last_place)) (zeros (length o))
+answered L (misfit i) o = outcome (misfit_at (min i last_place)) (zeros (length o))
 
-unfoldable pub read_of : Limits → List ℕ → List ℤ → Outcome (List ℤ) Answer
+unfoldable pub read_of : Limits → List ℕ → List ℤ → Outcome (List ℤ) Reading
 read_of L bs o = answered L (reads bs) o
 
 -- ---- [text.meaning] the text's own formula: free variables existential and outermost, then the lines, and of the idle ones none

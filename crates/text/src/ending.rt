@@ -1,31 +1,24 @@
 // A text's end: the rows in their order, the block, and what is wiped.
-ghost use Rattle.std.specs.Prelude.{◌≡◌, ◌||◌, not, ◌≤◌, min, eqb, length};
+#![tactic(auto, using(formula::specs::Laws::Limits::variables_are, formula::specs::Laws::Limits::clauses_are, formula::specs::Laws::Limits::literals_are, std::proofs::lemmas::Bool::Decides::nat_tests), unfolding(formula::specs::Check::checked_of))]
+
+ghost use Rattle.std.specs.Prelude.{◌≡◌, ◌||◌, not, ◌+◌, ◌≤◌, eqb, length, take, IfOk};
 ghost use Rattle.words.specs.Outcomes.{outcome};
 ghost use Rattle.words.specs.Rows.{refusal_of};
 ghost use Rattle.formula.specs.Limits.{limits};
+ghost use Rattle.formula.specs.Check.{checked_of};
 ghost use Rattle.text.specs.Tree.{count_rows};
-ghost use Rattle.text.specs.Pieces.{settled};
-ghost use Rattle.text.specs.Inner.Ending.{bound_rows, wiped, over_limit, judged};
+ghost use Rattle.text.specs.Pieces.{settled, kept_block};
+ghost use Rattle.text.specs.Inner.Ending.{bound_rows, over_limit};
 
-use crate::Answer;
+use crate::Unread;
 use reader::Kept;
+use words::Refusal;
 
-// All from a place on is 0.
-pub(crate) fn wipe(output: &mut [i32], from: usize)
-    ensures { output.new ≡ wiped output.old from }
+// How many words the block takes.
+fn block_length(kept: Kept) -> usize
+    ensures { result ≡ 6 + kept.variables + kept.clauses + kept.literals }
 {
-    let mut i = from;
-    while i < output.len() {
-        output[i] = 0;
-        i += 1;
-    }
-}
-
-// The lesser of two numbers.
-fn least(a: usize, b: usize) -> usize
-    ensures { result ≡ min a b }
-{
-    if a < b { a } else { b }
+    6 + kept.variables as usize + kept.clauses as usize + kept.literals as usize
 }
 
 // Whether a number is beyond 32 signed bits, or there are not as many clause lines as announced.
@@ -39,87 +32,69 @@ fn is_wrong(kept: Kept) -> bool
 fn over_limit(kept: Kept) -> bool
     ensures { result ≡ over_limit limits kept.variables kept.clauses kept.literals }
 {
-    if formula::MAX_VARIABLES < kept.variables as usize {
-        return true;
-    }
-    if formula::MAX_CLAUSES < kept.clauses as usize {
-        return true;
-    }
-    formula::MAX_LITERALS < kept.literals as usize
+    formula::MAX_VARIABLES < kept.variables as usize
+        || formula::MAX_CLAUSES < kept.clauses as usize
+        || formula::MAX_LITERALS < kept.literals as usize
 }
 
-// Rows 28 to 30, and 0 where none applies.
-fn count_row(kept: Kept, room: usize) -> u32
-    ensures { result ≡ refusal_of (count_rows limits kept.large kept.variables kept.count kept.clauses kept.literals room) }
+// Rows 28 to 30.
+fn check_counts(kept: Kept, room: usize) -> Result<(), Refusal>
+    ensures { result ≡ checked_of (refusal_of (count_rows limits kept.large kept.variables kept.count kept.clauses kept.literals room)) }
 {
     if is_wrong(kept) {
-        return 28;
+        return Err(Refusal(28));
     }
     if over_limit(kept) {
-        return 29;
+        return Err(Refusal(29));
     }
-    if room < 6 + kept.variables as usize + kept.clauses as usize + kept.literals as usize {
-        return 30;
+    if room < block_length(kept) {
+        return Err(Refusal(30));
     }
-    0
+    Ok(())
 }
 
-// Rows 5 and 6 of the bound words, and 0 where neither applies.
-fn bound_row(kept: Kept, ws: &[i32]) -> u32
+// Rows 5 and 6 of the bound words.
+fn check_bound(kept: Kept, ws: &[i32]) -> Result<(), Refusal>
     requires { kept.variables ≤ limits.variables }
-    ensures { result ≡ refusal_of (bound_rows kept ws.now) }
+    ensures { result ≡ checked_of (refusal_of (bound_rows kept ws.now)) }
 {
-    let variables = kept.variables;
-    if kept.over {
-        return 5;
+    if kept.over || formula::some_stranger(ws, kept.variables as usize) {
+        return Err(Refusal(5));
     }
-    if formula::some_stranger(ws, variables as usize) {
-        return 5;
+    if kept.variables < kept.bound || formula::variable_twice(ws) {
+        return Err(Refusal(6));
     }
-    if variables < kept.bound {
-        return 6;
-    }
-    if formula::variable_twice(ws) {
-        return 6;
-    }
-    0
+    Ok(())
 }
 
-// The answer of a block that stands in the output's first n words.
-fn judge(output: &mut [i32], n: usize) -> Answer
-    requires { n ≤ length output.old }
-    ensures { outcome result output.new ≡ judged limits output.old n }
+// The block's length, with the block in the output; where a row applies, the output is left half made.
+fn lay(kept: Kept, output: &mut [i32]) -> Result<usize, Unread>
+    ensures answer { result ≡ (settled kept output.old limits).answer }
+    ensures fits { IfOk result (λ n. n ≤ length output.new) }
+    ensures block { IfOk result (λ n. take n output.new ≡ kept_block kept output.old) }
 {
-    match formula::check(&output[0..n]) {
-        formula::Checked::Accepted => {
-            wipe(output, n);
-            Answer::Accepted(n)
-        }
-        formula::Checked::Refused(row) => {
-            wipe(output, 0);
-            Answer::Row(row)
-        }
-    }
+    check_counts(kept, output.len()).map_err(Unread::Refused)?;
+    let variables = kept.variables as usize;
+    let bound = (kept.bound as usize).min(variables);
+    check_bound(kept, words::take(words::drop(output, 6), bound)).map_err(Unread::Row)?;
+    laid::lay(
+        output,
+        variables,
+        bound,
+        kept.clauses as usize,
+        kept.literals as usize,
+    );
+    let n = block_length(kept);
+    formula::check(&output[..n]).map_err(Unread::Row)?;
+    Ok(n)
 }
 
-// The answer at a text's end, and the output that it leaves.
-pub(crate) fn settle(kept: Kept, output: &mut [i32]) -> Answer
+// The answer at a text's end, and the output that it leaves: 0 behind the block, or 0 alone.
+pub(crate) fn settle(kept: Kept, output: &mut [i32]) -> Result<usize, Unread>
     ensures { outcome result output.new ≡ settled kept output.old limits }
 {
-    let refused = count_row(kept, output.len());
-    if refused != 0 {
-        wipe(output, 0);
-        return Answer::Refused(refused);
-    }
-    let v = kept.variables as usize;
-    let c = kept.clauses as usize;
-    let t = kept.literals as usize;
-    let bound = least(kept.bound as usize, v);
-    let row = bound_row(kept, words::take(words::drop(output, 6), bound));
-    if row != 0 {
-        wipe(output, 0);
-        return Answer::Row(row);
-    }
-    laid::lay(output, v, bound, c, t);
-    judge(output, 6 + v + c + t)
+    let answer = lay(kept, output);
+    let stays = answer.unwrap_or(0);
+    output[stays..].fill(0);
+    answer
 }

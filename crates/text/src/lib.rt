@@ -5,37 +5,28 @@ ghost use Rattle.text.specs.Promises.{ReadPromise, BeginPromise, PiecePromise, E
 
 use grammar::{Place, State};
 use reader::{Kept, Reader};
+use words::Refusal;
 
 mod ending; // the answer at a text's end
 
-// What reading answers: the block's length; 27 with a byte's place; 28, 29 or 30; 31 with the row.
+// Why a text gives no block: 27, with the place of a byte; 28, 29 or 30; 31, with the row of the block.
 #[derive(Clone, Copy)]
-pub enum Answer {
-    Accepted(usize),
+pub enum Unread {
     Misfit(u64),
-    Refused(u32),
-    Row(u32),
+    Refused(Refusal),
+    Row(Refusal),
 }
 
 // Before the first byte.
+#[tactic(auto, unfolding(crate::specs::Pieces::begun))]
 pub fn begin() -> Reader
     ensures { BeginPromise result }
 {
-    let kept = Kept {
-        variables: 0,
-        count: 0,
-        universal: false,
-        bound: 0,
-        clauses: 0,
-        literals: 0,
-        large: false,
-        over: false,
-    };
     Reader {
         state: State::Before(Place::AtHead),
         number: 0,
         at: 0,
-        kept: kept,
+        kept: Kept::default(),
     }
 }
 
@@ -43,31 +34,27 @@ pub fn begin() -> Reader
 pub fn piece(reader: Reader, bytes: &[u8], output: &mut [i32]) -> Reader
     ensures { PiecePromise reader bytes.now output.old result output.new }
 {
-    let mut at = reader;
-    let mut i = 0;
-    while i < bytes.len() {
-        at = reader::take(at, bytes[i], output);
-        i += 1;
+    let mut reader = reader;
+    for b in bytes.iter().copied() {
+        reader = reader::take(reader, b, output);
     }
-    at
+    reader
 }
 
-// The answer, with the block in the output, or all of it 0.
-pub fn end(reader: Reader, output: &mut [i32]) -> Answer
+// The block's length, with the block in the output, or all of it 0.
+pub fn end(reader: Reader, output: &mut [i32]) -> Result<usize, Unread>
     ensures { EndPromise reader output.old result output.new }
 {
-    let state = reader.state;
-    let at = reader.at;
-    let kept = reader.kept;
-    if grammar::is_fresh(state) {
-        return ending::settle(kept, output);
+    if grammar::is_fresh(reader.state) {
+        ending::settle(reader.kept, output)
+    } else {
+        output.fill(0);
+        Err(Unread::Misfit(reader.at))
     }
-    ending::wipe(output, 0);
-    Answer::Misfit(at)
 }
 
 // A whole text: one piece.
-pub fn read(bytes: &[u8], output: &mut [i32]) -> Answer
+pub fn read(bytes: &[u8], output: &mut [i32]) -> Result<usize, Unread>
     ensures { ReadPromise bytes.now output.old result output.new }
 {
     end(piece(begin(), bytes, output), output)

@@ -7,6 +7,11 @@ ghost use Rattle.words.specs.Promises.{NegativePromise, SizePromise, OppositePro
 #[derive(Clone, Copy)]
 pub struct Literal(pub i32);
 
+// Why a call is refused: the number of the first row of its table that applies. A number and no variant for each row, since the number is what the
+// table, the theorems about which one is given, and the C interface speak of.
+#[derive(Clone, Copy)]
+pub struct Refusal(pub u32);
+
 // Whether a word is below zero.
 pub fn negative(x: i32) -> bool
     ensures { NegativePromise x result }
@@ -14,50 +19,42 @@ pub fn negative(x: i32) -> bool
     x < 0
 }
 
-// The least word, whose negation is no word.
-const LEAST: i32 = -2147483648;
-
-const LEAST_SIZE: usize = 2147483648;
-
-// A word's size. The least word is looked for first: it is never negated.
+// A word's size. The least word has one too.
 pub fn size(x: i32) -> usize
     ensures { SizePromise x result }
 {
-    if x == LEAST {
-        return LEAST_SIZE;
-    }
-    if x < 0 { (-x) as usize } else { x as usize }
+    x.unsigned_abs() as usize
 }
 
 // The opposite of a literal. The least word has none: it is answered with 0, which is no literal.
 pub fn opposite(x: i32) -> i32
     ensures { OppositePromise x result }
 {
-    if x == LEAST { 0 } else { -x }
+    x.checked_neg().unwrap_or(0)
 }
 
 // The size of the word at an index, and whether it is below zero. Past the end there is the word 0.
 pub fn size_at(ws: &[i32], i: usize) -> usize
     ensures { SizeAtPromise ws.now i result }
 {
-    if i < ws.len() { size(ws[i]) } else { 0 }
+    ws.get(i).map_or(0, |word| size(*word))
 }
 
 pub fn negative_at(ws: &[i32], i: usize) -> bool
     ensures { NegativeAtPromise ws.now i result }
 {
-    if i < ws.len() { negative(ws[i]) } else { false }
+    ws.get(i).is_some_and(|word| negative(*word))
 }
 
 // The first n words, and the words after them. Of a list with fewer there are as many as it has.
 pub fn take(ws: &[i32], n: usize) -> &[i32]
     ensures { TakePromise ws.now n result.now }
 {
-    if ws.len() <= n { ws } else { &ws[0..n] }
+    &ws[..n.min(ws.len())]
 }
 
 pub fn drop(ws: &[i32], n: usize) -> &[i32]
     ensures { DropPromise ws.now n result.now }
 {
-    if n < ws.len() { &ws[n..] } else { &ws[0..0] }
+    &ws[n.min(ws.len())..]
 }

@@ -1,21 +1,13 @@
 -- [demand.1.number] Which number writing is refused with, each exactly when its row applies; [write.leaves] and what a refused call leaves.
 use Rattle.std.specs.Prelude.{◌≡◌, List, [], ◌∷◌, ◌++◌, ℕ, ℤ, length}
 use Rattle.std.proofs.Math.Path.{refl}
-use Rattle.std.proofs.Common.{arith}
 use Rattle.words.specs.Lists.{In}
 use Rattle.words.specs.Rows.{Numbered}
 use Rattle.words.specs.Laws.Rows.{numbered, given}
-use Rattle.words.specs.Outcomes.{Left, unless_left}
+use Rattle.words.specs.Outcomes.{Left, unless_left, refused, ok_none}
 use Rattle.formula.specs.Limits.{Limits}
 use Rattle.formula.specs.Rows.{block_numbers}
-use Rattle.writer.specs.declared.Written.TheVariants.{Text as Wrote, Refused}
 use Rattle.writer.specs.Write.{write_rows, write_refusal, write_of}
-
-refused_told : (m n : ℕ) → Refused m ≡ Refused n → m ≡ n
-refused_told m n e = cc
-
-text_none : (n k : ℕ) → Wrote n ≡ Refused k → ⊥
-text_none n k e = let z : ◌≡◌ {A = ℕ} 0 1 = cc in omega arith
 
 module _ (L : Limits) (b : List ℤ) (o : List ℕ) where
   pub write_numbered : Numbered (write_rows L b (length o)) (write_refusal L b (length o))
@@ -26,6 +18,6 @@ module _ (L : Limits) (b : List ℤ) (o : List ℕ) where
   unfolding write_refusal
   write_gives = given (write_rows L b (length o))
 
-  pub write_refused_leaves : (n : ℕ) → let r = write_of L b o in r.answer ≡ Refused n → Left (write_refusal L b (length o)) n o r.memory
+  pub write_refused_leaves : (n : ℕ) → let r = write_of L b o in r.answer ≡ refused n → Left (write_refusal L b (length o)) n o r.memory
   unfolding write_of
-  write_refused_leaves n = unless_left Refused refused_told (write_refusal L b (length o)) o _ n (text_none _ n)
+  write_refused_leaves n = unless_left (write_refusal L b (length o)) o _ n (ok_none _ n)

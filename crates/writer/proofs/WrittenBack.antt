@@ -1,6 +1,6 @@
 -- The theorems on a block that was written. [write.back] Its text spells the tree of its own formula; read with room enough, it gives the same block, word
 -- for word; two accepted blocks with one text are one. [write.room] What room always suffices.
-use Rattle.std.specs.Prelude.{◌≡◌, ◌+◌, ◌*◌, ◌-◌, ◌≤◌, ℤ, pos, negsuc}
+use Rattle.std.specs.Prelude.{◌≡◌, ◌+◌, ◌*◌, ◌-◌, ◌≤◌, ℤ, pos, negsuc, Ok}
 use Rattle.std.proofs.Math.Path.{refl, ap}
 use Rattle.std.proofs.Common.{sym, ◌∙◌, arith}
 use Rattle.std.proofs.Math.Bool.{true, false}
@@ -22,7 +22,6 @@ use Rattle.grammar.specs.Grammar.{Text, Spells}
 use Rattle.grammar.proofs.Spelled.{reads_all, one_text}
 use Rattle.grammar.specs.Written.{written, problem_line, group_lines, clause_lines}
 use Rattle.grammar.proofs.Laws.Written.{spells_written}
-use Rattle.text.specs.declared.Answer.TheVariants.{Accepted as Answered}
 use Rattle.reader.specs.Keep.{beyond}
 use Rattle.text.specs.Tree.{words_of, numbers_of, literals_of, some_beyond, text_refusal, row_of, block_of, zeros, text_of, answered, read_of}
 use Rattle.writer.specs.Write.{groups_of, tree_of, written_of}
@@ -105,7 +104,7 @@ module _ (L : Limits) (b : List ℤ) (e : refusal L b ≡ 0) where
         let r = tree_rows_lem tree.variables (words_of tree.groups) tree.clauses known once L (omega (arith, tree_variables L b a, a.counts.variables.most)) (omega (arith, tree_count L b a, a.counts.clauses.most)) (omega (arith, t, a.counts.literals.most)) in
         rw (known, once) (sym r ∙ ap (refusal L) (block_back L b a) ∙ e)
 
-    pub written_read_back : read_of L (written_of b) o ≡ outcome (Answered (length b)) (b ++ zeros (length o - length b))
+    pub written_read_back : read_of L (written_of b) o ≡ outcome (Ok (length b)) (b ++ zeros (length o - length b))
     unfolding read_of answered text_of
     written_read_back =
         let v = tree_variables L b a in

@@ -1,16 +1,15 @@
 -- [write] A block written as a text: the tree of its formula, the bytes, and the whole call.
-use Rattle.std.specs.Prelude.{Bool, true, not, cond, List, [], ◌∷◌, ◌++◌, ℕ, ltb, ℤ, pos, negsuc, nat_abs, length, drop}
+use Rattle.std.specs.Prelude.{Bool, true, not, cond, List, [], ◌∷◌, ◌++◌, ℕ, ltb, ℤ, pos, negsuc, nat_abs, length, drop, Result, Ok}
 use Rattle.std.specs.Bool.{beq}
 use Rattle.words.specs.Rows.{Row, row, refusal_of}
 use Rattle.words.specs.Words.{negative}
-use Rattle.words.specs.Outcomes.{Outcome, outcome, unless}
+use Rattle.words.specs.declared.Refusal.{Refusal}
+use Rattle.words.specs.Outcomes.{Outcome, outcome, unless, refused}
 use Rattle.formula.specs.Limits.{Limits}
 use Rattle.formula.specs.Formula.{Formula, formula_of}
 use Rattle.formula.specs.Block.{rows}
 use Rattle.grammar.specs.Grammar.{Quantifier, forall, exists, Group, Text}
 use Rattle.grammar.specs.Written.{written}
-use Rattle.writer.specs.declared.Written.{Written}
-use Rattle.writer.specs.declared.Written.TheVariants.{Text as Wrote, Refused}
 
 -- ---- the tree of a formula
 abbrev pub quantifier_of : ℤ → Quantifier
@@ -49,5 +48,5 @@ write_refusal L b room = refusal_of (write_rows L b room)
 abbrev pub before : List ℕ → List ℕ → List ℕ
 before bs o = bs ++ drop (length bs) o
 
-unfoldable pub write_of : Limits → List ℤ → List ℕ → Outcome (List ℕ) Written
-write_of L b o = unless Refused (write_refusal L b (length o)) o (outcome (Wrote (length (written_of b))) (before (written_of b) o))
+unfoldable pub write_of : Limits → List ℤ → List ℕ → Outcome (List ℕ) (Result ℕ Refusal)
+write_of L b o = unless refused (write_refusal L b (length o)) o (outcome (Ok (length (written_of b))) (before (written_of b) o))

@@ -3,28 +3,18 @@
 
 ghost use Rattle.writer.specs.Promises.{WritePromise};
 
+use words::Refusal;
+
 mod writing; // the lines, byte by byte
 
-// What writing answers: the text's length, or the number of the first row that applies.
-#[derive(Clone, Copy)]
-pub enum Written {
-    Text(usize),
-    Refused(u32),
-}
-
-// A block's text in the output's first bytes, if it has room for all of it.
-pub fn write(block: &[i32], output: &mut [u8]) -> Written
+// A block's text in the output's first bytes, if it has room for all of it: how many bytes there are.
+pub fn write(block: &[i32], output: &mut [u8]) -> Result<usize, Refusal>
     ensures { WritePromise block.now output.old result output.new }
 {
-    match formula::check(block) {
-        formula::Checked::Refused(row) => Written::Refused(row),
-        formula::Checked::Accepted => {
-            let mut nowhere = [0u8; 1];
-            let length = writing::text(&mut nowhere, block);
-            if output.len() < length {
-                return Written::Refused(30);
-            }
-            Written::Text(writing::text(output, block))
-        }
+    formula::check(block)?;
+    let length = writing::text(&mut [], block);
+    if output.len() < length {
+        return Err(Refusal(30));
     }
+    Ok(writing::text(output, block))
 }

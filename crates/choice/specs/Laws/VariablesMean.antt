@@ -1,6 +1,6 @@
 -- What the searches by the tables mean: a variable is unassigned exactly if its place holds 0, and the lowest level of an unassigned variable is that
 -- of the first.
-use Rattle.std.specs.Prelude.{ℕ, suc, ◌≡◌, ◌⊎◌, Bool, ◌&&◌, ◌||◌, ℤ, pos, negsuc, neg_ℤ, nat_abs, length}
+use Rattle.std.specs.Prelude.{ℕ, suc, ◌≡◌, ◌⊎◌, Bool, ◌&&◌, ◌||◌, ℤ, pos, negsuc, neg_ℤ, nat_abs, length, Option, Some, None}
 use Rattle.std.proofs.Math.Path.{refl, ap, subst}
 use Rattle.std.proofs.Common.{sym, ◌∙◌, inl, inr, le_trans, arith, eq-eqb, ne_eqb, le-leb, leb-true}
 use Rattle.std.proofs.Math.Bool.{true, false, cond, not, or_comm}
@@ -21,8 +21,8 @@ use Rattle.formula.specs.Laws.Permuted.{all_bound, no_other}
 use Rattle.theory.specs.Record.{Assignment, assigned}
 use Rattle.theory.specs.Tests.{unassigned_existential, unassigned_universal, is_open, all_assigned}
 use Rattle.theory.proofs.Laws.First.{first_open_lem}
-use Rattle.record.specs.Found.{literal}
-use Rattle.choice.specs.First.{on_picked, first_of, first_unassigned}
+use Rattle.record.specs.Found.{literal, on_found}
+use Rattle.choice.specs.First.{first_of, first_unassigned}
 use Rattle.choice.specs.Preferred.{first_open}
 use Rattle.record.specs.Inner.Tables.{value_in, Values, places}
 use Rattle.tables.specs.Inner.Levels.{Levels}
@@ -32,8 +32,6 @@ use Rattle.choice.specs.Inner.Variables.{assigned_in, unassigned_in, lowest_in, 
 use Rattle.record.specs.Inner.Ready.{Bound}
 use Rattle.record.proofs.Laws.Good.{bare, bare_proper}
 use Rattle.choice.specs.Laws.Searches.{first_found, first_same, unassigned_none, unassigned_found}
-use Rattle.choice.specs.declared.found.Picked.{Picked}
-use Rattle.choice.specs.declared.found.Picked.TheVariants.{Is, NoLiteral}
 
 -- ---- values
 module _ (ρ : Assignment) (values : List ℕ) (said : Values ρ values) where
@@ -62,13 +60,13 @@ module _ (ρ : Assignment) (values : List ℕ) (said : Values ρ values) where
   unassigned_means p = first_same _ _ p (λ q i. rw (assigned_in_lem q))
 
 -- its variable is one of the list's
-pub unassigned_in_lem : (values : List ℕ) (p : List ℤ) (l : Literal) → first_of (unassigned_in values) p ≡ Is l → (q : ℤ) × In q p × (nat_abs l.0 ≡ nat_abs q)
+pub unassigned_in_lem : (values : List ℕ) (p : List ℤ) (l : Literal) → first_of (unassigned_in values) p ≡ Some l → (q : ℤ) × In q p × (nat_abs l.0 ≡ nat_abs q)
 unfolding unassigned_in
 unassigned_in_lem values p l e =
     let w = first_found _ p l e in
     (w.word, subst (λ (xs : List ℤ). In w.word xs) (sym w.whole) (in_middle w.before w.word w.after), go w.word (assigned_in values w.word) w.is)
   where
-    go : (q : ℤ) (b : Bool) → cond b NoLiteral (Is (literal (pos (nat_abs q)))) ≡ Is l → nat_abs l.0 ≡ nat_abs q
+    go : (q : ℤ) (b : Bool) → cond b None (Some (literal (pos (nat_abs q)))) ≡ Some l → nat_abs l.0 ≡ nat_abs q
     go q true e = let z : ◌≡◌ {A = ℕ} 0 1 = cc in absurd (omega arith)
     go q false e = let z : literal (pos (nat_abs q)) ≡ l = cc in ap (λ (x : Literal). nat_abs x.0) (sym z)
 
@@ -82,14 +80,14 @@ both_under false b c = refl
 
 module _ (p : List ℤ) (b : Bound p) (ρ : Assignment) (values : List ℕ) (vals : Values ρ values) (levels : List ℕ) (lvls : Levels p levels) where
   -- a variable's place of no matter, if all are assigned
-  lowest_none : first_unassigned ρ p ≡ NoLiteral → Lowest p ρ places
+  lowest_none : first_unassigned ρ p ≡ None → Lowest p ρ places
   unfolding all_assigned
   lowest_none e k room =
       rw (le-leb k places (omega (arith, variables_are)))
       (sym (all_i (λ q. assigned ρ q || leb k (level p q)) p (λ q i. or_l (leb k (level p q)) (all_e (assigned ρ) p (unassigned_none ρ p e) i))))
 
   -- the first unassigned one is open: no other is of a lower level
-  lowest_first : (l : Literal) → first_unassigned ρ p ≡ Is l → Lowest p ρ (get_or levels (nat_abs l.0) 0)
+  lowest_first : (l : Literal) → first_unassigned ρ p ≡ Some l → Lowest p ρ (get_or levels (nat_abs l.0) 0)
   unfolding is_open level
   lowest_first l e k room =
       let (w, v) = unassigned_found ρ p l e in
@@ -111,9 +109,9 @@ module _ (p : List ℤ) (b : Bound p) (ρ : Assignment) (values : List ℕ) (val
   unfolding lowest_in
   lowest_means = rw (unassigned_means ρ values vals p) (go (first_unassigned ρ p) refl)
     where
-      go : (o : Picked) → first_unassigned ρ p ≡ o → Lowest p ρ (on_picked o (λ l. get_or levels (nat_abs l.0) 0) places)
-      go NoLiteral e = lowest_none e
-      go (Is l) e = lowest_first l e
+      go : (o : Option Literal) → first_unassigned ρ p ≡ o → Lowest p ρ (on_found o (λ l. get_or levels (nat_abs l.0) 0) places)
+      go None e = lowest_none e
+      go (Some l) e = lowest_first l e
 
   -- the prefix names the variables 1 to V
   named_is : (v : ℕ) → (not (eqb v 0) && leb v (length p)) ≡ any (names v) p
@@ -133,6 +131,6 @@ module _ (p : List ℤ) (b : Bound p) (ρ : Assignment) (values : List ℕ) (val
       go (inl e) = rw (e, level_at_lem p levels lvls (nat_abs l) e, lowest (level_of p (nat_abs l)) (le_trans (level_few p (nat_abs l)) b.room))
       go (inr e) = rw e
 
-  pub preferred_means : (low : ℕ) → Lowest p ρ low → (ls : List ℤ) → on_picked (first_of (preferred_in (length p) values levels low) ls) (λ l. l.0) (pos 0) ≡ first_open p ρ ls
+  pub preferred_means : (low : ℕ) → Lowest p ρ low → (ls : List ℤ) → on_found (first_of (preferred_in (length p) values levels low) ls) (λ l. l.0) (pos 0) ≡ first_open p ρ ls
   unfolding first_open preferred_in
-  preferred_means low lowest ls = rw (first_same (preferred_in (length p) values levels low) (λ l. cond (is_open p ρ l) (Is (literal l)) NoLiteral) ls (λ l i. rw (open_means low lowest l)))
+  preferred_means low lowest ls = rw (first_same (preferred_in (length p) values levels low) (λ l. cond (is_open p ρ l) (Some (literal l)) None) ls (λ l i. rw (open_means low lowest l)))

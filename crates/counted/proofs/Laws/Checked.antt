@@ -9,7 +9,6 @@ use Rattle.formula.specs.Limits.{limits}
 use Rattle.formula.specs.Formula.{variables_of, clause_count_of, literal_count_of, prefix_of, ends_of, literals_of}
 use Rattle.formula.specs.Block.{refusal}
 use Rattle.formula.specs.Laws.Accepted.{Accepted, accepted, literals_length}
-use Rattle.formula.specs.Laws.Clauses.{clauses_length}
 use Rattle.formula.specs.Laws.Named.{in_named}
 use Rattle.theory.specs.Record.{among}
 use Rattle.record.specs.Inner.Ready.{Ready}
@@ -40,9 +39,6 @@ module _ (b : List ℤ) (h : refusal limits b ≡ 0) where
 
   pub once : AllOnce (clauses_of b)
   once = all_once (ends_of b) (literals_of b) few ready.single
-
-  pub clauses_count : length (clauses_of b) ≡ clause_count_of b
-  clauses_count = clauses_length (literals_of b) 0 (ends_of b) ∙ ends_length
 
   pub literals_few : length (literals_of b) ≡ literal_count_of b
   literals_few = literals_length part

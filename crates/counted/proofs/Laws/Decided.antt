@@ -1,6 +1,9 @@
 -- What Decide takes by the tables is what the rules say it takes: a preferred literal is open exactly if it is of a variable of the prefix that its
 -- status calls unassigned, and of no higher level than the first unassigned one.
-use Rattle.std.specs.Prelude.{ℕ, ◌+◌, ◌≤◌, ◌<◌, ◌⊎◌, Bool, ◌&&◌, List, eqb, ℤ, pos, length, get_or, take, drop}
+use Rattle.clauses.specs.declared.found.UnitClause.{UnitClause}
+use Rattle.std.specs.Prelude.{ℕ, ◌≤◌, ◌<◌, ◌⊎◌, Bool, ◌&&◌, List, [], ◌∷◌, eqb, ℤ, pos, length, get_or, take, Option, Some, None}
+use Rattle.std.specs.List.{find}
+use Rattle.std.specs.Option.{option_map}
 use Rattle.std.proofs.Math.Path.{◌≡◌, refl, ap}
 use Rattle.std.proofs.Common.{sym, ◌∙◌, inl, inr, eq-eqb, ne_eqb}
 use Rattle.std.proofs.Math.Bool.{true, false, cond, not}
@@ -10,7 +13,6 @@ use Rattle.std.proofs.Math.Dec.{leb}
 use Rattle.std.proofs.Math.IntN.{nat_abs}
 use Rattle.std.proofs.lemmas.Bool.{lt-leb}
 use Rattle.words.specs.Laws.Bools.{look, clash}
-use Rattle.words.specs.Laws.Lists.{next, ended}
 use Rattle.words.specs.declared.Literal.{Literal}
 use Rattle.formula.specs.Limits.{limits}
 use Rattle.formula.specs.Formula.{Formula, prefix_of, formula_of, existential, universal}
@@ -20,13 +22,13 @@ use Rattle.theory.specs.Record.{Record, Assignment, among, true_in}
 use Rattle.theory.specs.Tests.{is_open, in_conflict}
 use Rattle.theory.proofs.Laws.Tested.{open_e}
 use Rattle.record.specs.Found.{literal, on_found, last}
-use Rattle.choice.specs.First.{on_picked, first_of, first_unassigned}
+use Rattle.choice.specs.First.{first_of, first_unassigned}
 use Rattle.clauses.specs.Lowest.{lowest}
-use Rattle.rules.specs.Due.{on_unit, lowest_unit, first_monotone, due_assigned, due_decide, due_monotone, due_unit, due_conflict, due}
+use Rattle.rules.specs.Due.{lowest_unit, first_monotone, due_assigned, due_decide, due_monotone, due_unit, due_conflict, due}
 use Rattle.record.specs.Trail.{Trail, record_of}
 use Rattle.record.specs.Search.{Search}
 use Rattle.applied.specs.Apply.{append, kind_of, chosen, apply}
-use Rattle.choice.specs.Preferred.{decides, first_open, proposal_of}
+use Rattle.choice.specs.Preferred.{first_open, proposal_of}
 use Rattle.record.specs.Inner.Ready.{Bound}
 use Rattle.record.specs.Inner.Tables.{Values}
 use Rattle.rules.specs.Inner.Tabled.{Sorts}
@@ -37,62 +39,56 @@ use Rattle.choice.specs.Laws.VariablesMean.{free_in, unassigned_means, lowest_me
 use Rattle.rules.proofs.Laws.WhyDue.{Reason, backtrack_exists, fail, unit, monotone, decide, backtrack_forall, succeed, reason}
 use Rattle.record.specs.declared.rule.Rule.{Rule}
 use Rattle.record.specs.declared.rule.Rule.TheVariants.{BacktrackExists, Fail, Unit, Monotone, Decide, BacktrackForall, Succeed}
-use Rattle.record.specs.declared.found.Found.{Found}
-use Rattle.record.specs.declared.found.Found.TheVariants.{At, Nothing}
-use Rattle.choice.specs.declared.found.Picked.{Picked}
-use Rattle.choice.specs.declared.found.Picked.TheVariants.{Is, NoLiteral}
-use Rattle.clauses.specs.declared.found.UnitFound.{UnitFound}
-use Rattle.clauses.specs.declared.found.UnitFound.TheVariants.{On, NoUnit}
 use Rattle.search.proofs.Laws.Named.{fitting}
 use Rattle.counted.specs.Inner.Free.{free_at}
-use Rattle.counted.specs.Inner.Decided.{open_at, picked_at, preferred_at, first_in, Enacting}
+use Rattle.counted.specs.Inner.Decided.{open_at, picked_at, preferred_at, Enacting}
 use Rattle.counted.proofs.Laws.Checked.{some_values}
 use Rattle.counted.proofs.Laws.Free.{free_means}
 
--- ---- the loop over the preferences
-module _ (n : ℕ) (statuses levels : List ℕ) (low : ℕ) (list : List ℤ) (i : ℕ) where
-  module _ (h : i < length list) (same : first_of (picked_at n statuses levels low) (drop i list) ≡ first_of (picked_at n statuses levels low) list) {v : ℕ} (is : v ≡ nat_abs (get_or list i (pos 0))) where
-    pub preferred_here : (first : Literal) → open_at n statuses levels low v ≡ true → literal (get_or list i (pos 0)) ≡ preferred_at n statuses levels low list first
-    unfolding preferred_at picked_at first_of
-    preferred_here first e = let z : open_at n statuses levels low (nat_abs (get_or list i (pos 0))) ≡ true = rw is at e in rw (← same, next list i (pos 0) h, z)
+-- ---- the first open preference, as `find` finds it
+module _ (n : ℕ) (statuses levels : List ℕ) (low : ℕ) where
+  found_first : (list : List ℤ) → option_map literal (find (λ l. open_at n statuses levels low (nat_abs l)) list) ≡ first_of (picked_at n statuses levels low) list
+  unfolding picked_at first_of
+  found_first [] = refl
+  found_first (l ∷ list) = elim (look (open_at n statuses levels low (nat_abs l))) [ inl t ↦ rw t | inr t ↦ rw t (found_first list) ]
 
-    pub preferred_past : open_at n statuses levels low v ≡ false → first_of (picked_at n statuses levels low) (drop (i + 1) list) ≡ first_of (picked_at n statuses levels low) list
-    unfolding picked_at first_of
-    preferred_past e = let z : open_at n statuses levels low (nat_abs (get_or list i (pos 0))) ≡ false = rw is at e in rw (next list i (pos 0) h, z) at same
-
-  pub preferred_end : (first : Literal) → length list ≤ i → first_of (picked_at n statuses levels low) (drop i list) ≡ first_of (picked_at n statuses levels low) list → first ≡ preferred_at n statuses levels low list first
-  unfolding preferred_at first_of
-  preferred_end first h same = rw (← same, ended list i h)
+  pub preferred_found : (list : List ℤ) (first : Literal) (o : Option ℤ) → o ≡ find (λ l. open_at n statuses levels low (nat_abs l)) list → on_found o literal first ≡ preferred_at n statuses levels low list first
+  unfolding preferred_at
+  preferred_found list first o e = rw (← found_first list, ← e) (go o)
+    where
+      go : (o : Option ℤ) → on_found o literal first ≡ on_found (option_map literal o) (λ l. l) first
+      go (Some x) = refl
+      go None = refl
 
 -- ---- where Decide is due, its literal is the first unassigned variable
 module _ (F : Formula) (r : Record) (x : Literal) where
-  by_last : (o : Found) → on_found o (λ i. BacktrackForall i) Succeed ≡ Decide x → ⊥
-  by_last (At i) e = let z : ◌≡◌ {A = ℕ} 0 1 = cc in omega arith
-  by_last Nothing e = let z : ◌≡◌ {A = ℕ} 0 1 = cc in omega arith
+  by_last : (o : Option ℕ) → on_found o (λ i. BacktrackForall i) Succeed ≡ Decide x → ⊥
+  by_last (Some i) e = let z : ◌≡◌ {A = ℕ} 0 1 = cc in omega arith
+  by_last None e = let z : ◌≡◌ {A = ℕ} 0 1 = cc in omega arith
 
-  by_decide : (o : Picked) → on_picked o (λ l. Decide l) (due_assigned r) ≡ Decide x → o ≡ Is x
-  by_decide (Is l) e = let z : l ≡ x = cc in ap Is z
-  by_decide NoLiteral e = absurd (by_last (last 2 0 r) e)
+  by_decide : (o : Option Literal) → on_found o (λ l. Decide l) (due_assigned r) ≡ Decide x → o ≡ Some x
+  by_decide (Some l) e = let z : l ≡ x = cc in ap Some z
+  by_decide None e = absurd (by_last (last 2 0 r) e)
 
-  by_monotone : (o : Picked) → on_picked o (λ l. Monotone l) (due_decide F.prefix r) ≡ Decide x → first_unassigned (true_in r) F.prefix ≡ Is x
-  by_monotone (Is l) e = let z : ◌≡◌ {A = ℕ} 0 1 = cc in absurd (omega arith)
-  by_monotone NoLiteral e = by_decide (first_unassigned (true_in r) F.prefix) e
+  by_monotone : (o : Option Literal) → on_found o (λ l. Monotone l) (due_decide F.prefix r) ≡ Decide x → first_unassigned (true_in r) F.prefix ≡ Some x
+  by_monotone (Some l) e = let z : ◌≡◌ {A = ℕ} 0 1 = cc in absurd (omega arith)
+  by_monotone None e = by_decide (first_unassigned (true_in r) F.prefix) e
 
-  by_unit : (o : UnitFound) → on_unit o (λ l c. Unit l c) (due_monotone F r) ≡ Decide x → first_unassigned (true_in r) F.prefix ≡ Is x
-  by_unit (On l c) e = let z : ◌≡◌ {A = ℕ} 0 1 = cc in absurd (omega arith)
-  by_unit NoUnit e = by_monotone (first_monotone _ _ _) e
+  by_unit : (o : Option UnitClause) → on_found o (λ u. Unit u.literal u.clause) (due_monotone F r) ≡ Decide x → first_unassigned (true_in r) F.prefix ≡ Some x
+  by_unit (Some u) e = let z : ◌≡◌ {A = ℕ} 0 1 = cc in absurd (omega arith)
+  by_unit None e = by_monotone (first_monotone _ _ _) e
 
-  by_conflict : (c : ℕ) (o : Found) → on_found o (λ i. BacktrackExists i c) (Fail c) ≡ Decide x → ⊥
-  by_conflict c (At i) e = let z : ◌≡◌ {A = ℕ} 0 1 = cc in omega arith
-  by_conflict c Nothing e = let z : ◌≡◌ {A = ℕ} 0 1 = cc in omega arith
+  by_conflict : (c : ℕ) (o : Option ℕ) → on_found o (λ i. BacktrackExists i c) (Fail c) ≡ Decide x → ⊥
+  by_conflict c (Some i) e = let z : ◌≡◌ {A = ℕ} 0 1 = cc in omega arith
+  by_conflict c None e = let z : ◌≡◌ {A = ℕ} 0 1 = cc in omega arith
 
-  pub decide_first : due F r ≡ Decide x → first_unassigned (true_in r) F.prefix ≡ Is x
+  pub decide_first : due F r ≡ Decide x → first_unassigned (true_in r) F.prefix ≡ Some x
   unfolding due
   decide_first = go (lowest (in_conflict F.prefix (true_in r)) 0 F.clauses)
     where
-      go : (o : Found) → on_found o (due_conflict r) (due_unit F r) ≡ Decide x → first_unassigned (true_in r) F.prefix ≡ Is x
-      go (At c) e = absurd (by_conflict c (last 1 0 r) e)
-      go Nothing e = by_unit (lowest_unit F.prefix (true_in r) F.clauses) e
+      go : (o : Option ℕ) → on_found o (due_conflict r) (due_unit F r) ≡ Decide x → first_unassigned (true_in r) F.prefix ≡ Some x
+      go (Some c) e = absurd (by_conflict c (last 1 0 r) e)
+      go None e = by_unit (lowest_unit F.prefix (true_in r) F.clauses) e
 
 decide_open : (F : Formula) (r : Record) (x : Literal) {rule : Rule} → Reason F r rule → rule ≡ Decide x → is_open F.prefix (true_in r) x.0 ≡ true
 decide_open F r x (backtrack_exists i c h e) d = let z : ◌≡◌ {A = ℕ} 0 1 = cc in absurd (omega arith)
@@ -117,7 +113,7 @@ module _
     bound : Bound (prefix_of b)
     bound = accepted_bound b x.on.block
 
-    pub first_is : first_unassigned (among (take n t.lits)) (prefix_of b) ≡ Is l
+    pub first_is : first_unassigned (among (take n t.lits)) (prefix_of b) ≡ Some l
     unfolding formula_of
     first_is = rw (kept_true (prefix_of b) t n x.on.kept) at (decide_first (formula_of b) (record_of t n) l (sym x.is ∙ d))
 
@@ -158,19 +154,19 @@ module _
     unfolding picked_at preferred_in
     first_same_open = first_same _ _ list (λ y i. rw (open_same (nat_abs y)))
 
-    opened : on_picked (first_of (picked_at (length (prefix_of b)) statuses levels low) list) (λ y. y.0) (pos 0) ≡ first_open (prefix_of b) (among (take n t.lits)) list
+    opened : on_found (first_of (picked_at (length (prefix_of b)) statuses levels low) list) (λ y. y.0) (pos 0) ≡ first_open (prefix_of b) (among (take n t.lits)) list
     opened =
         let m = lowest_means (prefix_of b) bound (among (take n t.lits)) values said levels x.told in
         rw first_same_open (preferred_means (prefix_of b) bound (among (take n t.lits)) values said levels x.told low (rw low_is at m) list)
 
     -- one that is picked is a variable's
-    picked_some : (y : Literal) → first_of (picked_at (length (prefix_of b)) statuses levels low) list ≡ Is y → nat_abs y.0 ≡ 0 → ⊥
+    picked_some : (y : Literal) → first_of (picked_at (length (prefix_of b)) statuses levels low) list ≡ Some y → nat_abs y.0 ≡ 0 → ⊥
     unfolding picked_at open_at
     picked_some y e z =
         let w = first_found (picked_at (length (prefix_of b)) statuses levels low) list y e in
         go w.word (open_at (length (prefix_of b)) statuses levels low (nat_abs w.word)) refl w.is
       where
-        go : (q : ℤ) (c : Bool) → open_at (length (prefix_of b)) statuses levels low (nat_abs q) ≡ c → cond c (Is (literal q)) NoLiteral ≡ Is y → ⊥
+        go : (q : ℤ) (c : Bool) → open_at (length (prefix_of b)) statuses levels low (nat_abs q) ≡ c → cond c (Some (literal q)) None ≡ Some y → ⊥
         go q true h k =
             let s : literal q ≡ y = cc in
             let s0 : nat_abs q ≡ 0 = ap (λ (u : Literal). nat_abs u.0) s ∙ z in
@@ -182,9 +178,9 @@ module _
     unfolding preferred_at
     decided_is {y} e = rw (e, ← opened) (go (first_of (picked_at (length (prefix_of b)) statuses levels low) list) refl)
       where
-        go : (o : Picked) → first_of (picked_at (length (prefix_of b)) statuses levels low) list ≡ o → (on_picked o (λ y. y) l).0 ≡ chosen (on_picked o (λ y. y.0) (pos 0)) l.0
-        go (Is y) q = rw (ne_eqb (nat_abs y.0) 0 (picked_some y q))
-        go NoLiteral q = refl
+        go : (o : Option Literal) → first_of (picked_at (length (prefix_of b)) statuses levels low) list ≡ o → (on_found o (λ y. y) l).0 ≡ chosen (on_found o (λ y. y.0) (pos 0)) l.0
+        go (Some y) q = rw (ne_eqb (nat_abs y.0) 0 (picked_some y q))
+        go None q = refl
 
     -- and it is open, so that it names a variable of the prefix
     first_open_is : is_open (prefix_of b) (among (take n t.lits)) l.0 ≡ true
@@ -224,25 +220,3 @@ module _
 
     pub decide_room : n < length (prefix_of b)
     decide_room = let z : due (formula_of b) (record_of t n) ≡ Decide l = sym x.is ∙ d in rw z at (fitting x.on)
-
--- ---- any other rule takes no proposal
-pub decide_from_lem : (rule : Rule) (l : Literal) → first_in rule ≡ Is l → rule ≡ Decide l
-decide_from_lem (BacktrackExists i c) l e = let z : ◌≡◌ {A = ℕ} 0 1 = cc in absurd (omega arith)
-decide_from_lem (Fail c) l e = let z : ◌≡◌ {A = ℕ} 0 1 = cc in absurd (omega arith)
-decide_from_lem (Unit y c) l e = let z : ◌≡◌ {A = ℕ} 0 1 = cc in absurd (omega arith)
-decide_from_lem (Monotone y) l e = let z : ◌≡◌ {A = ℕ} 0 1 = cc in absurd (omega arith)
-decide_from_lem (Decide y) l e = let z : y ≡ l = cc in ap Decide z
-decide_from_lem (BacktrackForall i) l e = let z : ◌≡◌ {A = ℕ} 0 1 = cc in absurd (omega arith)
-decide_from_lem Succeed l e = let z : ◌≡◌ {A = ℕ} 0 1 = cc in absurd (omega arith)
-
-decides_not : (rule : Rule) → first_in rule ≡ NoLiteral → decides rule ≡ false
-decides_not (BacktrackExists i c) e = refl
-decides_not (Fail c) e = refl
-decides_not (Unit y c) e = refl
-decides_not (Monotone y) e = refl
-decides_not (Decide y) e = let z : ◌≡◌ {A = ℕ} 0 1 = cc in absurd (omega arith)
-decides_not (BacktrackForall i) e = refl
-decides_not Succeed e = refl
-
-pub other_enacts : (p : List ℤ) (ρ : Assignment) (list : List ℤ) (rule : Rule) → first_in rule ≡ NoLiteral → (s : Search) {u : Search} → u ≡ apply p rule (pos 0) s → u ≡ apply p rule (proposal_of p ρ list rule) s
-other_enacts p ρ list rule e s a = a ∙ rw (decides_not rule e)

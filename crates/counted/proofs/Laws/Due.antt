@@ -1,11 +1,12 @@
 -- The looks by the numbers find what the rules' searches find: the least clause of key 0 is the lowest in conflict, the lowest unit clause has key 1, and
 -- with neither the prefix decides. Each look leaves a bound below which there is nothing to find.
-use Rattle.std.specs.Prelude.{ℕ, ◌≤◌, ◌<◌, cond, ltb, ℤ, nat_abs, get_or, take}
+use Rattle.clauses.specs.Found.{unit_clause}
+use Rattle.clauses.specs.declared.found.UnitClause.{UnitClause}
+use Rattle.std.specs.Prelude.{ℕ, ◌≤◌, ℤ, nat_abs, get_or, take, Option, Some, None}
 use Rattle.std.proofs.Math.Path.{◌≡◌, refl, sym, ap}
 use Rattle.std.proofs.Common.{◌∙◌, arith}
 use mathlib.Core.List.{List, []}
 use Rattle.std.proofs.Math.ListN.{length}
-use borrow.Author.Tests.{lt-ltb, le-ltb}
 use Rattle.words.specs.Lists.{In}
 use Rattle.words.specs.declared.Literal.{Literal}
 use Rattle.formula.specs.Limits.{limits}
@@ -31,39 +32,35 @@ use Rattle.rules.specs.Inner.Meant.{Meant}
 use Rattle.tables.specs.Laws.Levels.{level_at_lem}
 use Rattle.record.specs.declared.rule.Rule.{Rule}
 use Rattle.record.specs.declared.rule.Rule.TheVariants.{Unit}
-use Rattle.record.specs.declared.found.Found.{Found}
-use Rattle.record.specs.declared.found.Found.TheVariants.{At, Nothing}
-use Rattle.clauses.specs.declared.found.UnitFound.{UnitFound}
-use Rattle.clauses.specs.declared.found.UnitFound.TheVariants.{On, NoUnit}
 use Rattle.search.proofs.Laws.Named.{due_names}
 use Rattle.counted.specs.Inner.Free.{Walkable, free_rule}
-use Rattle.counted.specs.Inner.Numbers.{Least}
+use Rattle.counted.specs.Inner.Numbers.{Least, NoneFrom}
 use Rattle.counted.specs.Inner.State.{Counted}
 use Rattle.counted.specs.Inner.Standing.{clauses_of, Sought}
 use Rattle.counted.specs.Inner.Unit.{LookRoom, Looking}
 use Rattle.counted.proofs.Laws.Checked.{ready, few, once, some_values}
 use Rattle.counted.proofs.Laws.Free.{walkable, rule_means}
-use Rattle.counted.proofs.Laws.State.{conflict_found, conflict_raised}
+use Rattle.counted.proofs.Laws.State.{conflict_absent, conflict_found, conflict_raised}
 use Rattle.counted.proofs.Laws.Steps.{below_found, none_found, unit_raised}
 use Rattle.counted.specs.declared.walk.Bounds.{Bounds}
 
 -- ---- what the search for a unit clause says of the clauses before
 module _ (p : List ℤ) (ρ : Assignment) (m : List (List ℤ)) where
-  unit_at : (l : Literal) (c : ℕ) → lowest_unit p ρ m ≡ On l c → lowest (is_unit p ρ) 0 m ≡ At c
+  unit_at : (l : Literal) (c : ℕ) → lowest_unit p ρ m ≡ Some (unit_clause l c) → lowest (is_unit p ρ) 0 m ≡ Some c
   unfolding lowest_unit
   unit_at l c = go (lowest (is_unit p ρ) 0 m)
     where
-      go : (o : Found) → on_found o (λ c. On (literal (candidate p ρ (get_or m c []))) c) NoUnit ≡ On l c → o ≡ At c
-      go (At i) e = let z : i ≡ c = cc in ap At z
-      go Nothing e = let z : ◌≡◌ {A = ℕ} 0 1 = cc in absurd (omega arith)
+      go : (o : Option ℕ) → on_found o (λ c. Some (unit_clause (literal (candidate p ρ (get_or m c []))) c)) None ≡ Some (unit_clause l c) → o ≡ Some c
+      go (Some i) e = let u : unit_clause (literal (candidate p ρ (get_or m i []))) i ≡ unit_clause l c = cc in ap (λ (u : UnitClause). Some u.clause) u
+      go None e = let z : ◌≡◌ {A = ℕ} 0 1 = cc in absurd (omega arith)
 
-  unit_none : lowest_unit p ρ m ≡ NoUnit → lowest (is_unit p ρ) 0 m ≡ Nothing
+  unit_none : lowest_unit p ρ m ≡ None → lowest (is_unit p ρ) 0 m ≡ None
   unfolding lowest_unit
   unit_none = go (lowest (is_unit p ρ) 0 m)
     where
-      go : (o : Found) → on_found o (λ c. On (literal (candidate p ρ (get_or m c []))) c) NoUnit ≡ NoUnit → o ≡ Nothing
-      go (At i) e = let z : ◌≡◌ {A = ℕ} 0 1 = cc in absurd (omega arith)
-      go Nothing e = refl
+      go : (o : Option ℕ) → on_found o (λ c. Some (unit_clause (literal (candidate p ρ (get_or m c []))) c)) None ≡ None → o ≡ None
+      go (Some i) e = let z : ◌≡◌ {A = ℕ} 0 1 = cc in absurd (omega arith)
+      go None e = refl
 
 abbrev bound : ℕ → ℕ → Bounds
 bound c u = record { conflict = c; unit = u }
@@ -88,10 +85,10 @@ module _ (b : List ℤ) (ks : List ℕ) (n : ℕ) (levels stops index statuses t
   same_true = kept_true (prefix_of b) (trail x.lits ks) n x.on.kept
 
   -- what the looks ask for
-  pub look_room : {es : List ℤ} → es ≡ ends_of b → (was.conflict ≤ length es) × ((length es ≤ length ts) × (length es ≤ length os))
+  pub look_room : {es : List ℤ} → es ≡ ends_of b → (length es ≤ length ts) × (length es ≤ length os)
   look_room e =
       let s = x.now_set.counted in
-      rw e (omega (arith, s.conflict_most, long), (omega (arith, s.trues_room, long), omega (arith, s.opens_room, long)))
+      rw e (omega (arith, s.trues_room, long), omega (arith, s.opens_room, long))
 
   pub unit_room : {es ls : List ℤ} → es ≡ ends_of b → ls ≡ literals_of b → LookRoom es ls ts os was.unit
   unit_room e f =
@@ -126,27 +123,24 @@ module _ (b : List ℤ) (ks : List ℕ) (n : ℕ) (levels stops index statuses t
       let (values, said) = some_values x.lits n (kept_written (prefix_of b) (trail x.lits ks) n x.on.kept (prefix_few limits b x.on.block)) in
       (values, kept_tabled (prefix_of b) (trail x.lits ks) n x.on.kept values said)
 
-  module _ {es : List ℤ} (e : es ≡ ends_of b) {r : ℕ} (l : Least ts os was.conflict (length es) 0 r) where
-    at_clauses : Least ts os was.conflict (length (clauses_of b)) 0 r
-    at_clauses = rw long (rw e at l)
-
-    found : lowest (in_conflict (prefix_of b) (true_in (record_of (trail x.lits ks) n))) 0 (clauses_of b) ≡ cond (ltb r (length es)) (At r) Nothing
-    found = rw (same_true, e, ← long) (conflict_found (prefix_of b) (clauses_of b) (among (take n x.lits)) ts os was x.now_set.counted r at_clauses)
-
-    raised : (u : ℕ) → u ≡ was.unit → Kept (bound r u)
-    raised u same = conflict_raised (prefix_of b) (clauses_of b) (among (take n x.lits)) ts os was x.now_set.counted r at_clauses (bound r u) refl same
+  module _ {es : List ℤ} (e : es ≡ ends_of b) where
+    raised : (r : ℕ) → r ≤ length es → NoneFrom ts os was.conflict r 0 → Kept (bound r was.unit)
+    raised r h k = conflict_raised (prefix_of b) (clauses_of b) (among (take n x.lits)) ts os was x.now_set.counted r (omega (arith, long, ap length e)) k (bound r was.unit) refl refl
 
     -- a clause in conflict
-    pub finds_conflict : r < length es → {rule : Rule} → ((R : Record) (table : List ℕ) → Tabled R table ks n → rule ≡ due_conflict R r) → Finds rule (bound r was.unit)
+    pub finds_conflict : {r : ℕ} → Least ts os was.conflict (length es) 0 r → {rule : Rule} → ((R : Record) (table : List ℕ) → Tabled R table ks n → rule ≡ due_conflict R r) → Finds rule (bound r was.unit)
     unfolding due formula_of
-    finds_conflict h is =
+    finds_conflict {r} l is =
         let (table, t) = tabled in
-        (is _ table t ∙ sym (rw (found, lt-ltb r (length es) h)), raised was.unit refl)
+        (is _ table t ∙ sym (rw found), raised r (omega (arith, l.within)) l.others)
+      where
+        found : lowest (in_conflict (prefix_of b) (true_in (record_of (trail x.lits ks) n))) 0 (clauses_of b) ≡ Some r
+        found = rw same_true (conflict_found (prefix_of b) (clauses_of b) (among (take n x.lits)) ts os was x.now_set.counted r (rw long (rw e at l)))
 
-    module _ (h : length es ≤ r) {ls : List ℤ} (f : ls ≡ literals_of b) {u : UnitFound}
+    module _ (free : NoneFrom ts os was.conflict (length es) 0) {ls : List ℤ} (f : ls ≡ literals_of b) {u : Option UnitClause}
         (is : (y : Looking es ls statuses levels ts os was.unit) → u ≡ lowest_unit y.p y.ρ (clauses_from ls 0 es)) where
-      none : lowest (in_conflict (prefix_of b) (true_in (record_of (trail x.lits ks) n))) 0 (clauses_of b) ≡ Nothing
-      none = found ∙ rw (le-ltb r (length es) h)
+      none : lowest (in_conflict (prefix_of b) (true_in (record_of (trail x.lits ks) n))) 0 (clauses_of b) ≡ None
+      none = rw same_true (conflict_absent (prefix_of b) (clauses_of b) (among (take n x.lits)) ts os was x.now_set.counted (rw long (rw e at free)))
 
       looking : Looking (ends_of b) (literals_of b) statuses levels ts os was.unit
       looking = record {
@@ -170,20 +164,20 @@ module _ (b : List ℤ) (ks : List ℕ) (n : ℕ) (levels stops index statuses t
       unit_true = rw same_true (sym unit_is)
 
       -- a unit clause
-      unit_due : (l : Literal) (c : ℕ) → u ≡ On l c → due (formula_of b) (record_of (trail x.lits ks) n) ≡ Unit l c
+      unit_due : (l : Literal) (c : ℕ) → u ≡ Some (unit_clause l c) → due (formula_of b) (record_of (trail x.lits ks) n) ≡ Unit l c
       unfolding due formula_of
       unit_due l c z = rw (none, unit_true, z)
 
-      pub finds_unit : (l : Literal) (c : ℕ) → u ≡ On l c → Finds (Unit l c) (bound r c)
+      pub finds_unit : (l : Literal) (c : ℕ) → u ≡ Some (unit_clause l c) → Finds (Unit l c) (bound (length es) c)
       unfolding formula_of
       finds_unit l c z =
           let d = unit_due l c z in
           let k = rw d at (due_names (formula_of b) (record_of (trail x.lits ks) n)) in
           let a = unit_at (prefix_of b) (among (take n x.lits)) (clauses_of b) l c (sym unit_is ∙ z) in
-          (sym d, unit_raised (prefix_of b) (clauses_of b) (among (take n x.lits)) ts os (bound r was.unit) (bound r c) (raised was.unit refl) refl (omega (arith, k.0)) (λ i q. below_found (is_unit (prefix_of b) (among (take n x.lits))) [] 0 c (clauses_of b) a i (omega arith)))
+          (sym d, unit_raised (prefix_of b) (clauses_of b) (among (take n x.lits)) ts os (bound (length es) was.unit) (bound (length es) c) (raised (length es) (omega arith) free) refl (omega (arith, k.0)) (λ i q. below_found (is_unit (prefix_of b) (among (take n x.lits))) [] 0 c (clauses_of b) a i (omega arith)))
 
       -- none: the prefix decides
-      pub finds_free : u ≡ NoUnit → {p : List ℤ} → p ≡ prefix_of b → {rule : Rule} → rule ≡ free_rule p ks n stops index statuses ts → Finds rule (bound r (length es))
+      pub finds_free : u ≡ None → {p : List ℤ} → p ≡ prefix_of b → {rule : Rule} → rule ≡ free_rule p ks n stops index statuses ts → Finds rule (bound (length es) (length es))
       unfolding due formula_of
       finds_free z {p} q is =
           let a = unit_none (prefix_of b) (among (take n x.lits)) (clauses_of b) (sym unit_is ∙ z) in
@@ -191,4 +185,4 @@ module _ (b : List ℤ) (ks : List ℕ) (n : ℕ) (levels stops index statuses t
           let most : length es ≤ length (clauses_of b) = rw e (omega (arith, long)) in
           let g' : free_rule p ks n stops index statuses ts ≡ due_monotone (formula_of b) (record_of (trail x.lits ks) n) = rw q g in
           let d : due (formula_of b) (record_of (trail x.lits ks) n) ≡ due_monotone (formula_of b) (record_of (trail x.lits ks) n) = rw (none, unit_true, z) in
-          (is ∙ g' ∙ sym d, unit_raised (prefix_of b) (clauses_of b) (among (take n x.lits)) ts os (bound r was.unit) (bound r (length es)) (raised was.unit refl) refl most (λ i k. none_found (is_unit (prefix_of b) (among (take n x.lits))) [] 0 (clauses_of b) a i (omega arith)))
+          (is ∙ g' ∙ sym d, unit_raised (prefix_of b) (clauses_of b) (among (take n x.lits)) ts os (bound (length es) was.unit) (bound (length es) (length es)) (raised (length es) (omega arith) free) refl most (λ i k. none_found (is_unit (prefix_of b) (among (take n x.lits))) [] 0 (clauses_of b) a i (omega arith)))

@@ -23,10 +23,10 @@ use Rattle.counted.specs.Fresh.{bit}
 use Rattle.counted.specs.Inner.Entry.{Setting, Taking, Unsetting}
 use Rattle.counted.specs.Inner.Index.{Index, listed, part_at}
 use Rattle.counted.specs.Inner.State.{Set, SetFrom}
-use Rattle.counted.specs.Inner.Walk.{CountedIn, CountedOut, Enterable, Leavable}
+use Rattle.counted.specs.Inner.Walk.{Movable, Renumbered}
 use Rattle.counted.proofs.Laws.Held.{part_is}
 use Rattle.counted.proofs.Laws.Numbers.{open_means}
-use Rattle.counted.proofs.Laws.State.{counted_in, counted_out, enter_opp, enter_own, in_rest, leave_opp, leave_own, out_rest}
+use Rattle.counted.proofs.Laws.State.{Change, counted_then, is_back, is_set, one_true, opp_opens, opp_trues, own_opens, own_trues, rest_then, some_open}
 use Rattle.counted.proofs.Laws.Statuses.{opposite_is, other_in, own_in, set_sorts, small, unassigned_by, unset_sorts}
 use Rattle.counted.specs.declared.walk.Bounds.{Bounds}
 
@@ -58,31 +58,25 @@ module _ (l : ℤ) (stops index statuses ts os : List ℕ) (b : Bounds) (x : Set
     size : nat_abs l ≤ limits.variables
     size = small x.p x.room l x.named
 
-    pub first_asks : Enterable 1 e L ts os
-    first_asks = rw own_list (enter_own x.p x.m x.once x.ρ l x.named.some size x.free e e_is ts os b x.now_set.counted)
+    changes : Change x.p x.m x.once x.ρ l x.named.some size x.free e e_is L M own_list other_list x.ρ (put l x.ρ) one_true (some_open e)
+    changes = is_set x.p x.m x.once x.ρ l x.named.some size x.free e e_is L M own_list other_list
 
-    module _ (ts₁ os₁ : List ℕ) (b₁ : Bounds) (w : CountedIn 1 e L ts os b [] ts₁ os₁ b₁) where
-      w_is : CountedIn 1 e (listed 0 x.m (place_of l)) ts os b [] ts₁ os₁ b₁
-      w_is = rw own_list at w
+    pub first_asks : Movable 1 0 L ts × Movable 0 e L os
+    first_asks = (own_trues _ _ _ _ _ _ _ _ _ _ _ _ _ _ _ _ _ _ changes ts os b x.now_set.counted, own_opens _ _ _ _ _ _ _ _ _ _ _ _ _ _ _ _ _ _ changes ts os b x.now_set.counted)
 
-      pub second_asks : Enterable 0 e M ts₁ os₁
-      second_asks = rw other_list (enter_opp x.p x.m x.once x.ρ l x.named.some size x.free e e_is ts os b x.now_set.counted ts₁ os₁ b₁ w_is)
+    module _ (ts₁ os₁ : List ℕ) (b₁ : Bounds) (w : Renumbered one_true (some_open e) L ts os b [] ts₁ os₁ b₁) where
+      pub second_asks : Movable 0 0 M ts₁ × Movable 0 e M os₁
+      second_asks = (opp_trues _ _ _ _ _ _ _ _ _ _ _ _ _ _ _ _ _ _ changes ts os b x.now_set.counted ts₁ os₁ b₁ w, opp_opens _ _ _ _ _ _ _ _ _ _ _ _ _ _ _ _ _ _ changes ts os b x.now_set.counted ts₁ os₁ b₁ w)
 
-      module _ (ts₂ os₂ : List ℕ) (b₂ : Bounds) (v : CountedIn 0 e M ts₁ os₁ b₁ [] ts₂ os₂ b₂) where
-        v_is : CountedIn 0 e (listed 0 x.m (place_of (neg_ℤ l))) ts₁ os₁ b₁ [] ts₂ os₂ b₂
-        v_is = rw other_list at v
-
-        now : Set x.p x.m (put l x.ρ) (set (set statuses own 1) other 0) ts₂ os₂ b₂
-        now = record {
-          long = length-set (set statuses own 1) other 0 ∙ length-set statuses own 1 ∙ x.now_set.long;
-          sorts = rw (at-l, opposite_is x.p x.room l x.named own other at-l at_n) (set_sorts x.p x.room x.ρ l x.named x.free statuses x.now_set.long x.now_set.sorts);
-          counted = counted_in x.p x.m x.once x.ρ l x.named.some size x.free e e_is ts os b x.now_set.counted ts₁ os₁ b₁ w_is ts₂ os₂ b₂ v_is;
-        }
-
-        pub is_set : SetFrom x.p x.m (put l x.ρ) ts os (set (set statuses own 1) other 0) ts₂ os₂ b₂
-        is_set = record {
-          now_set = now;
-          rest = in_rest x.p x.m x.once x.ρ l x.named.some size x.free e e_is ts os b x.now_set.counted ts₁ os₁ b₁ w_is ts₂ os₂ b₂ v_is;
+      module _ (ts₂ os₂ : List ℕ) (b₂ : Bounds) (v : Renumbered (some_open 0) (some_open e) M ts₁ os₁ b₁ [] ts₂ os₂ b₂) where
+        pub set_then : SetFrom x.p x.m (put l x.ρ) ts os (set (set statuses own 1) other 0) ts₂ os₂ b₂
+        set_then = record {
+          now_set = record {
+            long = length-set (set statuses own 1) other 0 ∙ length-set statuses own 1 ∙ x.now_set.long;
+            sorts = rw (at-l, opposite_is x.p x.room l x.named own other at-l at_n) (set_sorts x.p x.room x.ρ l x.named x.free statuses x.now_set.long x.now_set.sorts);
+            counted = counted_then _ _ _ _ _ _ _ _ _ _ _ _ _ _ _ _ _ _ changes ts os b x.now_set.counted ts₁ os₁ b₁ w ts₂ os₂ b₂ v;
+          };
+          rest = rest_then _ _ _ _ _ _ _ _ _ _ _ _ _ _ _ _ _ _ changes ts os b x.now_set.counted ts₁ os₁ b₁ w ts₂ os₂ b₂ v;
         }
 
 -- ---- the last literal is taken back: u is its quantifier, and s the status that both literals get
@@ -97,13 +91,6 @@ module _ (l : ℤ) (stops index quantifiers statuses ts os : List ℕ) (b : Boun
       by : (a b : Bool) → b ≡ not a → ◌≡◌ {A = ℕ} (cond a 1 (cond b 2 0)) (cond a 1 2)
       by true b q = refl
       by false b q = rw q
-
-  pub quantifier_small : u ≤ 2
-  quantifier_small = by (existential x.p l) u_says
-    where
-      by : (t : Bool) → u ≡ cond t 1 2 → u ≤ 2
-      by true q = omega arith
-      by false q = omega arith
 
   module _ (own other e s : ℕ) (at-l : own ≡ place_of l) (at_n : other ≡ 2 * max_variables - own) (open_is : e ≡ bit (eqb u 1)) (s-is : s ≡ u + 1) where
     e_says : e ≡ bit (existential x.p l)
@@ -130,31 +117,25 @@ module _ (l : ℤ) (stops index quantifiers statuses ts os : List ℕ) (b : Boun
       size_back : nat_abs l ≤ limits.variables
       size_back = small x.p x.bound.room l x.named
 
-      pub first_back : Leavable 1 e L ts os
-      first_back = rw own_back (leave_own x.p x.m x.once x.ρ l x.named.some size_back x.free e e_says ts os b x.now_set.counted)
+      undoes : Change x.p x.m x.once x.ρ l x.named.some size_back x.free e e_says L M own_back other_back (put l x.ρ) x.ρ (some_open e) one_true
+      undoes = is_back x.p x.m x.once x.ρ l x.named.some size_back x.free e e_says L M own_back other_back
 
-      module _ (ts₁ os₁ : List ℕ) (b₁ : Bounds) (w : CountedOut 1 e L ts os b [] ts₁ os₁ b₁) where
-        w_back : CountedOut 1 e (listed 0 x.m (place_of l)) ts os b [] ts₁ os₁ b₁
-        w_back = rw own_back at w
+      pub first_back : Movable 0 1 L ts × Movable e 0 L os
+      first_back = (own_trues _ _ _ _ _ _ _ _ _ _ _ _ _ _ _ _ _ _ undoes ts os b x.now_set.counted, own_opens _ _ _ _ _ _ _ _ _ _ _ _ _ _ _ _ _ _ undoes ts os b x.now_set.counted)
 
-        pub second_back : Leavable 0 e M ts₁ os₁
-        second_back = rw other_back (leave_opp x.p x.m x.once x.ρ l x.named.some size_back x.free e e_says ts os b x.now_set.counted ts₁ os₁ b₁ w_back)
+      module _ (ts₁ os₁ : List ℕ) (b₁ : Bounds) (w : Renumbered (some_open e) one_true L ts os b [] ts₁ os₁ b₁) where
+        pub second_back : Movable 0 0 M ts₁ × Movable e 0 M os₁
+        second_back = (opp_trues _ _ _ _ _ _ _ _ _ _ _ _ _ _ _ _ _ _ undoes ts os b x.now_set.counted ts₁ os₁ b₁ w, opp_opens _ _ _ _ _ _ _ _ _ _ _ _ _ _ _ _ _ _ undoes ts os b x.now_set.counted ts₁ os₁ b₁ w)
 
-        module _ (ts₂ os₂ : List ℕ) (b₂ : Bounds) (y : CountedOut 0 e M ts₁ os₁ b₁ [] ts₂ os₂ b₂) where
-          y_back : CountedOut 0 e (listed 0 x.m (place_of (neg_ℤ l))) ts₁ os₁ b₁ [] ts₂ os₂ b₂
-          y_back = rw other_back at y
-
-          before_it : Set x.p x.m x.ρ (set (set statuses own s) other s) ts₂ os₂ b₂
-          before_it = record {
-            long = length-set (set statuses own s) other s ∙ length-set statuses own s ∙ x.now_set.long;
-            sorts = rw (at-l, opposite_is x.p x.bound.room l x.named own other at-l at_n) (unset_sorts x.p x.bound.room x.ρ l x.named x.free statuses s x.now_set.long one_quantifier s_says x.now_set.sorts);
-            counted = counted_out x.p x.m x.once x.ρ l x.named.some size_back x.free e e_says ts os b x.now_set.counted ts₁ os₁ b₁ w_back ts₂ os₂ b₂ y_back;
-          }
-
-          pub is_unset : SetFrom x.p x.m x.ρ ts os (set (set statuses own s) other s) ts₂ os₂ b₂
-          is_unset = record {
-            now_set = before_it;
-            rest = out_rest x.p x.m x.once x.ρ l x.named.some size_back x.free e e_says ts os b x.now_set.counted ts₁ os₁ b₁ w_back ts₂ os₂ b₂ y_back;
+        module _ (ts₂ os₂ : List ℕ) (b₂ : Bounds) (y : Renumbered (some_open e) (some_open 0) M ts₁ os₁ b₁ [] ts₂ os₂ b₂) where
+          pub back_then : SetFrom x.p x.m x.ρ ts os (set (set statuses own s) other s) ts₂ os₂ b₂
+          back_then = record {
+            now_set = record {
+              long = length-set (set statuses own s) other s ∙ length-set statuses own s ∙ x.now_set.long;
+              sorts = rw (at-l, opposite_is x.p x.bound.room l x.named own other at-l at_n) (unset_sorts x.p x.bound.room x.ρ l x.named x.free statuses s x.now_set.long one_quantifier s_says x.now_set.sorts);
+              counted = counted_then _ _ _ _ _ _ _ _ _ _ _ _ _ _ _ _ _ _ undoes ts os b x.now_set.counted ts₁ os₁ b₁ w ts₂ os₂ b₂ y;
+            };
+            rest = rest_then _ _ _ _ _ _ _ _ _ _ _ _ _ _ _ _ _ _ undoes ts os b x.now_set.counted ts₁ os₁ b₁ w ts₂ os₂ b₂ y;
           }
 
 -- ---- the literals of a record, taken back from its end

@@ -1,18 +1,16 @@
 -- The search over the prefix by statuses, index and numbers is the rules' own: a status of 2 or 3 says that a variable is unassigned, and a live literal
 -- is one that occurs in a clause with no true literal.
-use Prim.Native.Nat.{ℕ, ◌+◌, ◌-◌, ◌≤◌, ◌<◌, min}
-use Rattle.std.specs.Prelude.{◌≡◌, ◌⊎◌, Bool, ◌&&◌, List, leb, ltb, ℤ, pos, neg_ℤ, get_or, take, drop}
+use Prim.Native.Nat.{ℕ, ◌+◌, ◌-◌, ◌≤◌, ◌<◌}
+use Rattle.std.specs.Prelude.{◌≡◌, ◌⊎◌, Bool, ◌&&◌, List, leb, ℤ, pos, neg_ℤ, get_or, take, Option, Some, None}
 use Rattle.std.proofs.Math.Path.{refl, sym, ap}
-use Rattle.std.proofs.Common.{◌∙◌, arith, le-leb, lt-ltb, le-ltb}
+use Rattle.std.proofs.Common.{◌∙◌, arith, le-leb}
+use Rattle.std.proofs.lemmas.Bool.{lt-leb}
 use Rattle.std.proofs.Math.Logic.{inl, inr}
 use Rattle.std.proofs.Math.Bool.{true, false, cond, not}
-use Rattle.std.specs.Bool.{beq}
-use Rattle.std.proofs.Math.Decide.{dec_le}
 use Rattle.std.proofs.Math.IntN.{nat_abs}
-use Rattle.std.proofs.Math.ListN.{length, get_or-eq_default}
-use Rattle.words.specs.Laws.Bools.{look, clash, and_r}
+use Rattle.std.proofs.Math.ListN.{length}
+use Rattle.words.specs.Laws.Bools.{and_r}
 use Rattle.words.specs.Lists.{In}
-use Rattle.words.specs.Laws.Lists.{next, ended, in_at}
 use Rattle.words.specs.declared.Literal.{Literal}
 use Rattle.words.specs.Laws.Words.{nat_abs_neg, negneg}
 use Rattle.formula.specs.Limits.{limits, max_variables}
@@ -26,11 +24,12 @@ use Rattle.formula.specs.Laws.Places.{place_plus, place_minus, place_within}
 use Rattle.theory.specs.Record.{Assignment, among, assigned}
 use Rattle.theory.proofs.Laws.Assignment.{assigned_var}
 use Rattle.theory.specs.Tests.{unassigned_existential, unassigned_universal, occurs, one_sign, monotone, untrue_of}
-use Rattle.record.specs.Found.{literal}
-use Rattle.choice.specs.First.{on_picked, first_of, first_unassigned}
+use Rattle.record.specs.Found.{literal, on_found}
+use Rattle.choice.specs.First.{first_of, first_unassigned}
 use Rattle.rules.specs.Due.{first_monotone, due_monotone}
 use Rattle.record.specs.Trail.{trail, record_of}
 use Rattle.tables.specs.Inner.ByLiteral.{status_in}
+use Rattle.record.specs.Inner.Buffers.{last_kind}
 use Rattle.record.specs.Inner.Ready.{Bound, OnBlock}
 use Rattle.rules.specs.Inner.Tabled.{Sorted, as_false, as_true, as_existential, as_universal, Sorts}
 use Rattle.record.proofs.Laws.Accepted.{accepted_bound, kept_true}
@@ -38,14 +37,11 @@ use Rattle.record.proofs.Laws.Last.{last_kind_lem}
 use Rattle.record.proofs.Laws.Records.{kept_room}
 use Rattle.choice.specs.Laws.Searches.{first_same}
 use Rattle.rules.proofs.Laws.VariablesMean.{monotone_own, monotone_opposite}
-use Rattle.record.specs.declared.rule.Rule.{Rule}
-use Rattle.record.specs.declared.rule.Rule.TheVariants.{Monotone, Decide}
-use Rattle.choice.specs.declared.found.Picked.{Picked}
-use Rattle.choice.specs.declared.found.Picked.TheVariants.{Is, NoLiteral}
+use Rattle.record.specs.declared.rule.Rule.TheVariants.{Monotone, Decide, BacktrackForall, Succeed}
 use Rattle.counted.specs.Inner.Index.{Index, part_at, listed}
 use Rattle.counted.specs.Inner.Live.{some_zero, Within}
 use Rattle.counted.specs.Inner.Standing.{clauses_of, SetOn}
-use Rattle.counted.specs.Inner.Free.{Walkable, taken_by, live_at, taken_at, free_at, first_at, monotone_at, assigned_rule, decide_from, free_rule}
+use Rattle.counted.specs.Inner.Free.{Walkable, taken_by, live_at, taken_at, free_at, first_at, monotone_at, free_rule}
 use Rattle.counted.proofs.Laws.Checked.{once}
 use Rattle.counted.proofs.Laws.Held.{part_is, parts}
 use Rattle.counted.proofs.Laws.Live.{live_means, live_within}
@@ -132,7 +128,7 @@ module _
 
     -- each prefix word: what it takes by Monotone, and the first unassigned one
     taken_means : (q : ℤ) → In q (prefix_of b) → let U = untrue_of (among (take n lits)) (clauses_of b) in
-        monotone_at stops index statuses ts q ≡ cond (monotone (prefix_of b) U (among (take n lits)) q) (Is (literal q)) (cond (monotone (prefix_of b) U (among (take n lits)) (neg_ℤ q)) (Is (literal (neg_ℤ q))) NoLiteral)
+        monotone_at stops index statuses ts q ≡ cond (monotone (prefix_of b) U (among (take n lits)) q) (Some (literal q)) (cond (monotone (prefix_of b) U (among (take n lits)) (neg_ℤ q)) (Some (literal (neg_ℤ q))) None)
     unfolding monotone_at taken_at one_sign
     taken_means q i =
         let U = untrue_of (among (take n lits)) (clauses_of b) in
@@ -147,18 +143,18 @@ module _
         )
         (go (assigned (among (take n lits)) q) (occurs U (pos v)) (occurs U (neg_ℤ (pos v))))
       where
-        go : (a x y : Bool) → cond (not a) (taken_by x y q) NoLiteral ≡ cond (not a && (x && not y)) (Is (literal q)) (cond (not a && (y && not x)) (Is (literal (neg_ℤ q))) NoLiteral)
+        go : (a x y : Bool) → cond (not a) (taken_by x y q) None ≡ cond (not a && (x && not y)) (Some (literal q)) (cond (not a && (y && not x)) (Some (literal (neg_ℤ q))) None)
         go true x y = refl
         go false true true = refl
         go false true false = refl
         go false false true = refl
         go false false false = refl
 
-    first_means : (q : ℤ) → In q (prefix_of b) → first_at statuses q ≡ cond (assigned (among (take n lits)) q) NoLiteral (Is (literal (pos (nat_abs q))))
+    first_means : (q : ℤ) → In q (prefix_of b) → first_at statuses q ≡ cond (assigned (among (take n lits)) q) None (Some (literal (pos (nat_abs q))))
     unfolding first_at
-    first_means q i = rw (free_means (prefix_of b) bound (among (take n lits)) statuses set.sorts q (named q i)) (go (assigned (among (take n lits)) q) (Is (literal (pos (nat_abs q)))))
+    first_means q i = rw (free_means (prefix_of b) bound (among (take n lits)) statuses set.sorts q (named q i)) (go (assigned (among (take n lits)) q) (Some (literal (pos (nat_abs q)))))
       where
-        go : (a : Bool) (x : Picked) → cond (not a) x NoLiteral ≡ cond a NoLiteral x
+        go : (a : Bool) (x : Option Literal) → cond (not a) x None ≡ cond a None x
         go true x = refl
         go false x = refl
 
@@ -172,125 +168,43 @@ module _
           kept_true (prefix_of b) (trail lits ks) n on.kept,
         )
 
--- ---- what a prefix word takes, by the looks at its two literals
-module _
-    (stops index ts : List ℕ) (q : ℤ) (s : ℕ) (free : 2 ≤ s) {v : ℕ} (is : v ≡ nat_abs q)
-    {L M : List ℕ} (l : L ≡ part_at stops index (max_variables + v)) (m : M ≡ part_at stops index (max_variables - v))
-    {x y : Bool} (a : x ≡ some_zero ts L) (b : y ≡ some_zero ts M)
-  where
-    abbrev Takes : Picked → Type 0
-    Takes o = o ≡ cond (leb 2 s) (taken_at stops index ts q) NoLiteral
+-- ---- what a prefix word takes, by its status and by the looks at its two literals
+module _ (statuses : List ℕ) (q : ℤ) {v : ℕ} (is : v ≡ nat_abs q) where
+  is_held : get_or statuses (max_variables + v) 0 < 2 → free_at statuses (nat_abs q) ≡ false
+  is_held h = rw (← is, lt-leb 2 (get_or statuses (max_variables + v) 0) h)
 
-    taken_by_lem : Takes (taken_by x y q)
-    unfolding taken_at live_at
-    taken_by_lem = rw (le-leb 2 s free, ← is, ← l, ← m, ← a, ← b)
+  is_free : 2 ≤ get_or statuses (max_variables + v) 0 → free_at statuses (nat_abs q) ≡ true
+  is_free h = rw (← is, le-leb 2 (get_or statuses (max_variables + v) 0) h)
 
-    pub taken_none : beq x y ≡ true → Takes NoLiteral
-    taken_none e = go x y e ∙ taken_by_lem
-      where
-        go : (x y : Bool) → beq x y ≡ true → NoLiteral ≡ taken_by x y q
-        go true true e = refl
-        go true false e = clash e refl
-        go false true e = clash e refl
-        go false false e = refl
+  pub unassigned_held : get_or statuses (max_variables + v) 0 < 2 → None ≡ first_at statuses q
+  unfolding first_at
+  unassigned_held h = rw (is_held h)
 
-    pub taken_plus : beq x y ≡ false → x ≡ true → {z : Literal} → z ≡ literal q → Takes (Is z)
-    taken_plus f t e = ap Is e ∙ go x y f t ∙ taken_by_lem
-      where
-        go : (x y : Bool) → beq x y ≡ false → x ≡ true → Is (literal q) ≡ taken_by x y q
-        go true true f t = clash refl f
-        go true false f t = refl
-        go false y f t = clash t refl
+  pub unassigned_free : 2 ≤ get_or statuses (max_variables + v) 0 → Some (literal (pos v)) ≡ first_at statuses q
+  unfolding first_at
+  unassigned_free h = rw (is_free h, is)
 
-    pub taken_minus : beq x y ≡ false → x ≡ false → {z : Literal} → z ≡ literal (neg_ℤ q) → Takes (Is z)
-    taken_minus f t e = ap Is e ∙ go x y f t ∙ taken_by_lem
-      where
-        go : (x y : Bool) → beq x y ≡ false → x ≡ false → Is (literal (neg_ℤ q)) ≡ taken_by x y q
-        go true y f t = clash refl t
-        go false true f t = refl
-        go false false f t = clash refl f
+  module _ (stops index ts : List ℕ) where
+    pub monotone_held : get_or statuses (max_variables + v) 0 < 2 → None ≡ monotone_at stops index statuses ts q
+    unfolding monotone_at
+    monotone_held h = rw (is_held h)
 
--- every word of the prefix has a place, and past its end there is the word 0
-pub walk_placed : (p : List ℤ) (stops index ts : List ℕ) → Walkable p stops index ts → (i : ℕ) → nat_abs (get_or p i (pos 0)) ≤ limits.variables
-walk_placed p stops index ts w i = elim (dec_le (length p) i) [
-  | yes h ↦ rw (get_or-eq_default p (pos 0) h) (omega arith)
-  | no h ↦ (w.each (get_or p i (pos 0)) (in_at p i (pos 0) (omega arith))).small
-]
+    pub monotone_free : 2 ≤ get_or statuses (max_variables + v) 0 → {L M : List ℕ} → L ≡ part_at stops index (max_variables + v) → M ≡ part_at stops index (max_variables - v)
+        → (x y : Bool) → x ≡ some_zero ts L → y ≡ some_zero ts M → taken_by x y q ≡ monotone_at stops index statuses ts q
+    unfolding monotone_at taken_at live_at
+    monotone_free h l m x y a b = rw (is_free h, ← is, ← l, ← m, ← a, ← b)
 
--- ---- the loop: nothing is taken so far, and `first` is the first unassigned word, or the prefix's length while there is none
-abbrev first_so : List ℤ → List ℕ → ℕ → ℕ → Picked
-first_so p statuses first i = cond (ltb first (length p)) (Is (literal (pos (nat_abs (get_or p first (pos 0)))))) (first_of (first_at statuses) (drop i p))
-
-pub record Passed (p : List ℤ) (stops index statuses ts : List ℕ) (first i : ℕ) : Type 0 where
-  pub most : i ≤ length p
-  pub none : first_of (monotone_at stops index statuses ts) (drop i p) ≡ first_of (monotone_at stops index statuses ts) p
-  pub first_is : first_so p statuses first i ≡ first_of (first_at statuses) p
-  pub apart : (first < i) ⊎ (first ≡ length p)
-
-module _ (p : List ℤ) (stops index statuses ts : List ℕ) where
-  pub pass_begin : Passed p stops index statuses ts (length p) 0
-  pass_begin = record { most = omega arith; none = refl; first_is = rw (le-ltb (length p) (length p) (omega arith)); apart = inr refl }
-
-  module _ (first i : ℕ) (w : Passed p stops index statuses ts first i) where
-    -- the word at i
-    module _
-        (h : i < length p) {v s : ℕ} (is : v ≡ nat_abs (get_or p i (pos 0))) (at : s ≡ get_or statuses (max_variables + v) 0)
-        {o : Picked} (e : o ≡ cond (leb 2 s) (taken_at stops index ts (get_or p i (pos 0))) NoLiteral)
-      where
-        is_monotone : monotone_at stops index statuses ts (get_or p i (pos 0)) ≡ o
-        unfolding monotone_at
-        is_monotone = rw (← is, ← at) (sym e)
-
-        is_first : first_at statuses (get_or p i (pos 0)) ≡ cond (leb 2 s) (Is (literal (pos (nat_abs (get_or p i (pos 0)))))) NoLiteral
-        unfolding first_at
-        is_first = ap (λ (n : ℕ). cond (free_at statuses n) (Is (literal (pos (nat_abs (get_or p i (pos 0)))))) NoLiteral) (sym is) ∙ rw (← at)
-
-        -- it takes a literal, or none
-        pub pass_taken : (x : Literal) → o ≡ Is x → first_of (monotone_at stops index statuses ts) p ≡ Is x
-        unfolding first_of
-        pass_taken x f = sym w.none ∙ rw (next p i (pos 0) h, is_monotone, f)
-
-        pub pass_next : o ≡ NoLiteral → {k : ℕ} → k ≡ cond (leb 2 s) (min first i) first → Passed p stops index statuses ts k (i + 1)
-        unfolding first_of
-        pass_next f {k} least = record {
-          most = omega arith;
-          none = sym (rw (next p i (pos 0) h, is_monotone, f)) ∙ w.none;
-          first_is = by (look (leb 2 s)) w.apart;
-          apart = so (look (leb 2 s)) w.apart;
-        }
-          where
-            so : (leb 2 s ≡ true) ⊎ (leb 2 s ≡ false) → (first < i) ⊎ (first ≡ length p) → (k < i + 1) ⊎ (k ≡ length p)
-            so (inl t) a = let z : k ≡ min first i = least ∙ rw t in inl (omega arith)
-            so (inr t) (inl a) = let z : k ≡ first = least ∙ rw t in inl (omega arith)
-            so (inr t) (inr a) = let z : k ≡ first = least ∙ rw t in inr (z ∙ a)
-
-            by : (leb 2 s ≡ true) ⊎ (leb 2 s ≡ false) → (first < i) ⊎ (first ≡ length p) → first_so p statuses k (i + 1) ≡ first_of (first_at statuses) p
-            by (inl t) (inl a) =
-                let z : k ≡ min first i = least ∙ rw t in
-                let y : k ≡ first = omega arith in
-                rw (y, lt-ltb first (length p) (omega arith)) (rw (lt-ltb first (length p) (omega arith)) at w.first_is)
-            by (inl t) (inr a) =
-                let z : k ≡ min first i = least ∙ rw t in
-                let y : k ≡ i = omega arith in
-                let q = rw (a, le-ltb (length p) (length p) (omega arith), next p i (pos 0) h, is_first, t) at w.first_is in
-                rw (y, lt-ltb i (length p) h) q
-            by (inr t) a =
-                let z : k ≡ first = least ∙ rw t in
-                let q = rw (next p i (pos 0) h, is_first, t) at w.first_is in
-                rw z q
-
-    -- the end of the prefix
-    pub pass_ended : length p ≤ i → (ks : List ℕ) (n : ℕ) {r : Rule} → r ≡ decide_from p first ks n → r ≡ free_rule p ks n stops index statuses ts
-    unfolding first_of free_rule decide_from
-    pass_ended h ks n e =
-        let a = rw (ended p i h) at w.none in
-        let c = rw (ended p i h) at w.first_is in
-        e ∙ rw (← a, ← c) (go (ltb first (length p)) (literal (pos (nat_abs (get_or p first (pos 0))))))
-      where
-        go : (t : Bool) (x : Literal) → cond t (Decide x) (assigned_rule ks n) ≡ on_picked (cond t (Is x) NoLiteral) (λ l. Decide l) (assigned_rule ks n)
-        go true x = refl
-        go false x = refl
-
-  pub pass_monotone : (ks : List ℕ) (n : ℕ) (x : Literal) → first_of (monotone_at stops index statuses ts) p ≡ Is x → Monotone x ≡ free_rule p ks n stops index statuses ts
+-- ---- the prefix gone through
+module _ (p : List ℤ) (stops index statuses ts ks : List ℕ) (n : ℕ) where
+  pub rule_monotone : (x : Literal) → Some x ≡ first_of (monotone_at stops index statuses ts) p → Monotone x ≡ free_rule p ks n stops index statuses ts
   unfolding free_rule
-  pass_monotone ks n x e = rw e
+  rule_monotone x e = rw (← e)
+
+  module _ (none : None ≡ first_of (monotone_at stops index statuses ts) p) where
+    pub rule_decides : (x : Literal) → Some x ≡ first_of (first_at statuses) p → Decide x ≡ free_rule p ks n stops index statuses ts
+    unfolding free_rule
+    rule_decides x e = rw (← none, ← e)
+
+    pub rule_assigned : None ≡ first_of (first_at statuses) p → {o : Option ℕ} → o ≡ last_kind ks 2 n → on_found o (λ i. BacktrackForall i) Succeed ≡ free_rule p ks n stops index statuses ts
+    unfolding free_rule
+    rule_assigned e is = rw (← none, ← e, is)

@@ -1,5 +1,5 @@
 -- The rounds of a counted search: the rounds of a run, with what is kept of the record; and the numbers that it ends with.
-use Rattle.std.specs.Prelude.{ℕ, ◌+◌, ◌≤◌, ◌<◌, ◌≡◌, refl, Bool, true, false, List, ℤ, length, take}
+use Rattle.std.specs.Prelude.{ℕ, ◌+◌, ◌<◌, ◌≡◌, Bool, true, false, List, ℤ, length, take}
 use Rattle.std.proofs.Common.{◌∙◌}
 use Rattle.formula.specs.Limits.{limits}
 use Rattle.formula.specs.Formula.{prefix_of, formula_of}
@@ -7,14 +7,13 @@ use Rattle.theory.specs.Record.{among}
 use Rattle.record.specs.Trail.{Trail}
 use Rattle.record.specs.Inner.Ready.{OnBlock}
 use Rattle.record.proofs.Laws.Accepted.{kept_true}
-use Rattle.record.specs.declared.rule.State.TheVariants.{Open}
 use Rattle.record.specs.declared.rule.Reached.{Reached}
 use Rattle.memory.specs.Memory.{Memory}
 use Rattle.search.specs.Run.{over}
-use Rattle.search.proofs.Laws.Rounds.{Round, begun, ended, used, more}
+use Rattle.search.proofs.Laws.Rounds.{Round, ended, used, more}
 use Rattle.counted.specs.Inner.Numbers.{Rest}
 use Rattle.counted.specs.Inner.State.{Counted}
-use Rattle.counted.specs.Inner.Standing.{clauses_of, SetOn, Tables, Standing, Numbered}
+use Rattle.counted.specs.Inner.Standing.{clauses_of, SetOn, Numbered}
 use Rattle.counted.specs.Inner.Search.{Advanced, SearchedTo}
 use Rattle.counted.proofs.Laws.State.{trues_laid, opens_laid}
 use Rattle.counted.specs.declared.walk.Bounds.{Bounds}
@@ -40,24 +39,17 @@ pub record Going (b : List ℤ) (m₀ : Memory) (n budget : ℕ) (preferred : Li
   pub trues_long : length ts ≡ length ts₀
   pub opens_long : length os ≡ length os₀
 
-pub going_begin : {b : List ℤ} {m : Memory} {n : ℕ} {levels quantifiers stops index statuses ts os : List ℕ} {was : Bounds} → Standing b m n levels quantifiers stops index statuses ts os was
-    → (budget : ℕ) (preferred : List ℤ) → Going b m n budget preferred ts os m statuses ts os (record { count = n; state = Open }) was 0 0
-going_begin st budget preferred = record { round = begun st.on budget preferred; now_set = st.now_set; rest = record { trues = refl; opens = refl }; trues_long = refl; opens_long = refl }
-
 module _
     {b : List ℤ} {m₀ : Memory} {n budget : ℕ} {preferred : List ℤ} {ts₀ os₀ : List ℕ} {m : Memory} {statuses ts os : List ℕ} {at : Reached} {bounds : Bounds} {steps reason : ℕ}
     (g : Going b m₀ n budget preferred ts₀ os₀ m statuses ts os at bounds steps reason)
   where
-    pub going_stands : {levels quantifiers stops index : List ℕ} → Tables b levels quantifiers stops index → Standing b m at.count levels quantifiers stops index statuses ts os bounds
-    going_stands t = record { on = g.round.on; tables = t; now_set = g.now_set }
-
     numbered : Numbered b m.trail at.count ts₀ os₀ ts os
     numbered = numbers_are b m.trail at.count g.round.on.on ts₀ os₀ ts os bounds g.now_set.counted g.rest
 
     pub going_ended : {r : Bool} → r ≡ over at.state → r ≡ true → SearchedTo b m₀ n budget preferred ts₀ os₀ m (record { reached = at; steps = steps; reason = reason }) ts os
     going_ended e h = let d = ended g.round e h in record { led = d.0; tells = d.1; numbers = numbered }
 
-    pub going_used : budget ≤ steps → SearchedTo b m₀ n budget preferred ts₀ os₀ m (record { reached = at; steps = steps; reason = reason }) ts os
+    pub going_used : steps ≡ budget → SearchedTo b m₀ n budget preferred ts₀ os₀ m (record { reached = at; steps = budget; reason = reason }) ts os
     going_used h = let d = used g.round h in record { led = d.0; tells = d.1; numbers = numbered }
 
     pub going_more : steps < budget → {r : Bool} → r ≡ over at.state → r ≡ false → {m' : Memory} {next : Next} {statuses' ts' os' : List ℕ}

@@ -1,7 +1,7 @@
 -- A literal is live exactly if it occurs in a clause with no true literal: those are the clauses whose number of true literals is 0.
-use Rattle.std.specs.Prelude.{ℕ, suc, ◌+◌, ◌≤◌, ◌<◌, ◌≡◌, ◌⊎◌, Bool, true, false, cond, ℤ, nat_abs, length, drop}
+use Rattle.std.specs.Prelude.{ℕ, suc, ◌+◌, ◌≤◌, ◌<◌, ◌≡◌, ◌⊎◌, Bool, true, false, cond, ℤ, nat_abs, length}
 use Rattle.std.proofs.Math.Path.{refl}
-use Rattle.std.proofs.Common.{sym, ◌∙◌, ap, inl, inr}
+use Rattle.std.proofs.Common.{inl, inr}
 use Rattle.std.proofs.Math.Bool.{not}
 use mathlib.Core.List.{List, [], ◌∷◌}
 use native.Mathlib.Omega.{arith}
@@ -9,8 +9,7 @@ use Rattle.std.proofs.Math.Dec.{eqb}
 use Rattle.std.proofs.Math.ListN.{get_or}
 use Rattle.words.specs.Words.{mem}
 use Rattle.words.specs.Lists.{any}
-use Rattle.words.specs.Laws.Bools.{look, eqb_ne, eqb_i}
-use Rattle.words.specs.Laws.Lists.{any_found, any_past, any_ended}
+use Rattle.words.specs.Laws.Bools.{look}
 use Rattle.formula.specs.Limits.{limits}
 use Rattle.formula.specs.Inner.Places.{place_of}
 use Rattle.theory.specs.Record.{Assignment}
@@ -51,17 +50,3 @@ live_means p m ρ ts os b s o l h = rw (listed_holders l h 0 m o) (any_holders l
 -- each of its clauses has its number
 pub live_within : (p : List ℤ) (m : List (List ℤ)) (ρ : Assignment) (ts os : List ℕ) (b : Bounds) → Counted p m ρ ts os b → AllOnce m → (l : ℤ) → nat_abs l ≤ limits.variables → Within (listed 0 m (place_of l)) ts
 live_within p m ρ ts os b s o l h c k = omega (arith, held_below m o l h c k, s.trues_room)
-
--- ---- the loop
-module _ (ts L : List ℕ) (k : ℕ) where
-  pub live_found : (c : ℕ) → k < length L → c ≡ get_or L k 0 → get_or ts c 0 ≡ 0 → some_zero ts (drop k L) ≡ true
-  unfolding some_zero
-  live_found c h is e = any_found (λ c. eqb (get_or ts c 0) 0) L k 0 h (eqb_i (ap (λ n. get_or ts n 0) (sym is) ∙ e))
-
-  pub live_past : (c : ℕ) → k < length L → c ≡ get_or L k 0 → (get_or ts c 0 ≡ 0 → ⊥) → some_zero ts (drop (k + 1) L) ≡ some_zero ts (drop k L)
-  unfolding some_zero
-  live_past c h is e = any_past (λ c. eqb (get_or ts c 0) 0) L k 0 h (eqb_ne _ 0 (λ z. e (ap (λ n. get_or ts n 0) is ∙ z)))
-
-  pub live_ended : length L ≤ k → some_zero ts (drop k L) ≡ false
-  unfolding some_zero
-  live_ended h = any_ended (λ c. eqb (get_or ts c 0) 0) L k h

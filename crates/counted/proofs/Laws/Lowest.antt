@@ -1,5 +1,6 @@
 -- The lowest unit clause, from a bound below which there is none: a clause of another key is none, and of key 1 the levels decide.
-use Rattle.std.specs.Prelude.{ℕ, zero, suc, ◌+◌, ◌-◌, ◌≤◌, ◌<◌, ◌≡◌, refl, ◌⊎◌, true, ℤ, pos, nat_abs, get_or, take, drop}
+use Rattle.clauses.specs.Found.{unit_clause}
+use Rattle.std.specs.Prelude.{ℕ, zero, suc, ◌+◌, ◌-◌, ◌≤◌, ◌<◌, ◌≡◌, refl, ◌⊎◌, true, ℤ, pos, nat_abs, get_or, take, drop, Some, None}
 use Rattle.std.proofs.Common.{sym, ◌∙◌, inl, inr}
 use Rattle.std.proofs.Math.Bool.{Bool, false}
 use mathlib.Core.List.{List, [], head-eq_of_cons-eq}
@@ -7,7 +8,7 @@ use Rattle.std.proofs.Math.Decide.{ℕ_discrete}
 use native.Mathlib.Omega.{arith}
 use Rattle.std.proofs.Math.Dec.{ltb}
 use Rattle.std.proofs.Math.ListN.{length}
-use borrow.Author.Tests.{ltb-false, lt-ltb, le-ltb, ltb-true}
+use borrow.Author.Tests.{lt-ltb, le-ltb}
 use Rattle.words.specs.Laws.Bools.{look}
 use Rattle.words.specs.Laws.Lists.{next, in_at}
 use Rattle.words.specs.declared.Literal.{Literal}
@@ -20,10 +21,7 @@ use Rattle.rules.specs.Due.{candidate, is_unit, lowest_unit}
 use Rattle.tables.specs.Inner.ByLiteral.{status_in}
 use Rattle.clauses.specs.Inner.Clauses.{level_by}
 use Rattle.record.specs.Inner.Tables.{places}
-use Rattle.record.specs.declared.found.Found.TheVariants.{At, Nothing}
-use Rattle.choice.specs.declared.found.Picked.TheVariants.{Is, NoLiteral}
-use Rattle.clauses.specs.declared.found.UnitFound.TheVariants.{On, NoUnit}
-use Rattle.counted.specs.Inner.Numbers.{Least, key_at}
+use Rattle.counted.specs.Inner.Numbers.{key_at}
 use Rattle.counted.specs.Inner.Unit.{above, Looking, last_open, unit_by}
 use Rattle.counted.proofs.Laws.Numbers.{lowest_is}
 use Rattle.counted.proofs.Laws.State.{unit_passed}
@@ -50,15 +48,19 @@ module _ (es ls : List ℤ) (statuses levels ts os : List ℕ) (from : ℕ) (x :
   abbrev pub NoUnits : ℕ → Type 0
   NoUnits c = (k : ℕ) → k < c → is_unit x.p x.ρ (get_or (clauses_from ls 0 es) k []) ≡ false
 
-  past : (c r : ℕ) → NoUnits c → Least ts os c (length es) 1 r → NoUnits r
-  past c r n l k h = by (look (ltb k c))
-    where
-      by : (ltb k c ≡ true) ⊎ (ltb k c ≡ false) → is_unit x.p x.ρ (get_or (clauses_from ls 0 es) k []) ≡ false
-      by (inl t) = n k (ltb-true k c t)
-      by (inr t) = unit_passed x.p (clauses_from ls 0 es) x.ρ ts os x.b x.counted 0 k (omega (arith, clauses_length ls 0 es, l.within)) (l.others k (ltb-false k c t) h) x.once
+  pub units_begin : NoUnits from
+  units_begin k h = x.counted.unit k (omega (arith, x.bound))
 
-  pub units_begin : (r : ℕ) → Least ts os from (length es) 1 r → NoUnits r
-  units_begin r l = past from r (λ k h. x.counted.unit k (omega (arith, x.bound))) l
+  one_more : (c : ℕ) → NoUnits c → is_unit x.p x.ρ (get_or (clauses_from ls 0 es) c []) ≡ false → NoUnits (c + 1)
+  one_more c n f k h = by (ℕ_discrete k c)
+    where
+      by : Dec (k ≡ c) → is_unit x.p x.ρ (get_or (clauses_from ls 0 es) k []) ≡ false
+      by (yes q) = rw q f
+      by (no q) = n k (omega arith)
+
+  -- the clause c has another key than 1
+  pub units_past : (c : ℕ) → NoUnits c → c < length es → (key_at ts os c ≡ 1 → ⊥) → NoUnits (c + 1)
+  units_past c n h f = one_more c n (unit_passed x.p (clauses_from ls 0 es) x.ρ ts os x.b x.counted c (omega (arith, clauses_length ls 0 es)) f x.once)
 
   -- the clause c has key 1
   module _ (c : ℕ) (n : NoUnits c) (h : c < length es) (one : key_at ts os c ≡ 1) (C : List ℤ) (is : C ≡ get_or (clauses_from ls 0 es) c []) where
@@ -68,49 +70,39 @@ module _ (es ls : List ℤ) (statuses levels ts os : List ℕ) (from : ℕ) (x :
     test : (is_unit x.p x.ρ C ≡ ltb (level_by levels (last_open (status_in statuses) (pos 0) C)) (above (status_in statuses) (level_by levels) places C)) × (last_open (status_in statuses) (pos 0) C ≡ candidate x.p x.ρ C)
     test = rw is (unit_test x.p x.ρ (status_in statuses) (level_by levels) (get_or (clauses_from ls 0 es) c []) (x.meant (get_or (clauses_from ls 0 es) c []) (in_at (clauses_from ls 0 es) c [] inside)) (let k = x.counted.numbers c inside in omega (arith, k.0, k.1)))
 
-    pub units_next : unit_by (status_in statuses) (level_by levels) C ≡ NoLiteral → (r : ℕ) → Least ts os (c + 1) (length es) 1 r → NoUnits r
+    pub units_next : unit_by (status_in statuses) (level_by levels) C ≡ None → NoUnits (c + 1)
     unfolding unit_by
-    units_next e r l = past (c + 1) r more l
+    units_next e = one_more c n (rw (← is) (test.0 ∙ by (look t)))
       where
-        miss : is_unit x.p x.ρ C ≡ false
-        miss = test.0 ∙ by (look (ltb (level_by levels (last_open (status_in statuses) (pos 0) C)) (above (status_in statuses) (level_by levels) places C)))
-          where
-            t : Bool
-            t = ltb (level_by levels (last_open (status_in statuses) (pos 0) C)) (above (status_in statuses) (level_by levels) places C)
+        t : Bool
+        t = ltb (level_by levels (last_open (status_in statuses) (pos 0) C)) (above (status_in statuses) (level_by levels) places C)
 
-            by : (t ≡ true) ⊎ (t ≡ false) → t ≡ false
-            by (inl u) = let z : Is (literal (last_open (status_in statuses) (pos 0) C)) ≡ NoLiteral = rw u at e in let y : ◌≡◌ {A = ℕ} 0 1 = cc in absurd (omega arith)
-            by (inr u) = u
+        by : (t ≡ true) ⊎ (t ≡ false) → t ≡ false
+        by (inl u) = let z : Some (literal (last_open (status_in statuses) (pos 0) C)) ≡ None = rw u at e in let y : ◌≡◌ {A = ℕ} 0 1 = cc in absurd (omega arith)
+        by (inr u) = u
 
-        more : NoUnits (c + 1)
-        more k g = at_k (ℕ_discrete k c)
-          where
-            at_k : Dec (k ≡ c) → is_unit x.p x.ρ (get_or (clauses_from ls 0 es) k []) ≡ false
-            at_k (yes q) = rw (q, ← is) miss
-            at_k (no q) = n k (omega arith)
-
-    pub units_found : (l : Literal) → unit_by (status_in statuses) (level_by levels) C ≡ Is l → On l c ≡ lowest_unit x.p x.ρ (clauses_from ls 0 es)
+    pub units_found : (l : Literal) → unit_by (status_in statuses) (level_by levels) C ≡ Some l → Some (unit_clause l c) ≡ lowest_unit x.p x.ρ (clauses_from ls 0 es)
     unfolding unit_by lowest_unit
     units_found l e =
         let z : 0 + c ≡ c = omega arith in
         let f = lowest_is (is_unit x.p x.ρ) [] 0 (clauses_from ls 0 es) c (omega (arith, inside)) n (λ g. rw (← is) (test.0 ∙ hit.0)) in
-        let a : lowest (is_unit x.p x.ρ) 0 (clauses_from ls 0 es) ≡ At c = rw (z, lt-ltb c (length (clauses_from ls 0 es)) inside) at f in
+        let a : lowest (is_unit x.p x.ρ) 0 (clauses_from ls 0 es) ≡ Some c = rw (z, lt-ltb c (length (clauses_from ls 0 es)) inside) at f in
         rw (a, ← is, ← test.1, hit.1)
       where
         t : Bool
         t = ltb (level_by levels (last_open (status_in statuses) (pos 0) C)) (above (status_in statuses) (level_by levels) places C)
 
         by : (t ≡ true) ⊎ (t ≡ false) → (t ≡ true) × (literal (last_open (status_in statuses) (pos 0) C) ≡ l)
-        by (inl u) = let z : Is (literal (last_open (status_in statuses) (pos 0) C)) ≡ Is l = rw u at e in (u, cc)
-        by (inr u) = let z : NoLiteral ≡ Is l = rw u at e in let y : ◌≡◌ {A = ℕ} 0 1 = cc in absurd (omega arith)
+        by (inl u) = let z : Some (literal (last_open (status_in statuses) (pos 0) C)) ≡ Some l = rw u at e in (u, cc)
+        by (inr u) = let z : None ≡ Some l = rw u at e in let y : ◌≡◌ {A = ℕ} 0 1 = cc in absurd (omega arith)
 
         hit : (t ≡ true) × (literal (last_open (status_in statuses) (pos 0) C) ≡ l)
         hit = by (look t)
 
-  pub units_none : (c : ℕ) → NoUnits c → length es ≤ c → NoUnit ≡ lowest_unit x.p x.ρ (clauses_from ls 0 es)
+  pub units_none : (c : ℕ) → NoUnits c → length es ≤ c → None ≡ lowest_unit x.p x.ρ (clauses_from ls 0 es)
   unfolding lowest_unit
   units_none c n h =
       let k = length (clauses_from ls 0 es) in
       let f = lowest_is (is_unit x.p x.ρ) [] 0 (clauses_from ls 0 es) k (omega arith) (λ j g. n j (omega (arith, clauses_length ls 0 es))) (λ g. absurd (omega arith)) in
-      let a : lowest (is_unit x.p x.ρ) 0 (clauses_from ls 0 es) ≡ Nothing = rw (le-ltb k k (omega arith)) at f in
+      let a : lowest (is_unit x.p x.ρ) 0 (clauses_from ls 0 es) ≡ None = rw (le-ltb k k (omega arith)) at f in
       rw a

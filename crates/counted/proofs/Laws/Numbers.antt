@@ -1,6 +1,6 @@
 -- What the numbers by status mean, and the least clause with a key: the rules' own.
 use Prim.Native.Nat.{ℕ, zero, suc, ◌+◌, ◌≤◌, ◌<◌}
-use Rattle.std.specs.Prelude.{◌≡◌, refl, ◌⊎◌, Bool, true, false, cond, eqb, ltb, ℤ, pos, length, get_or, drop}
+use Rattle.std.specs.Prelude.{◌≡◌, refl, ◌⊎◌, Bool, true, false, cond, eqb, ltb, ℤ, pos, length, get_or, drop, Some, None}
 use Rattle.std.proofs.Common.{sym, ◌∙◌, inl, inr}
 use Rattle.std.proofs.Math.Bool.{and-false}
 use mathlib.Core.List.{List, [], ◌∷◌}
@@ -15,9 +15,8 @@ use Rattle.theory.specs.Tests.{unassigned_existential, in_conflict}
 use Rattle.clauses.specs.Lowest.{lowest}
 use Rattle.rules.specs.Inner.Tabled.{Sorted, as_false, as_true, as_existential, as_universal}
 use Rattle.rules.proofs.Laws.ClausesMean.{status_true}
-use Rattle.record.specs.declared.found.Found.TheVariants.{At, Nothing}
 use Rattle.counted.specs.Fresh.{opens, bit, count_if, trues}
-use Rattle.counted.specs.Inner.Numbers.{Least, Rest, key_at, with_status}
+use Rattle.counted.specs.Inner.Numbers.{NoneFrom, Rest, key_at, with_status}
 use Rattle.counted.proofs.Laws.Counts.{count_most, count_same}
 use Rattle.counted.proofs.Laws.Keys.{conflict_key, key}
 
@@ -54,18 +53,13 @@ pub rest_on : {n : ℕ} {ts₀ os₀ ts₁ os₁ ts₂ os₂ : List ℕ} → Res
 rest_on r s = record { trues = r.trues ∙ s.trues; opens = r.opens ∙ s.opens }
 
 -- ---- the least clause with a key
--- no clause below the bound has the key: the least from the bound is the least of all
-pub least_all : (ts os : List ℕ) (from most wanted r : ℕ) → ((k : ℕ) → k < from → key_at ts os k ≡ wanted → ⊥) → Least ts os from most wanted r → Least ts os 0 most wanted r
-least_all ts os from most wanted r none l = record {
-  least = omega arith;
-  within = l.within;
-  others = λ k z h. by k h (look (ltb k from));
-  found = l.found;
-}
+-- no clause below the bound has the key: none from the bound on is none of all
+pub none_all : (ts os : List ℕ) (from most wanted : ℕ) → ((k : ℕ) → k < from → key_at ts os k ≡ wanted → ⊥) → NoneFrom ts os from most wanted → (k : ℕ) → k < most → key_at ts os k ≡ wanted → ⊥
+none_all ts os from most wanted none n k h = by (look (ltb k from))
   where
-    by : (k : ℕ) → k < r → (ltb k from ≡ true) ⊎ (ltb k from ≡ false) → key_at ts os k ≡ wanted → ⊥
-    by k h (inl t) e = none k (ltb-true k from t) e
-    by k h (inr t) e = l.others k (ltb-false k from t) h e
+    by : (ltb k from ≡ true) ⊎ (ltb k from ≡ false) → key_at ts os k ≡ wanted → ⊥
+    by (inl t) e = none k (ltb-true k from t) e
+    by (inr t) e = n k (ltb-false k from t) h e
 
 ltb_suc : (a b : ℕ) → ltb (suc a) (suc b) ≡ ltb a b
 ltb_suc a b = by (look (ltb a b))
@@ -76,7 +70,7 @@ ltb_suc a b = by (look (ltb a b))
 
 -- the least whose test holds is what the rules look for
 module _ {A : Type 0} (f : A → Bool) (d : A) where
-  pub lowest_is : (n : ℕ) (m : List A) (r : ℕ) → r ≤ length m → ((k : ℕ) → k < r → f (get_or m k d) ≡ false) → (r < length m → f (get_or m r d) ≡ true) → lowest f n m ≡ cond (ltb r (length m)) (At (n + r)) Nothing
+  pub lowest_is : (n : ℕ) (m : List A) (r : ℕ) → r ≤ length m → ((k : ℕ) → k < r → f (get_or m k d) ≡ false) → (r < length m → f (get_or m r d) ≡ true) → lowest f n m ≡ cond (ltb r (length m)) (Some (n + r)) None
   unfolding lowest
   lowest_is n [] r h none found = rw (le-ltb r 0 (omega arith))
   lowest_is n (x ∷ m) zero h none found =
@@ -89,18 +83,14 @@ module _ {A : Type 0} (f : A → Bool) (d : A) where
       (lowest_is (suc n) m r (omega arith) (λ k l. none (suc k) (omega arith)) (λ l. found (omega arith)))
 
 -- with numbers that mean what they say, the least clause of key 0 is the rules' lowest clause in conflict
-pub lowest_conflict : (p : List ℤ) (ρ : Assignment) (m : List (List ℤ)) (ts os : List ℕ) (r : ℕ)
-    → ((c : ℕ) → c < length m → key_at ts os c ≡ key p ρ (get_or m c []))
-    → Least ts os 0 (length m) 0 r
-    → lowest (in_conflict p ρ) 0 m ≡ cond (ltb r (length m)) (At r) Nothing
-lowest_conflict p ρ m ts os r means l =
-    let e : 0 + r ≡ r = omega arith in
-    rw e at (lowest_is (in_conflict p ρ) [] 0 m r l.within others found)
-  where
-    others : (k : ℕ) → k < r → in_conflict p ρ (get_or m k []) ≡ false
-    others k h =
-        let w : k < length m = omega (arith, l.within) in
-        conflict_key p ρ (get_or m k []) ∙ eqb_ne _ 0 (λ e. l.others k (omega arith) h (means k w ∙ e))
+module _ (p : List ℤ) (ρ : Assignment) (m : List (List ℤ)) (ts os : List ℕ) (means : (c : ℕ) → c < length m → key_at ts os c ≡ key p ρ (get_or m c [])) where
+  no_conflict : (r : ℕ) → r ≤ length m → ((k : ℕ) → k < r → key_at ts os k ≡ 0 → ⊥) → (k : ℕ) → k < r → in_conflict p ρ (get_or m k []) ≡ false
+  no_conflict r h none k l = conflict_key p ρ (get_or m k []) ∙ eqb_ne _ 0 (λ e. none k l (means k (omega arith) ∙ e))
 
-    found : r < length m → in_conflict p ρ (get_or m r []) ≡ true
-    found h = conflict_key p ρ (get_or m r []) ∙ eqb_i (sym (means r h) ∙ l.found h)
+  pub conflict_none : ((k : ℕ) → k < length m → key_at ts os k ≡ 0 → ⊥) → lowest (in_conflict p ρ) 0 m ≡ None
+  conflict_none none = lowest_is (in_conflict p ρ) [] 0 m (length m) (omega arith) (no_conflict (length m) (omega arith) none) (λ h. absurd (omega arith)) ∙ rw (le-ltb (length m) (length m) (omega arith))
+
+  pub conflict_least : (r : ℕ) → r < length m → key_at ts os r ≡ 0 → ((k : ℕ) → k < r → key_at ts os k ≡ 0 → ⊥) → lowest (in_conflict p ρ) 0 m ≡ Some r
+  conflict_least r h is none =
+      let e : 0 + r ≡ r = omega arith in
+      lowest_is (in_conflict p ρ) [] 0 m r (omega arith) (no_conflict r (omega arith) none) (λ l. conflict_key p ρ (get_or m r []) ∙ eqb_i (sym (means r h) ∙ is)) ∙ rw (lt-ltb r (length m) h, e)

@@ -1,7 +1,7 @@
 -- What joins the steps of a counted run: checked clauses, a bound raised by a look, a record with one entry more.
 use Prim.Native.Nat.{ℕ, zero, suc, ◌+◌, ◌≤◌, ◌<◌}
 use Rattle.std.proofs.Math.Path.{◌≡◌}
-use Rattle.std.specs.Prelude.{◌⊎◌, Bool, true, ℤ, pos, nat_abs, length, get_or, take}
+use Rattle.std.specs.Prelude.{◌⊎◌, Bool, true, ℤ, pos, nat_abs, length, get_or, Some, None}
 use Rattle.std.proofs.Common.{inl, inr, arith, length-take, length-drop}
 use Rattle.std.proofs.Math.Bool.{false}
 use mathlib.Core.List.{List, [], ◌∷◌}
@@ -11,18 +11,13 @@ use Rattle.words.specs.Laws.Lists.{in_at, any_none, at_in}
 use Rattle.formula.specs.Limits.{limits}
 use Rattle.formula.specs.Formula.{clauses_from}
 use Rattle.formula.specs.Block.{repeats}
-use Rattle.formula.specs.Inner.Named.{Named}
 use Rattle.formula.specs.Laws.Clauses.{clauses_in}
-use Rattle.theory.specs.Record.{Assignment, among, assigned}
-use Rattle.theory.specs.Grown.{put}
+use Rattle.theory.specs.Record.{Assignment}
 use Rattle.clauses.specs.Lowest.{lowest}
 use Rattle.rules.specs.Due.{is_unit}
 use Rattle.clauses.proofs.Laws.Lowest.{lowest_none}
-use Rattle.record.specs.declared.found.Found.TheVariants.{At, Nothing}
-use Rattle.counted.specs.Inner.Entry.{Setting}
-use Rattle.counted.specs.Inner.Index.{Few, Index}
-use Rattle.counted.specs.Inner.State.{AllOnce, Counted, Set}
-use Rattle.counted.proofs.Laws.Entry.{put_last}
+use Rattle.counted.specs.Inner.Index.{Few}
+use Rattle.counted.specs.Inner.State.{AllOnce, Counted}
 use Rattle.counted.specs.declared.walk.Bounds.{Bounds}
 
 -- ---- checked clauses, in which no literal stands twice
@@ -44,17 +39,17 @@ all_once es ls f h C i = record {
 
 -- ---- what a search says of the clauses before what it found
 module _ {A : Type 0} (f : A → Bool) (d : A) where
-  pub below_found : (n c : ℕ) (m : List A) → lowest f n m ≡ At c → (k : ℕ) → n + k < c → f (get_or m k d) ≡ false
+  pub below_found : (n c : ℕ) (m : List A) → lowest f n m ≡ Some c → (k : ℕ) → n + k < c → f (get_or m k d) ≡ false
   unfolding lowest
   below_found n c [] e k h = let z : ◌≡◌ {A = ℕ} 0 1 = cc in absurd (omega arith)
   below_found n c (x ∷ m) e k h = by (look (f x)) k h (below_found (suc n) c m)
     where
-      by : (f x ≡ true) ⊎ (f x ≡ false) → (k : ℕ) → n + k < c → (lowest f (suc n) m ≡ At c → (k : ℕ) → suc n + k < c → f (get_or m k d) ≡ false) → f (get_or (x ∷ m) k d) ≡ false
-      by (inl t) k h ih = let z : At n ≡ At c = rw t at e in let y : n ≡ c = cc in absurd (omega arith)
+      by : (f x ≡ true) ⊎ (f x ≡ false) → (k : ℕ) → n + k < c → (lowest f (suc n) m ≡ Some c → (k : ℕ) → suc n + k < c → f (get_or m k d) ≡ false) → f (get_or (x ∷ m) k d) ≡ false
+      by (inl t) k h ih = let z : Some n ≡ Some c = rw t at e in let y : n ≡ c = cc in absurd (omega arith)
       by (inr t) zero h ih = t
       by (inr t) (suc k) h ih = ih (rw t at e) k (omega arith)
 
-  pub none_found : (n : ℕ) (m : List A) → lowest f n m ≡ Nothing → (k : ℕ) → k < length m → f (get_or m k d) ≡ false
+  pub none_found : (n : ℕ) (m : List A) → lowest f n m ≡ None → (k : ℕ) → k < length m → f (get_or m k d) ≡ false
   none_found n m e k h = any_none f m (lowest_none f n m e) (in_at m k d h)
 
 -- ---- the bound of the unit clauses rises to what the look found, or to the number of clauses
@@ -69,23 +64,3 @@ module _ (p : List ℤ) (m : List (List ℤ)) (ρ : Assignment) (ts os : List �
     unit_most = h;
     unit = n;
   }
-
--- ---- one entry more of a record
-module _ (lits : List ℤ) (n : ℕ) (h : n < length lits) (p : List ℤ) (m : List (List ℤ)) (ls : List ℤ) (stops index statuses ts os : List ℕ) (b : Bounds) where
-  unfoldable pub setting : Index ls m stops index → AllOnce m → length p ≤ limits.variables → Named (length p) (get_or lits n (pos 0)) → assigned (among (take n lits)) (get_or lits n (pos 0)) ≡ false
-      → Set p m (among (take n lits)) statuses ts os b → Setting (get_or lits n (pos 0)) stops index statuses ts os b
-  setting x o r k f s = record {
-    p = p;
-    m = m;
-    ls = ls;
-    ρ = among (take n lits);
-    indexed = x;
-    once = o;
-    room = r;
-    named = k;
-    free = f;
-    now_set = s;
-  }
-
-  pub set_next : Set p m (put (get_or lits n (pos 0)) (among (take n lits))) statuses ts os b → Set p m (among (take (n + 1) lits)) statuses ts os b
-  set_next s = rw (put_last lits n h) s

@@ -3,7 +3,7 @@ use Rattle.std.specs.Prelude.{ℕ, zero, suc, ◌+◌, ◌-◌, ◌*◌, ◌≤�
 use Rattle.std.proofs.Common.{sym, ◌∙◌, arith, length-set, length-drop, get_or-set_same, ext_get_or, get_or-set_other, get_or-drop, eq-eqb, ne_eqb}
 use Rattle.std.proofs.Math.Decide.{ℕ_discrete}
 use Rattle.counted.specs.Inner.Numbers.{key_at}
-use Rattle.counted.specs.Inner.Walk.{Bounded, Lowered, NoneBelow, Raised, Sunk, added}
+use Rattle.counted.specs.Inner.Walk.{Bounded, Lowered, Moved, NoneBelow, added}
 use Rattle.counted.specs.declared.walk.Bounds.{Bounds}
 
 -- ---- laws of the list
@@ -26,34 +26,21 @@ added_drop a c (suc k) [] = omega arith
 added_drop a c (suc k) (x ∷ L) = omega (arith, added_drop a c k L)
 
 -- ---- where no clause of the walk is, nothing moves
-module _ (n a : ℕ) (L xs₀ xs : List ℕ) (none : (c : ℕ) → n ≤ c → added a c L ≡ 0) where
-  pub raised_rest : Raised a L xs₀ [] xs → drop n xs ≡ drop n xs₀
-  raised_rest r = ext_get_or 0 (drop n xs) (drop n xs₀) (simp length-drop (omega (arith, r.kept)))
-      (λ i h. rw (get_or-drop n xs i 0, get_or-drop n xs₀ i 0) (omega (arith, r.said (n + i), added_none a (n + i), none (n + i) (omega arith))))
-
-  pub sunk_rest : Sunk a L xs₀ [] xs → drop n xs ≡ drop n xs₀
-  sunk_rest s = ext_get_or 0 (drop n xs) (drop n xs₀) (simp length-drop (omega (arith, s.kept)))
-      (λ i h. rw (get_or-drop n xs i 0, get_or-drop n xs₀ i 0) (omega (arith, s.said (n + i), added_none a (n + i), none (n + i) (omega arith))))
+pub moved_rest : (n a b : ℕ) (L xs₀ xs : List ℕ) → ((c : ℕ) → n ≤ c → added a c L ≡ 0) → ((c : ℕ) → n ≤ c → added b c L ≡ 0) → Moved a b L xs₀ [] xs → drop n xs ≡ drop n xs₀
+moved_rest n a b L xs₀ xs k h r = ext_get_or 0 (drop n xs) (drop n xs₀) (simp length-drop (omega (arith, r.kept)))
+    (λ i l. rw (get_or-drop n xs i 0, get_or-drop n xs₀ i 0) (omega (arith, r.said (n + i), added_none a (n + i), added_none b (n + i), k (n + i) (omega arith), h (n + i) (omega arith))))
 
 -- ---- one clause of the walk, with what is left after it
-module _ (a : ℕ) (L xs₀ : List ℕ) (c : ℕ) (left xs : List ℕ) (h : c < length xs) where
-  pub raise : Raised a L xs₀ (c ∷ left) xs → Raised a L xs₀ left (set xs c (get_or xs c 0 + a))
-  raise r = record { kept = length-set xs c (get_or xs c 0 + a) ∙ r.kept; said = λ k. by k (ℕ_discrete k c) }
+module _ (a b : ℕ) (L xs₀ : List ℕ) (c : ℕ) (left xs : List ℕ) (h : c < length xs) (r : Moved a b L xs₀ (c ∷ left) xs) (most : (d : ℕ) → added d c (c ∷ left) ≤ added d c L) (enough : added b c L ≤ get_or xs₀ c 0) where
+  pub sinks : b ≤ get_or xs c 0 + a
+  sinks = omega (arith, r.said c, added_own a c left, added_own b c left, most a)
+
+  pub moves : Moved a b L xs₀ left (set xs c (get_or xs c 0 + a - b))
+  moves = record { kept = length-set xs c (get_or xs c 0 + a - b) ∙ r.kept; said = λ k. by k (ℕ_discrete k c) }
     where
-      by : (k : ℕ) → Dec (k ≡ c) → get_or (set xs c (get_or xs c 0 + a)) k 0 + added a k left ≡ get_or xs₀ k 0 + added a k L
-      by k (yes q) = rw (q, get_or-set_same xs c (get_or xs c 0 + a) 0 h) (omega (arith, r.said c, added_own a c left))
-      by k (no q) = rw (get_or-set_other xs c k (get_or xs c 0 + a) 0 q) (omega (arith, r.said k, added_other a k c left q))
-
-  module _ (s : Sunk a L xs₀ (c ∷ left) xs) (enough : added a c L ≤ get_or xs₀ c 0) where
-    pub sinks : a ≤ get_or xs c 0
-    sinks = omega (arith, s.said c, added_own a c left)
-
-    pub sink : Sunk a L xs₀ left (set xs c (get_or xs c 0 - a))
-    sink = record { kept = length-set xs c (get_or xs c 0 - a) ∙ s.kept; said = λ k. by k (ℕ_discrete k c) }
-      where
-        by : (k : ℕ) → Dec (k ≡ c) → get_or (set xs c (get_or xs c 0 - a)) k 0 + added a k L ≡ get_or xs₀ k 0 + added a k left
-        by k (yes q) = rw (q, get_or-set_same xs c (get_or xs c 0 - a) 0 h) (omega (arith, s.said c, added_own a c left, sinks))
-        by k (no q) = rw (get_or-set_other xs c k (get_or xs c 0 - a) 0 q) (omega (arith, s.said k, added_other a k c left q))
+      by : (k : ℕ) → Dec (k ≡ c) → get_or (set xs c (get_or xs c 0 + a - b)) k 0 + (added a k left + added b k L) ≡ get_or xs₀ k 0 + (added a k L + added b k left)
+      by k (yes q) = rw (q, get_or-set_same xs c (get_or xs c 0 + a - b) 0 h) (omega (arith, r.said c, added_own a c left, added_own b c left, sinks))
+      by k (no q) = rw (get_or-set_other xs c k (get_or xs c 0 + a - b) 0 q) (omega (arith, r.said k, added_other a k c left q, added_other b k c left q))
 
 module _ (L ts₀ os₀ : List ℕ) (b₀ : Bounds) (c : ℕ) (left ts os : List ℕ) (b : Bounds) (w : Bounded L ts₀ os₀ b₀ (c ∷ left) ts os b) where
   pub lower : (t o : ℕ) → c < length ts → c < length os → (r : Bounds) → Lowered b c (2 * t + o) r → Bounded L ts₀ os₀ b₀ left (set ts c t) (set os c o) r

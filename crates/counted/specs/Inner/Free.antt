@@ -1,16 +1,19 @@
 -- The search over the prefix where no clause makes a rule due: by the statuses, by the index, and by the numbers of true literals.
-use Rattle.std.specs.Prelude.{ℕ, ◌+◌, ◌-◌, ◌≤◌, Bool, true, false, cond, List, leb, ltb, ℤ, pos, neg_ℤ, nat_abs, length, get_or}
+use Rattle.words.specs.declared.Literal.{Literal}
+use Rattle.std.specs.Prelude.{ℕ, ◌+◌, ◌-◌, ◌≤◌, Bool, true, false, cond, List, leb, ℤ, pos, neg_ℤ, nat_abs, length, get_or, Option, Some, None}
 use Rattle.words.specs.Lists.{In}
 use Rattle.formula.specs.Limits.{limits, max_variables}
 use Rattle.record.specs.Found.{literal, on_found}
-use Rattle.choice.specs.First.{on_picked, first_of}
+use Rattle.choice.specs.First.{first_of}
 use Rattle.record.specs.Inner.Buffers.{last_kind}
 use Rattle.record.specs.declared.rule.Rule.{Rule}
 use Rattle.record.specs.declared.rule.Rule.TheVariants.{Monotone, Decide, BacktrackForall, Succeed}
-use Rattle.choice.specs.declared.found.Picked.{Picked}
-use Rattle.choice.specs.declared.found.Picked.TheVariants.{Is, NoLiteral}
 use Rattle.counted.specs.Inner.Index.{part_at, Parts}
 use Rattle.counted.specs.Inner.Live.{some_zero, Within}
+
+-- every word of a list has a place
+abbrev pub AllSmall : List ℤ → Type 0
+AllSmall p = (q : ℤ) → In q p → nat_abs q ≤ limits.variables
 
 -- the parts of a prefix word's two literals lie in the index, and their clauses have numbers
 pub record Livable (q : ℤ) (stops index ts : List ℕ) : Type 0 where
@@ -25,41 +28,33 @@ pub record Walkable (p : List ℤ) (stops index ts : List ℕ) : Type 0 where
   pub each : (q : ℤ) → In q p → Livable q stops index ts
 
 -- what a prefix word's variable takes, by which of its two literals are live
-abbrev pub taken_by : Bool → Bool → ℤ → Picked
-taken_by true true q = NoLiteral
-taken_by true false q = Is (literal q)
-taken_by false true q = Is (literal (neg_ℤ q))
-taken_by false false q = NoLiteral
+abbrev pub taken_by : Bool → Bool → ℤ → Option Literal
+taken_by true true q = None
+taken_by true false q = Some (literal q)
+taken_by false true q = Some (literal (neg_ℤ q))
+taken_by false false q = None
 
 module _ (stops index ts : List ℕ) where
   unfoldable pub live_at : ℕ → Bool
   live_at p = some_zero ts (part_at stops index p)
 
-  unfoldable pub taken_at : ℤ → Picked
+  unfoldable pub taken_at : ℤ → Option Literal
   taken_at q = taken_by (live_at (max_variables + nat_abs q)) (live_at (max_variables - nat_abs q)) q
 
 -- a status of 2 or 3 says that the variable is unassigned
 abbrev pub free_at : List ℕ → ℕ → Bool
 free_at statuses v = leb 2 (get_or statuses (max_variables + v) 0)
 
-unfoldable pub first_at : List ℕ → ℤ → Picked
-first_at statuses q = cond (free_at statuses (nat_abs q)) (Is (literal (pos (nat_abs q)))) NoLiteral
+unfoldable pub first_at : List ℕ → ℤ → Option Literal
+first_at statuses q = cond (free_at statuses (nat_abs q)) (Some (literal (pos (nat_abs q)))) None
 
-unfoldable pub monotone_at : List ℕ → List ℕ → List ℕ → List ℕ → ℤ → Picked
-monotone_at stops index statuses ts q = cond (free_at statuses (nat_abs q)) (taken_at stops index ts q) NoLiteral
+unfoldable pub monotone_at : List ℕ → List ℕ → List ℕ → List ℕ → ℤ → Option Literal
+monotone_at stops index statuses ts q = cond (free_at statuses (nat_abs q)) (taken_at stops index ts q) None
 
--- a prefix whose words have a place, and a record whose kinds stand in their buffer
-pub record Decidable (p : List ℤ) (ks : List ℕ) (n : ℕ) : Type 0 where
-  pub placed : (i : ℕ) → nat_abs (get_or p i (pos 0)) ≤ limits.variables
-  pub kinds : n ≤ length ks
-
--- with everything assigned, and with the word at `first` as the first unassigned one; it is the prefix's length if there is none
+-- with everything assigned
 abbrev pub assigned_rule : List ℕ → ℕ → Rule
 assigned_rule ks n = on_found (last_kind ks 2 n) (λ i. BacktrackForall i) Succeed
 
-unfoldable pub decide_from : List ℤ → ℕ → List ℕ → ℕ → Rule
-decide_from p first ks n = cond (ltb first (length p)) (Decide (literal (pos (nat_abs (get_or p first (pos 0)))))) (assigned_rule ks n)
-
 -- the rule that is due
 unfoldable pub free_rule : List ℤ → List ℕ → ℕ → List ℕ → List ℕ → List ℕ → List ℕ → Rule
-free_rule p ks n stops index statuses ts = on_picked (first_of (monotone_at stops index statuses ts) p) (λ l. Monotone l) (on_picked (first_of (first_at statuses) p) (λ l. Decide l) (assigned_rule ks n))
+free_rule p ks n stops index statuses ts = on_found (first_of (monotone_at stops index statuses ts) p) (λ l. Monotone l) (on_found (first_of (first_at statuses) p) (λ l. Decide l) (assigned_rule ks n))

@@ -34,9 +34,12 @@ pub record Filled (st : ℤ → ℕ) (m : List (List ℤ)) (ts₀ os₀ ts os : 
 abbrev pub key_at : List ℕ → List ℕ → ℕ → ℕ
 key_at ts os c = 2 * get_or ts c 0 + get_or os c 0
 
--- r is the least number from `from` on whose key is the wanted one, and `most` if there is none
-pub record Least (ts os : List ℕ) (from most wanted r : ℕ) : Type 0 where
-  pub least : from ≤ r
-  pub within : r ≤ most
-  pub others : (k : ℕ) → from ≤ k → k < r → key_at ts os k ≡ wanted → ⊥
-  pub found : r < most → key_at ts os r ≡ wanted
+-- of the numbers from `from` to below `most`: none has the wanted key; or c is the least that has it
+abbrev pub NoneFrom : List ℕ → List ℕ → ℕ → ℕ → ℕ → Type 0
+NoneFrom ts os from most wanted = (k : ℕ) → from ≤ k → k < most → key_at ts os k ≡ wanted → ⊥
+
+pub record Least (ts os : List ℕ) (from most wanted c : ℕ) : Type 0 where
+  pub least : from ≤ c
+  pub within : c < most
+  pub found : key_at ts os c ≡ wanted
+  pub others : NoneFrom ts os from c wanted

@@ -1,6 +1,7 @@
 -- The look for the lowest unit clause, from a bound below which there is none: only clauses of key 1 are looked at. Such a clause is a unit clause
 -- if its open literal is of a lower level than its unassigned universal ones.
-use Rattle.std.specs.Prelude.{ℕ, ◌≤◌, min, ◌≡◌, cond, List, [], ◌∷◌, eqb, ltb, ℤ, pos, length}
+use Rattle.words.specs.declared.Literal.{Literal}
+use Rattle.std.specs.Prelude.{ℕ, ◌≤◌, min, ◌≡◌, cond, List, [], ◌∷◌, eqb, ltb, ℤ, pos, length, Option, Some, None}
 use Rattle.words.specs.Lists.{In}
 use Rattle.formula.specs.Formula.{clauses_from}
 use Rattle.theory.specs.Record.{Assignment}
@@ -9,8 +10,6 @@ use Rattle.tables.specs.Inner.ByLiteral.{status_in}
 use Rattle.clauses.specs.Inner.Clauses.{level_by, Clauses}
 use Rattle.record.specs.Inner.Tables.{places}
 use Rattle.rules.specs.Inner.Meant.{AllMeant}
-use Rattle.choice.specs.declared.found.Picked.{Picked}
-use Rattle.choice.specs.declared.found.Picked.TheVariants.{Is, NoLiteral}
 use Rattle.counted.specs.Inner.State.{AllOnce, Counted}
 use Rattle.counted.specs.declared.walk.Bounds.{Bounds}
 
@@ -24,8 +23,8 @@ above st lev a [] = a
 above st lev a (x ∷ C) = above st lev (cond (eqb (st x) 3) (min a (lev x)) a) C
 
 -- the literal of a clause of key 1, if it is a unit clause
-unfoldable pub unit_by : (ℤ → ℕ) → (ℤ → ℕ) → List ℤ → Picked
-unit_by st lev C = cond (ltb (lev (last_open st (pos 0) C)) (above st lev places C)) (Is (literal (last_open st (pos 0) C))) NoLiteral
+unfoldable pub unit_by : (ℤ → ℕ) → (ℤ → ℕ) → List ℤ → Option Literal
+unit_by st lev C = cond (ltb (lev (last_open st (pos 0) C)) (above st lev places C)) (Some (literal (last_open st (pos 0) C))) None
 
 -- what a look asks of its parts
 pub record LookRoom (es ls : List ℤ) (ts os : List ℕ) (from : ℕ) : Type 0 where

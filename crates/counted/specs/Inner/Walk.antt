@@ -2,6 +2,7 @@
 use Rattle.std.specs.Prelude.{ℕ, ◌+◌, ◌≤◌, ◌<◌, ◌≡◌, cond, List, [], ◌∷◌, eqb, length, get_or}
 use Rattle.formula.specs.Limits.{limits}
 use Rattle.counted.specs.Inner.Numbers.{key_at}
+use Rattle.counted.specs.declared.numbers.Numbers.{Numbers}
 use Rattle.counted.specs.declared.walk.Bounds.{Bounds}
 
 -- a, once for each time that c stands in the list
@@ -20,14 +21,16 @@ pub record Lowered (b : Bounds) (c k : ℕ) (r : Bounds) : Type 0 where
   pub unit_less : r.unit ≤ b.unit
   pub unit_at : k ≡ 1 → r.unit ≤ c
 
--- each place of xs has a more than before for each time that the walk came by; or a less
-pub record Raised (a : ℕ) (L xs₀ left xs : List ℕ) : Type 0 where
-  pub kept : length xs ≡ length xs₀
-  pub said : (c : ℕ) → get_or xs c 0 + added a c left ≡ get_or xs₀ c 0 + added a c L
+-- a number of every clause of the walk can get a more and b less for each time that the walk comes by
+pub record Movable (a b : ℕ) (L xs : List ℕ) : Type 0 where
+  pub inside : (c : ℕ) → 0 < added 1 c L → c < length xs
+  pub small : (c : ℕ) → 0 < added 1 c L → get_or xs c 0 + added a c L ≤ limits.literals
+  pub enough : (c : ℕ) → 0 < added 1 c L → added b c L ≤ get_or xs c 0
 
-pub record Sunk (a : ℕ) (L xs₀ left xs : List ℕ) : Type 0 where
+-- each place of xs has a more and b less than before for each time that the walk came by
+pub record Moved (a b : ℕ) (L xs₀ left xs : List ℕ) : Type 0 where
   pub kept : length xs ≡ length xs₀
-  pub said : (c : ℕ) → get_or xs c 0 + added a c L ≡ get_or xs₀ c 0 + added a c left
+  pub said : (c : ℕ) → get_or xs c 0 + (added a c left + added b c L) ≡ get_or xs₀ c 0 + (added a c L + added b c left)
 
 -- the bounds are still good: no conflict below the one, and below the other no clause that the walk has left with key 1
 pub record Bounded (L ts₀ os₀ : List ℕ) (b₀ : Bounds) (left ts os : List ℕ) (b : Bounds) : Type 0 where
@@ -36,27 +39,8 @@ pub record Bounded (L ts₀ os₀ : List ℕ) (b₀ : Bounds) (left ts os : List
   pub unit_less : b.unit ≤ b₀.unit
   pub unit : (c : ℕ) → c < b.unit → 0 < added 1 c L → added 1 c left ≡ 0 → key_at ts os c ≡ 1 → ⊥
 
--- every clause of the walk has its numbers
-abbrev pub Inside : List ℕ → List ℕ → List ℕ → Type 0
-Inside L ts os = (c : ℕ) → 0 < added 1 c L → (c < length ts) × (c < length os)
-
--- ---- the walk in, as a literal is set, and the walk out
-pub record Enterable (more fewer : ℕ) (L ts os : List ℕ) : Type 0 where
-  pub inside : Inside L ts os
-  pub small : (c : ℕ) → 0 < added 1 c L → get_or ts c 0 + added more c L ≤ limits.literals
-  pub enough : (c : ℕ) → 0 < added 1 c L → added fewer c L ≤ get_or os c 0
-
-pub record CountedIn (more fewer : ℕ) (L ts₀ os₀ : List ℕ) (b₀ : Bounds) (left ts os : List ℕ) (b : Bounds) : Type 0 where
-  pub trues : Raised more L ts₀ left ts
-  pub opens : Sunk fewer L os₀ left os
-  pub bounds : Bounded L ts₀ os₀ b₀ left ts os b
-
-pub record Leavable (less more : ℕ) (L ts os : List ℕ) : Type 0 where
-  pub inside : Inside L ts os
-  pub enough : (c : ℕ) → 0 < added 1 c L → added less c L ≤ get_or ts c 0
-  pub small : (c : ℕ) → 0 < added 1 c L → get_or os c 0 + added more c L ≤ limits.literals
-
-pub record CountedOut (less more : ℕ) (L ts₀ os₀ : List ℕ) (b₀ : Bounds) (left ts os : List ℕ) (b : Bounds) : Type 0 where
-  pub trues : Sunk less L ts₀ left ts
-  pub opens : Raised more L os₀ left os
+-- the walk as a literal is set, and as it is taken back
+pub record Renumbered (more less : Numbers) (L ts₀ os₀ : List ℕ) (b₀ : Bounds) (left ts os : List ℕ) (b : Bounds) : Type 0 where
+  pub trues : Moved more.trues less.trues L ts₀ left ts
+  pub opens : Moved more.opens less.opens L os₀ left os
   pub bounds : Bounded L ts₀ os₀ b₀ left ts os b

@@ -1,5 +1,7 @@
 -- What the code's inner functions say to each other; a reader of `refusal` needs none of it.
-use Rattle.std.specs.Prelude.{◌≡◌, Bool, cond, ◌||◌, List, [], ◌∷◌, ℕ, ◌-◌, ◌<◌, ltb, ℤ, pos, nat_abs, length, get_or}
+use Rattle.std.specs.Prelude.{◌≡◌, Bool, Result, Ok, cond, ◌||◌, List, [], ◌∷◌, ℕ, ◌-◌, ◌<◌, ltb, ℤ, pos, nat_abs, length, get_or}
+use Rattle.words.specs.declared.Refusal.{Refusal}
+use Rattle.words.specs.Outcomes.{refused}
 use Rattle.words.specs.Lists.{any}
 use Rattle.words.specs.Rows.{Row, row}
 use Rattle.words.specs.Words.{negative}
@@ -11,6 +13,9 @@ use Rattle.formula.specs.Inner.Places.{literal_places}
 abbrev pub last_negative : List ℤ → Bool
 last_negative p = negative (get_or p (length p - 1) (pos 0))
 
+abbrev pub pair_rows : List (List ℤ) → List Row
+pair_rows cs = row 10 (any both_signs cs) ∷ row 23 (any repeats cs) ∷ []
+
 abbrev pub part_rows : List ℤ → List ℤ → List ℤ → List Row
 part_rows p es ls =
     row 5 (any (no_variable (length p)) p)
@@ -18,20 +23,15 @@ part_rows p es ls =
     ∷ row 7 (last_negative p)
     ∷ row 8 (bad_ends (length ls) 0 es)
     ∷ row 9 (any (no_variable (length p)) ls)
-    ∷ row 10 (any both_signs (clauses_from ls 0 es))
-    ∷ row 23 (any repeats (clauses_from ls 0 es))
-    ∷ []
+    ∷ pair_rows (clauses_from ls 0 es)
 
 -- a word of size over n, or two of one size
 abbrev pub repeated : ℕ → List ℤ → Bool
 repeated n ws = any (λ w. ltb n (nat_abs w)) ws || twice ws
 
--- rows 10 and 23 of a clause, and of several, where earlier ones gave a number: 0 or 23
-abbrev pub pair_row : ℕ → List ℤ → ℕ
-pair_row earlier c = cond (both_signs c) 10 (cond (repeats c) 23 earlier)
-
-abbrev pub pair_rows : ℕ → List (List ℤ) → ℕ
-pair_rows earlier cs = cond (any both_signs cs) 10 (cond (any repeats cs) 23 earlier)
+-- row 10 of one clause, and else whether row 23 applies to it
+abbrev pub pair_of : List ℤ → Result Bool Refusal
+pair_of c = cond (both_signs c) (refused 10) (Ok (repeats c))
 
 -- a table by literal, in which no mark has the stamp yet, nor a later one
 pub record Fresh (stamp : ℕ) (marks : List ℕ) : Type 0 where

@@ -1,6 +1,6 @@
 -- Tables by variable as their loops see them; and that what is picked is free, or idle.
 use Rattle.std.specs.Prelude.{◌≡◌, refl, Bool, true, false, ◌||◌, List, [], ◌∷◌, ◌++◌, eqb, ℤ, pos, nat_abs, length, get_or, set, take, drop, replicate}
-use Rattle.std.proofs.Common.{sym, ◌∙◌, length-set, length-drop, get_or-set_same, get_or-set_other, length-take-le, eq-eqb, ne_eqb}
+use Rattle.std.proofs.Common.{sym, ◌∙◌, ap, add-one, length-set, length-drop, get_or-set_same, get_or-set_other, length-take-le, eq-eqb, ne_eqb}
 use Rattle.std.proofs.Math.Bool.{or-true, or-false}
 use Prim.Native.Nat.{ℕ, zero, suc, ◌+◌, ◌-◌, ◌≤◌, ◌<◌}
 use Rattle.std.proofs.Math.Decide.{ℕ_discrete}
@@ -10,6 +10,7 @@ use Rattle.std.proofs.Math.ListN.{length-append}
 use Rattle.std.proofs.lemmas.List.Edits.{sets}
 use Rattle.std.proofs.Math.Seq.{set_out}
 use Rattle.words.specs.Lists.{any}
+use Rattle.words.specs.Outcomes.{outcome}
 use Rattle.words.specs.Laws.Lists.{next, ended, blank}
 use Rattle.formula.specs.Block.{names}
 use Rattle.laid.specs.Block.{those, free, idle, completed}
@@ -77,6 +78,26 @@ module _ (f : ℕ → Bool) (v n : ℕ) where
   pub those_ended : n < v → left_from f v n ≡ []
   unfolding those
   those_ended h = let a : n + 1 - v ≡ 0 = omega arith in rw a
+
+-- the place that is reached and what the output holds, and what comes of writing the rest
+pub record Left (f : ℕ → Bool) (v n at : ℕ) (o : List ℤ) (from : ℕ) (o₀ : List ℤ) : Type 0 where
+  pub place : at + length (left_from f v n) ≡ from + length (those f 1 n)
+  pub same : sets o at (left_from f v n) ≡ sets o₀ from (those f 1 n)
+
+module _ {f : ℕ → Bool} {v n at from : ℕ} {o o₀ : List ℤ} (l : Left f v n at o from o₀) where
+  pub left_room : v ≤ n → f v ≡ true → at < from + length (those f 1 n)
+  left_room h e = omega (arith, l.place, ap length (those_yes f v n h e))
+
+  pub left_yes : {at' : ℕ} {o' : List ℤ} → v ≤ n → f v ≡ true → at' ≡ at + 1 → o' ≡ set o at (pos v) → Left f (v + 1) n at' o' from o₀
+  left_yes h e a b =
+      let k = those_yes f v n h e in
+      record { place = omega (arith, l.place, ap length k, a); same = rw (b, a, add-one at) (sym (ap (sets o at) k) ∙ l.same) }
+
+  pub left_no : {at' : ℕ} {o' : List ℤ} → v ≤ n → f v ≡ false → at' ≡ at → o' ≡ o → Left f (v + 1) n at' o' from o₀
+  left_no h e a b = rw (b, a) (record { place = rw (those_no f v n h e) at l.place; same = rw (those_no f v n h e) at l.same })
+
+  pub left_ended : n < v → outcome at o ≡ outcome (from + length (those f 1 n)) (sets o₀ from (those f 1 n))
+  left_ended h = let k = those_ended f v n h in let p : at ≡ from + length (those f 1 n) = omega (arith, l.place, ap length k) in rw (← p) (ap (outcome at) (sym (ap (sets o at) k) ∙ l.same))
 
 -- ---- the loop that copies
 module _ (to from : List ℤ) (at i : ℕ) where

@@ -1,6 +1,7 @@
 -- Runs of stores: one run after another, one store past a run, and what stands where a run was stored. By induction on the run.
 use Rattle.std.specs.Prelude.{◌≡◌, refl, List, [], ◌∷◌, ◌++◌, ℕ, zero, suc, ◌+◌, ◌≤◌, ◌<◌, length, take, drop, set}
 use Rattle.std.proofs.Common.{sym, ◌∙◌, append_assoc, arith, length-append, length-take-le, drop_at, drop-drop}
+use borrow.Rule.Slice.PartMut.{put_mid}
 use Rattle.std.proofs.lemmas.List.Edits.{sets, sets-eq}
 use Rattle.std.proofs.lemmas.List.{set_comm}
 use Rattle.std.proofs.Math.Seq.{take-append_seam, take-nil}
@@ -37,3 +38,7 @@ module _ {A : Type 0} where
 
     pub drop_run : drop (i + length vs) (sets l i vs) ≡ drop (i + length vs) l
     drop_run = sym (drop-drop (length vs) i (sets l i vs)) ∙ rw drop_sets (drop_at vs (drop (i + length vs) l) (length vs) refl)
+
+  -- a part of the list that is written as a whole is a run of stores
+  pub part_is_sets : (xs ys l : List A) (i k : ℕ) → k ≡ length ys → i + length ys ≤ length l → xs ≡ ys → put_mid i k l xs ≡ sets l i ys
+  part_is_sets xs ys l i k e fits same = rw (same, e, sets-eq ys l i fits, drop-drop (length ys) i l) (sym (append_assoc (take i l) ys (drop (i + length ys) l)))

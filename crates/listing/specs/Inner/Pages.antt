@@ -1,8 +1,9 @@
 -- What the functions of a page say to each other; a reader of the outcome needs none of it.
-use Rattle.std.specs.Prelude.{ℕ, ◌≤◌, ◌<◌, ◌≡◌, List, ℤ, pos, nat_abs, length, get_or}
+use Rattle.std.specs.Prelude.{ℕ, ◌≤◌, ◌<◌, ◌≡◌, List, ℤ, pos, nat_abs, length, get_or, Result, Ok}
 use Rattle.formula.specs.Formula.{Formula, prefix_of, first_group}
 use Rattle.record.specs.Trail.{Trail, wiped_trail}
-use Rattle.listing.specs.declared.Paged.{Paged}
+use Rattle.listing.specs.declared.sheets.Page.{Page}
+use Rattle.words.specs.declared.Refusal.{Refusal}
 use Rattle.listing.specs.Rows.{PageGuarded}
 use Rattle.formula.specs.Limits.{limits}
 use Rattle.listing.specs.Page.{PageMemory}
@@ -20,15 +21,9 @@ pub record OnPage (b : List ℤ) (m : PageMemory) (k start : ℕ) : Type 0 where
   pub guard : PageGuarded limits b m start
   pub group : k ≡ first_group (prefix_of b)
 
--- an answer and the memory, once the first V places of the work record are wiped
-abbrev pub wiped_outcome : Formula → Paged → PageMemory → Outcome PageMemory Paged
-wiped_outcome F a m = outcome a (record { work = wiped_trail m.work 0 (length F.prefix); output = m.output })
-
--- a word of a group that has an opposite, and the place of its bit
-pub record WritableAt (g : List ℤ) (i place : ℕ) : Type 0 where
-  pub inside : i < length g
-  pub small : nat_abs (get_or g i (pos 0)) ≤ 2147483647
-  pub low : place < limits.group
+-- a page's answer and the memory, once the first V places of the work record are wiped
+abbrev pub wiped_outcome : Formula → Page → PageMemory → Outcome PageMemory (Result Page Refusal)
+wiped_outcome F a m = outcome (Ok a) (record { work = wiped_trail m.work 0 (length F.prefix); output = m.output })
 
 -- the values of a group can be put at the start of a buffer
 pub record Writable (g ls : List ℤ) : Type 0 where

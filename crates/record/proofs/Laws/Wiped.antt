@@ -1,5 +1,5 @@
 -- What wiping leaves: the length, the places outside, and z inside. The places are a run of stores of one value.
-use Prim.Native.Nat.{ℕ, suc, ◌+◌, ◌-◌, ◌≤◌, ◌<◌}
+use Prim.Native.Nat.{ℕ, suc, ◌+◌, ◌-◌, ◌≤◌, ◌<◌, min}
 use Rattle.std.specs.Prelude.{◌≡◌, ◌⊎◌, List, pos, length, get_or, take, set, replicate}
 use Rattle.std.proofs.Math.Logic.{inl, inr}
 use Rattle.std.proofs.Math.Decide.{dec_le}
@@ -36,13 +36,16 @@ module _ {A : Type 0} (z : A) (l : List A) (from to : ℕ) where
   unfolding wiped
   wiped_next h = let e : to - from ≡ suc (to - suc from) = omega arith in rw (add-one, e)
 
-  pub wiped_none : to ≤ from → wiped z l from to ≡ l
+  wiped_none : to ≤ from → wiped z l from to ≡ l
   unfolding wiped
   wiped_none h = let e : to - from ≡ 0 = omega arith in rw e
 
-  pub wiped_past : length l ≤ from → wiped z l from to ≡ l
+  wiped_past : length l ≤ from → wiped z l from to ≡ l
   unfolding wiped
   wiped_past h = sets_out (replicate (to - from) z) l from h
+
+  pub wiped_rest : min to (length l) ≤ from → wiped z l from to ≡ l
+  wiped_rest h = elim (dec_le to from) [ yes k ↦ wiped_none k | no k ↦ wiped_past (omega arith) ]
 
 -- ---- one place of a trail
 pub wiped_other : (t : Trail) (from to j : ℕ) → (j < from) ⊎ (to ≤ j) → entry_at (wiped_trail t from to) j ≡ entry_at t j

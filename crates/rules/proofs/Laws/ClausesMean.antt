@@ -1,7 +1,9 @@
 -- What the tests over the tables mean: the rules' tests of the same clauses. Each literal of a clause is false, true, unassigned existential or
 -- unassigned universal, and its status says which; the rest goes by induction on the clause.
+use Rattle.clauses.specs.Found.{unit_clause}
+use Rattle.words.specs.declared.Literal.{Literal}
 use Prim.Native.Nat.{ℕ, suc, ◌+◌, ◌≤◌, ◌<◌, min}
-use Rattle.std.specs.Prelude.{◌≡◌, ◌⊎◌, Bool, not, ◌&&◌, ◌||◌, cond, ltb, get_or}
+use Rattle.std.specs.Prelude.{◌≡◌, ◌⊎◌, Bool, not, ◌&&◌, ◌||◌, cond, ltb, get_or, Option, Some, None}
 use Rattle.std.proofs.Math.Path.{refl, subst}
 use Rattle.std.proofs.Common.{sym, ◌∙◌, ap, inl, inr, lt-ltb, le-ltb, ltb-true, ltb-false}
 use Rattle.std.proofs.Math.Bool.{true, false, and-true, and-false, and_assoc}
@@ -18,16 +20,12 @@ use Rattle.formula.specs.Block.{repeats}
 use Rattle.theory.specs.Record.{Assignment}
 use Rattle.theory.specs.Tests.{unassigned_existential, unassigned_universal, in_conflict, unit_on, untrue_of}
 use Rattle.record.specs.Found.{on_found, literal}
-use Rattle.choice.specs.First.{on_picked}
 use Rattle.clauses.specs.Lowest.{lowest}
 use Rattle.rules.specs.Due.{candidate, is_unit, lowest_unit}
 use Rattle.rules.specs.Inner.Tabled.{Sorted, as_false, as_true, as_existential, as_universal}
 use Rattle.rules.specs.Inner.Occurrences.{true_by}
-use Rattle.clauses.specs.Inner.Clauses.{keeps_by, conflict_by, unit, neither, unit_literal, stays_unit, sight_from, lowest_unit_by}
-use Rattle.choice.specs.declared.found.Picked.{Picked}
-use Rattle.choice.specs.declared.found.Picked.TheVariants.{Is, NoLiteral}
-use Rattle.record.specs.declared.found.Found.TheVariants.{At}
-use Rattle.clauses.specs.declared.found.UnitFound.TheVariants.{On, NoUnit}
+use Rattle.clauses.specs.Inner.Clauses.{keeps_by, conflict_by, unit_literal, stays_unit, sight_from, lowest_unit_by}
+use Rattle.clauses.proofs.Looks.{unit_taken}
 use Rattle.record.specs.Inner.Tables.{places}
 use Rattle.rules.specs.Inner.Meant.{AllMeant}
 
@@ -114,12 +112,8 @@ module _ (p : List ℤ) (ρ : Assignment) (st lev : ℤ → ℕ) where
   unit_in above C l =
       not (any ρ C) && any (unassigned_existential p ρ) C && only_existential l C && (ltb (level p l) above && higher_universal l C)
 
-  abbrev taken : Bool → ℤ → Picked
-  taken b l = cond b (Is (literal l)) NoLiteral
-
-  pick : (b : Bool) (l : ℤ) → unit_literal (cond b (unit l) neither) ≡ taken b l
-  pick true l = refl
-  pick false l = refl
+  abbrev taken : Bool → ℤ → Option Literal
+  taken b l = cond b (Some (literal l)) None
 
   -- with any candidate z
   abbrev stated : ℕ → ℤ → List ℤ → ℤ → Type 0
@@ -136,7 +130,7 @@ module _ (p : List ℤ) (ρ : Assignment) (st lev : ℤ → ℕ) where
       go : Sorted p ρ st x → lev x ≡ level p x → ((n : ℕ) → unit_literal (sight_from st lev n C) ≡ taken (unit_in n C l) l) → stated above x C (candidate p ρ (x ∷ C))
       go (as_false s t e u) v ih = let k : candidate p ρ (x ∷ C) ≡ l = rw e in let r : stated above x C l = rw (s, t, e, u) (ih above) in subst (stated above x C) (sym k) r
       go (as_true s t) v ih = rw (s, t)
-      go (as_existential s t e u) v ih = let k : candidate p ρ (x ∷ C) ≡ x = rw e in let r : stated above x C x = rw (s, t, e, u, eq_z_refl x, stays_means x v above C (or_fl (mem x C) (repeats C) o) (λ y i. h y (there i))) (pick (not (any ρ C) && only_existential x C && (ltb (level p x) above && higher_universal x C)) x ∙ ap (λ b. taken (b && only_existential x C && (ltb (level p x) above && higher_universal x C)) x) (sym (and-true (not (any ρ C))))) in subst (stated above x C) (sym k) r
+      go (as_existential s t e u) v ih = let k : candidate p ρ (x ∷ C) ≡ x = rw e in let r : stated above x C x = rw (s, t, e, u, eq_z_refl x, stays_means x v above C (or_fl (mem x C) (repeats C) o) (λ y i. h y (there i))) (unit_taken (not (any ρ C) && only_existential x C && (ltb (level p x) above && higher_universal x C)) x ∙ ap (λ b. taken (b && only_existential x C && (ltb (level p x) above && higher_universal x C)) x) (sym (and-true (not (any ρ C))))) in subst (stated above x C) (sym k) r
       go (as_universal s t e u) v ih = let k : candidate p ρ (x ∷ C) ≡ l = rw e in let r : stated above x C l = rw (s, t, e, u, v, ih (min above (level p x)), ltb_min (level p l) above (level p x)) (ap (λ b. taken (not (any ρ C) && any (unassigned_existential p ρ) C && only_existential l C && b) l) (and_assoc (ltb (level p l) above) (ltb (level p l) (level p x)) (higher_universal l C))) in subst (stated above x C) (sym k) r
 
   -- the candidate is the clause's, if it has an unassigned existential literal
@@ -166,7 +160,7 @@ module _ (p : List ℤ) (ρ : Assignment) (st lev : ℤ → ℕ) where
   unit_means C o h = from_means places C o h ∙ ap (λ b. taken b (candidate p ρ C)) (unit_in_lem C h)
 
   -- the lowest unit clause. G is the candidate by the clause's number
-  lowest_from : (n : ℕ) (m : List (List ℤ)) → any repeats m ≡ false → ((C : List ℤ) → In C m → AllMeant p ρ st lev C) → (G : ℕ → ℤ) → ((i : ℕ) → G (n + i) ≡ candidate p ρ (get_or m i [])) → lowest_unit_by st lev n m ≡ on_found (lowest (is_unit p ρ) n m) (λ c. On (literal (G c)) c) NoUnit
+  lowest_from : (n : ℕ) (m : List (List ℤ)) → any repeats m ≡ false → ((C : List ℤ) → In C m → AllMeant p ρ st lev C) → (G : ℕ → ℤ) → ((i : ℕ) → G (n + i) ≡ candidate p ρ (get_or m i [])) → lowest_unit_by st lev n m ≡ on_found (lowest (is_unit p ρ) n m) (λ c. Some (unit_clause (literal (G c)) c)) None
   unfolding lowest_unit_by lowest any
   lowest_from n [] o h G e = refl
   lowest_from n (C ∷ m) o h G e = rw (unit_means C (or_fl (repeats C) (any repeats m) o) (h C (here refl))) (go (is_unit p ρ C) (lowest_from (suc n) m (or_fr (repeats C) (any repeats m) o) (λ D i. h D (there i)) G (λ i. let z : suc n + i ≡ n + suc i = omega arith in rw z (e (suc i)))))
@@ -174,8 +168,8 @@ module _ (p : List ℤ) (ρ : Assignment) (st lev : ℤ → ℕ) where
       first : G n ≡ candidate p ρ C
       first = let z : n + 0 ≡ n = omega arith in rw z at (e 0)
 
-      go : (b : Bool) → lowest_unit_by st lev (suc n) m ≡ on_found (lowest (is_unit p ρ) (suc n) m) (λ c. On (literal (G c)) c) NoUnit → on_picked (taken b (candidate p ρ C)) (λ x. On x n) (lowest_unit_by st lev (suc n) m) ≡ on_found (cond b (At n) (lowest (is_unit p ρ) (suc n) m)) (λ c. On (literal (G c)) c) NoUnit
-      go true ih = ap (λ x. On (literal x) n) (sym first)
+      go : (b : Bool) → lowest_unit_by st lev (suc n) m ≡ on_found (lowest (is_unit p ρ) (suc n) m) (λ c. Some (unit_clause (literal (G c)) c)) None → on_found (taken b (candidate p ρ C)) (λ x. Some (unit_clause x n)) (lowest_unit_by st lev (suc n) m) ≡ on_found (cond b (Some n) (lowest (is_unit p ρ) (suc n) m)) (λ c. Some (unit_clause (literal (G c)) c)) None
+      go true ih = ap (λ x. Some (unit_clause (literal x) n)) (sym first)
       go false ih = ih
 
   pub lowest_unit_means : (m : List (List ℤ)) → any repeats m ≡ false → ((C : List ℤ) → In C m → AllMeant p ρ st lev C) → lowest_unit_by st lev 0 m ≡ lowest_unit p ρ m

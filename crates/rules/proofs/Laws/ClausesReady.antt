@@ -1,6 +1,7 @@
 -- Over checked input and its tables the tests of a clause are the rules' own: a literal's variable is bound once, so its value and its
 -- quantifier, which the tables hold, decide what the literal is to its clause.
-use Rattle.std.specs.Prelude.{◌≡◌, Bool, not, List, ℕ, ◌≤◌, zero, suc, ◌<◌, ltb, ℤ, nat_abs, pos, negsuc, neg_ℤ, length, get_or, take, ◌⊎◌}
+use Rattle.clauses.specs.declared.found.UnitClause.{UnitClause}
+use Rattle.std.specs.Prelude.{◌≡◌, Bool, not, List, ℕ, ◌≤◌, zero, suc, ◌<◌, ltb, ℤ, nat_abs, pos, negsuc, neg_ℤ, length, get_or, take, ◌⊎◌, Option, Some, None}
 use Rattle.std.proofs.Common.{◌∙◌, ap, zero-le, arith, ltb-false, ltb-true, inl, inr}
 use Rattle.std.proofs.Math.Path.{refl}
 use Rattle.std.proofs.Math.Bool.{false, true, cond, and-false}
@@ -40,9 +41,6 @@ use Rattle.rules.proofs.Laws.ClausesMean.{untrue_means, lowest_conflict_means, l
 use Rattle.rules.specs.Inner.Meant.{Meant}
 use Rattle.clauses.specs.declared.found.Deciding.{Deciding}
 use Rattle.clauses.specs.declared.found.Deciding.TheVariants.{Conflict, Quiet}
-use Rattle.record.specs.declared.found.Found.{Found}
-use Rattle.record.specs.declared.found.Found.TheVariants.{At, Nothing}
-use Rattle.clauses.specs.declared.found.UnitFound.{UnitFound}
 
 module _ (p : List ℤ) (b : Bound p) (ρ : Assignment) (values : List ℕ) (vals : Values ρ values) (con : Consistent ρ) where
   -- a literal is true, or false by its opposite, or unassigned and of its variable's quantifier
@@ -135,14 +133,14 @@ module _ (p es ls : List ℤ) (ready : Ready p es ls) where
         }
 
     -- and what the search for both finds: by the rules' order, conflict first
-    pub deciding_ready : (levels : List ℕ) → Levels p levels → {d : Deciding} → d ≡ deciding_by (status_in statuses) (level_by levels) 0 (clauses_from ls 0 es) → {A : Type 0} (f : ℕ → A) (g : UnitFound → A)
+    pub deciding_ready : (levels : List ℕ) → Levels p levels → {d : Deciding} → d ≡ deciding_by (status_in statuses) (level_by levels) 0 (clauses_from ls 0 es) → {A : Type 0} (f : ℕ → A) (g : Option UnitClause → A)
         → on_deciding d f g ≡ on_found (lowest (in_conflict p ρ) 0 (clauses_from ls 0 es)) f (g (lowest_unit p ρ (clauses_from ls 0 es)))
     unfolding deciding_by
     deciding_ready levels lvls e f g = rw (e, conflict_ready, unit_ready levels lvls) (by (lowest (in_conflict p ρ) 0 (clauses_from ls 0 es)) (lowest_unit p ρ (clauses_from ls 0 es)))
       where
-        by : (o : Found) (u : UnitFound) → on_deciding (on_found o Conflict (Quiet u)) f g ≡ on_found o f (g u)
-        by (At c) u = refl
-        by Nothing u = refl
+        by : (o : Option ℕ) (u : Option UnitClause) → on_deciding (on_found o Conflict (Quiet u)) f g ≡ on_found o f (g u)
+        by (Some c) u = refl
+        by None u = refl
 
 -- ---- the record
 module _ (p : List ℤ) (t : Trail) (n : ℕ) (kept : Kept p t n) where

@@ -1,5 +1,6 @@
 -- What the search for a monotone variable by the tables means: the signs of a variable are those with which it occurs.
-use Rattle.std.specs.Prelude.{ℕ, zero, suc, ◌+◌, ◌-◌, ◌≤◌, ◌≡◌, Bool, ◌&&◌, ◌||◌, List, ℤ, pos, negsuc, neg_ℤ, nat_abs, length, get_or}
+use Rattle.words.specs.declared.Literal.{Literal}
+use Rattle.std.specs.Prelude.{ℕ, zero, suc, ◌+◌, ◌-◌, ◌≤◌, ◌≡◌, Bool, ◌&&◌, ◌||◌, List, ℤ, pos, negsuc, neg_ℤ, nat_abs, length, get_or, Option, Some, None}
 use Rattle.std.proofs.Math.Path.{refl}
 use Rattle.std.proofs.Common.{◌∙◌, ap, le_trans, arith}
 use Rattle.std.proofs.Math.Bool.{true, false, cond, not, or-false, or_comm}
@@ -22,10 +23,9 @@ use Rattle.choice.specs.Laws.VariablesMean.{assigned_in_lem}
 use Rattle.rules.specs.Due.{first_monotone}
 use Rattle.record.specs.Inner.Tables.{Values}
 use Rattle.rules.specs.Inner.Occurrences.{Occurring}
-use Rattle.rules.specs.Inner.Variables.{signs_in, monotone_in}
+use Rattle.rules.specs.Inner.Variables.{signs_in, by_signs, monotone_in}
+use Rattle.rules.specs.declared.by_literal.Signs.TheVariants.{Neither, Positive, Negative, Both}
 use Rattle.record.specs.Inner.Ready.{Bound}
-use Rattle.choice.specs.declared.found.Picked.{Picked}
-use Rattle.choice.specs.declared.found.Picked.TheVariants.{Is, NoLiteral}
 
 -- ---- signs
 module _ (m : List (List ℤ)) (table : List ℕ) (said : Occurring m table) (v : ℕ) (h : v ≤ limits.variables) where
@@ -35,21 +35,12 @@ module _ (m : List (List ℤ)) (table : List ℕ) (said : Occurring m table) (v 
   minus : get_or table (max_variables - v) 0 ≡ cond (occurs m (neg_ℤ (pos v))) 1 0
   minus = let l : nat_abs (neg_ℤ (pos v)) ≤ limits.variables = rw (nat_abs_neg (pos v)) h in rw (← variables_are, ← place_minus v) (said (place_of (neg_ℤ (pos v))) ∙ ap (λ x. cond (occurs m x) 1 0) (word_place (neg_ℤ (pos v)) l))
 
-  signs_one : eqb (signs_in table v) 1 ≡ one_sign m (pos v)
+  -- so with one sign only it takes that literal, or the opposite
+  pub taken_by : (q : ℤ) → by_signs (signs_in table v) q ≡ cond (one_sign m (pos v)) (Some (literal q)) (cond (one_sign m (neg_ℤ (pos v))) (Some (literal (neg_ℤ q))) None)
   unfolding one_sign
-  signs_one = rw (plus, minus) (go (occurs m (pos v)) (occurs m (neg_ℤ (pos v))))
+  taken_by q = rw (plus, minus, negneg (pos v)) (go (occurs m (pos v)) (occurs m (neg_ℤ (pos v))))
     where
-      go : (a b : Bool) → eqb (cond (eqb (cond b 1 0) 0) (cond a 1 0) (cond (eqb (cond a 1 0) 0) 2 3)) 1 ≡ (a && not b)
-      go true true = refl
-      go true false = refl
-      go false true = refl
-      go false false = refl
-
-  signs_two : eqb (signs_in table v) 2 ≡ one_sign m (neg_ℤ (pos v))
-  unfolding one_sign
-  signs_two = rw (plus, minus, negneg (pos v)) (go (occurs m (pos v)) (occurs m (neg_ℤ (pos v))))
-    where
-      go : (a b : Bool) → eqb (cond (eqb (cond b 1 0) 0) (cond a 1 0) (cond (eqb (cond a 1 0) 0) 2 3)) 2 ≡ (b && not a)
+      go : (a b : Bool) → by_signs (cond (eqb (cond b 1 0) 0) (cond (eqb (cond a 1 0) 0) Neither Positive) (cond (eqb (cond a 1 0) 0) Negative Both)) q ≡ cond (a && not b) (Some (literal q)) (cond (b && not a) (Some (literal (neg_ℤ q))) None)
       go true true = refl
       go true false = refl
       go false true = refl
@@ -77,12 +68,12 @@ module _ (p : List ℤ) (b : Bound p) (m : List (List ℤ)) (ρ : Assignment) wh
   unfolding first_monotone monotone_in
   monotone_means values occurs vals occ = first_same _ _ p each
     where
-      go : (a x y : Bool) (A B : Picked) → cond a NoLiteral (cond x A (cond y B NoLiteral)) ≡ cond (not a && x) A (cond (not a && y) B NoLiteral)
+      go : (a x y : Bool) (A B : Option Literal) → cond a None (cond x A (cond y B None)) ≡ cond (not a && x) A (cond (not a && y) B None)
       go true x y A B = refl
       go false x y A B = refl
 
-      each : (q : ℤ) → In q p → monotone_in values occurs q ≡ cond (monotone p m ρ q) (Is (literal q)) (cond (monotone p m ρ (neg_ℤ q)) (Is (literal (neg_ℤ q))) NoLiteral)
+      each : (q : ℤ) → In q p → monotone_in values occurs q ≡ cond (monotone p m ρ q) (Some (literal q)) (cond (monotone p m ρ (neg_ℤ q)) (Some (literal (neg_ℤ q))) None)
       each q i =
           let small : nat_abs q ≤ limits.variables = le_trans (in_named (length p) p b.binds.named i).most b.room in
-          rw (assigned_in_lem ρ values vals q, monotone_own q i, monotone_opposite q i, ← signs_one m occurs occ (nat_abs q) small, ← signs_two m occurs occ (nat_abs q) small)
-          (go (assigned ρ q) _ _ (Is (literal q)) (Is (literal (neg_ℤ q))))
+          rw (assigned_in_lem ρ values vals q, monotone_own q i, monotone_opposite q i, taken_by m occurs occ (nat_abs q) small q)
+          (go (assigned ρ q) _ _ (Some (literal q)) (Some (literal (neg_ℤ q))))

@@ -1,5 +1,7 @@
 -- The due rule names a clause of the block, so that its reason is at most C; and it has a place to write a reason to. By the cases of the searches.
-use Rattle.std.specs.Prelude.{ℕ, ◌+◌, ◌≤◌, ◌<◌, ◌≡◌, Bool, length, get_or, drop}
+use Rattle.clauses.specs.Found.{unit_clause}
+use Rattle.clauses.specs.declared.found.UnitClause.{UnitClause}
+use Rattle.std.specs.Prelude.{ℕ, ◌+◌, ◌≤◌, ◌<◌, ◌≡◌, Bool, length, get_or, drop, Option, Some, None}
 use Rattle.std.proofs.Math.Path.{refl}
 use Rattle.std.proofs.Common.{ap, ◌∙◌, arith, length-drop, length-take-le}
 use mathlib.Core.List.{List, []}
@@ -15,20 +17,14 @@ use Rattle.theory.specs.Record.{Record, true_in}
 use Rattle.theory.specs.Tests.{in_conflict}
 use Rattle.record.specs.declared.rule.Rule.{Rule}
 use Rattle.record.specs.declared.rule.Rule.TheVariants.{BacktrackExists, Fail, Unit, Monotone, Decide, BacktrackForall, Succeed}
-use Rattle.record.specs.declared.found.Found.{Found}
-use Rattle.record.specs.declared.found.Found.TheVariants.{At, Nothing}
-use Rattle.choice.specs.declared.found.Picked.{Picked}
-use Rattle.choice.specs.declared.found.Picked.TheVariants.{Is, NoLiteral}
-use Rattle.clauses.specs.declared.found.UnitFound.{UnitFound}
-use Rattle.clauses.specs.declared.found.UnitFound.TheVariants.{On, NoUnit}
 use Rattle.record.specs.declared.rule.State.TheVariants.{Open}
 use Rattle.record.specs.Trail.{Trail, record_of}
 use Rattle.record.specs.Search.{search}
 use Rattle.record.specs.Inner.Ready.{OnBlock}
 use Rattle.record.specs.Found.{literal, on_found, last}
-use Rattle.choice.specs.First.{on_picked, first_unassigned}
+use Rattle.choice.specs.First.{first_unassigned}
 use Rattle.clauses.specs.Lowest.{lowest}
-use Rattle.rules.specs.Due.{on_unit, candidate, is_unit, lowest_unit, first_monotone, due_assigned, due_decide, due_monotone, due_unit, due_conflict, due}
+use Rattle.rules.specs.Due.{candidate, is_unit, lowest_unit, first_monotone, due_assigned, due_decide, due_monotone, due_unit, due_conflict, due}
 use Rattle.applied.specs.Inner.Fits.{Fitting}
 use Rattle.record.proofs.Laws.Accepted.{prefix_length}
 use Rattle.clauses.proofs.Laws.Lowest.{lowest_at, lowest_below}
@@ -44,23 +40,23 @@ unfolding formula_of
 fitting {L} {b} {t} {n} o = due_fits (formula_of b) (search t n Open) o.kept
 
 module _ (F : Formula) (r : Record) where
-  by_last : (c : ℕ) → c < length F.clauses → (o : Found) → Names F r (on_found o (λ i. BacktrackExists i c) (Fail c))
-  by_last c h (At i) = h
-  by_last c h Nothing = h
+  by_last : (c : ℕ) → c < length F.clauses → (o : Option ℕ) → Names F r (on_found o (λ i. BacktrackExists i c) (Fail c))
+  by_last c h (Some i) = h
+  by_last c h None = h
 
-  by_forall : (o : Found) → Names F r (on_found o (λ i. BacktrackForall i) Succeed)
-  by_forall (At i) = omega arith
-  by_forall Nothing = omega arith
+  by_forall : (o : Option ℕ) → Names F r (on_found o (λ i. BacktrackForall i) Succeed)
+  by_forall (Some i) = omega arith
+  by_forall None = omega arith
 
-  by_decide : (o : Picked) → Names F r (on_picked o (λ l. Decide l) (due_assigned r))
-  by_decide (Is l) = omega arith
-  by_decide NoLiteral = by_forall (last 2 0 r)
+  by_decide : (o : Option Literal) → Names F r (on_found o (λ l. Decide l) (due_assigned r))
+  by_decide (Some l) = omega arith
+  by_decide None = by_forall (last 2 0 r)
 
-  by_monotone : (o : Picked) → Names F r (on_picked o (λ l. Monotone l) (due_decide F.prefix r))
-  by_monotone (Is l) = omega arith
-  by_monotone NoLiteral = by_decide (first_unassigned (true_in r) F.prefix)
+  by_monotone : (o : Option Literal) → Names F r (on_found o (λ l. Monotone l) (due_decide F.prefix r))
+  by_monotone (Some l) = omega arith
+  by_monotone None = by_decide (first_unassigned (true_in r) F.prefix)
 
-  found_unit : (l : Literal) (c : ℕ) → lowest_unit F.prefix (true_in r) F.clauses ≡ On l c → Names F r (Unit l c)
+  found_unit : (l : Literal) (c : ℕ) → lowest_unit F.prefix (true_in r) F.clauses ≡ Some (unit_clause l c) → Names F r (Unit l c)
   unfolding lowest_unit
   found_unit l c e = go (lowest (is_unit p ρ) 0 m) refl e
     where
@@ -73,28 +69,28 @@ module _ (F : Formula) (r : Record) where
       m : List (List ℤ)
       m = F.clauses
 
-      go : (o : Found) → lowest (is_unit p ρ) 0 m ≡ o → on_found o (λ c. On (literal (candidate p ρ (get_or m c []))) c) NoUnit ≡ On l c → Names F r (Unit l c)
-      go (At i) q e =
+      go : (o : Option ℕ) → lowest (is_unit p ρ) 0 m ≡ o → on_found o (λ c. Some (unit_clause (literal (candidate p ρ (get_or m c []))) c)) None ≡ Some (unit_clause l c) → Names F r (Unit l c)
+      go (Some i) q e =
           let (j, s, t, u) = lowest_at (is_unit p ρ) [] 0 m i q in
           let z : j ≡ i = omega arith in
-          let same : i ≡ c = cc in
-          let w : literal (candidate p ρ (get_or m i [])) ≡ l = cc in
-          let w0 : candidate p ρ (get_or m i []) ≡ l.0 = ap (λ (x : Literal). x.0) w in
+          let w : unit_clause (literal (candidate p ρ (get_or m i []))) i ≡ unit_clause l c = cc in
+          let same : i ≡ c = ap (λ (u : UnitClause). u.clause) w in
+          let w0 : candidate p ρ (get_or m i []) ≡ l.0 = ap (λ (u : UnitClause). u.literal.0) w in
           let b = lowest_below (is_unit p ρ) 0 m i q in
           rw (← same) (omega arith, rw (← w0) (rw z at u))
-      go Nothing q e = let z : ◌≡◌ {A = ℕ} 0 1 = cc in absurd (omega arith)
+      go None q e = let z : ◌≡◌ {A = ℕ} 0 1 = cc in absurd (omega arith)
 
-  by_unit : (o : UnitFound) → lowest_unit F.prefix (true_in r) F.clauses ≡ o → Names F r (on_unit o (λ l c. Unit l c) (due_monotone F r))
-  by_unit (On l c) e = found_unit l c e
-  by_unit NoUnit e = by_monotone (first_monotone _ _ _)
+  by_unit : (o : Option UnitClause) → lowest_unit F.prefix (true_in r) F.clauses ≡ o → Names F r (on_found o (λ u. Unit u.literal u.clause) (due_monotone F r))
+  by_unit (Some u) e = found_unit u.literal u.clause e
+  by_unit None e = by_monotone (first_monotone _ _ _)
 
   pub due_names : Names F r (due F r)
   unfolding due
   due_names = go (lowest (in_conflict F.prefix (true_in r)) 0 F.clauses) refl
     where
-      go : (o : Found) → lowest (in_conflict F.prefix (true_in r)) 0 F.clauses ≡ o → Names F r (on_found o (due_conflict r) (due_unit F r))
-      go (At c) e = let b = lowest_below (in_conflict F.prefix (true_in r)) 0 F.clauses c e in by_last c (omega arith) (last 1 0 r)
-      go Nothing e = by_unit (lowest_unit F.prefix (true_in r) F.clauses) refl
+      go : (o : Option ℕ) → lowest (in_conflict F.prefix (true_in r)) 0 F.clauses ≡ o → Names F r (on_found o (due_conflict r) (due_unit F r))
+      go (Some c) e = let b = lowest_below (in_conflict F.prefix (true_in r)) 0 F.clauses c e in by_last c (omega arith) (last 1 0 r)
+      go None e = by_unit (lowest_unit F.prefix (true_in r) F.clauses) refl
 
 -- so its reason is at most C
 reason_most : (F : Formula) (r : Record) (rule : Rule) → Names F r rule → reason_of rule ≤ length F.clauses

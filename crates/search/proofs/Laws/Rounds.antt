@@ -1,6 +1,6 @@
 -- One step of a run, the rounds of its loop, and its ways out. What the guard has shown holds at each round, and the run from there is the run from the
 -- start.
-use Rattle.std.specs.Prelude.{ℕ, ◌+◌, ◌-◌, ◌≤◌, ◌<◌, ◌≡◌, refl, Bool, true, false, List, ℤ, length, take}
+use Rattle.std.specs.Prelude.{ℕ, ◌+◌, ◌-◌, ◌≤◌, ◌<◌, ◌≡◌, Bool, true, false, List, ℤ, length, take}
 use Rattle.std.proofs.Common.{sym, subst, ◌∙◌, ap, ap₂, arith}
 use Rattle.std.proofs.Math.Nat.{sub-zero}
 use Rattle.words.specs.declared.Literal.{Literal}
@@ -17,7 +17,6 @@ use Rattle.rules.specs.Due.{due}
 use Rattle.choice.specs.Preferred.{proposal_of}
 use Rattle.applied.specs.Apply.{apply}
 use Rattle.record.specs.Inner.Ready.{OnBlock}
-use Rattle.applied.specs.Laws.Untouched.{apply_lengths}
 use Rattle.record.proofs.Laws.Accepted.{kept_true}
 use Rattle.memory.specs.Memory.{Memory}
 use Rattle.memory.specs.Reasons.{Why, why, noted, told}
@@ -36,17 +35,13 @@ module _ {b : List ℤ} {t : Trail} {n : ℕ} (o : OnBlock limits b t n) (prefer
   unfolding advance formula_of
   advanced {rule} is {l} from {u} a = a ∙ rw (from, ← kept_true (prefix_of b) t n o.kept, is)
 
-  -- it leaves checked input, and buffers as long as before
+  -- it leaves checked input
   abbrev onward : Search
   onward = advance (formula_of b) preferred (search t n Open)
 
   advance_on : OnBlock limits b onward.trail onward.count
   unfolding formula_of
   advance_on = record { block = o.block; kept = advance_keeps (formula_of b) preferred (search t n Open) o.kept }
-
-  advance_lengths : (length onward.trail.lits ≡ length t.lits) × (length onward.trail.kinds ≡ length t.kinds)
-  unfolding advance
-  advance_lengths = apply_lengths (formula_of b).prefix (due (formula_of b) (record_of t n)) _ (search t n Open)
 
 -- ---- the loop: from the first memory to the present one, with some steps of the budget done, the last of them with a reason
 abbrev Leads : List ℤ → Memory → ℕ → ℕ → List ℤ → Search → ℕ → Type 0
@@ -57,15 +52,11 @@ Tells b m n budget preferred w = w ≡ why_from (formula_of b) preferred budget 
 
 pub record Round (b : List ℤ) (m₀ : Memory) (n budget : ℕ) (preferred : List ℤ) (m : Memory) (at : Reached) (steps reason : ℕ) : Type 0 where
   pub on : OnMemory b m at.count
-  pub within : steps ≤ budget
-  pub lits_long : length m.trail.lits ≡ length m₀.trail.lits
-  pub kinds_long : length m.trail.kinds ≡ length m₀.trail.kinds
-  pub reasons_long : length m.reasons ≡ length m₀.reasons
   pub same : run_from (formula_of b) preferred (budget - steps) (reached at m.trail) steps ≡ run_from (formula_of b) preferred budget (search m₀.trail n Open) 0
   pub told_same : Tells b m₀ n budget preferred (why_from (formula_of b) preferred (budget - steps) (reached at m.trail) (why m.reasons reason))
 
 pub begun : {b : List ℤ} {m : Memory} {n : ℕ} → OnMemory b m n → (budget : ℕ) (preferred : List ℤ) → Round b m n budget preferred m (record { count = n; state = Open }) 0 0
-begun o budget preferred = record { on = o; within = omega arith; lits_long = refl; kinds_long = refl; reasons_long = refl; same = rw sub-zero; told_same = rw sub-zero }
+begun o budget preferred = record { on = o; same = rw sub-zero; told_same = rw sub-zero }
 
 module _
     {b : List ℤ} {m₀ : Memory} {n budget : ℕ} {preferred : List ℤ} {m : Memory} {at : Reached} {steps reason : ℕ}
@@ -77,19 +68,22 @@ module _
     abbrev here : Search
     here = reached at m.trail
 
-    abbrev Done : Type 0
-    Done = Leads b m₀ n budget preferred here steps × Tells b m₀ n budget preferred (why m.reasons reason)
+    abbrev Done : ℕ → Type 0
+    Done k = Leads b m₀ n budget preferred here k × Tells b m₀ n budget preferred (why m.reasons reason)
 
     -- the search has ended
-    pub ended : {r : Bool} → r ≡ over at.state → r ≡ true → Done
+    pub ended : {r : Bool} → r ≡ over at.state → r ≡ true → Done steps
     ended e h = (
       sym (run_ended F preferred (budget - steps) here steps (sym e ∙ h)) ∙ now.same,
       sym (why_ended F preferred (budget - steps) here (why m.reasons reason) (sym e ∙ h)) ∙ now.told_same,
     )
 
     -- the budget is used
-    pub used : budget ≤ steps → Done
-    used h = (sym (loop_last F preferred budget here steps h) ∙ now.same, sym (why_none F preferred budget here (why m.reasons reason) steps h) ∙ now.told_same)
+    pub used : steps ≡ budget → Done budget
+    used z = (
+      ap (trip here) (sym z) ∙ sym (loop_last F preferred budget here steps (omega arith)) ∙ now.same,
+      sym (why_none F preferred budget here (why m.reasons reason) steps (omega arith)) ∙ now.told_same,
+    )
 
     -- one step more
     pub more : steps < budget → {r : Bool} → r ≡ over at.state → r ≡ false → {at' : Reached} {m' : Memory} {w : ℕ}
@@ -97,7 +91,6 @@ module _
         → Round b m₀ n budget preferred m' at' (steps + 1) w
     more h e f {at'} {m'} {w} (a, v) =
         let live = over_open at.state (sym e ∙ f) in
-        let long = advance_lengths now.on.on preferred in
         let ws : m'.reasons ≡ noted (due F (record_of m.trail at.count)) at.count m.reasons = ap (λ (w : Why). w.reasons) v in
         let kept : length m'.reasons ≡ length m.reasons = rw ws (noted_length (due F (record_of m.trail at.count)) at.count m.reasons) in
         let onward = a ∙ ap (λ (st : State). advance F preferred (search m.trail at.count st)) (sym live) in
@@ -106,10 +99,6 @@ module _
             on = subst (λ (u : Search). OnBlock limits b u.trail u.count) (sym a) (advance_on now.on.on preferred);
             places = omega (arith, kept, now.on.places);
           };
-          within = omega arith;
-          lits_long = ap (λ (u : Search). length u.trail.lits) a ∙ long.0 ∙ now.lits_long;
-          kinds_long = ap (λ (u : Search). length u.trail.kinds) a ∙ long.1 ∙ now.kinds_long;
-          reasons_long = kept ∙ now.reasons_long;
           same =
               ap (λ (u : Search). run_from F preferred (budget - (steps + 1)) u (steps + 1)) onward
               ∙ loop_more F preferred budget here steps h live

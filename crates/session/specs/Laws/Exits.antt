@@ -1,9 +1,11 @@
 -- The ways out of a run: one law for each, from the facts on that path.
-use Rattle.std.specs.Prelude.{ℕ, ◌+◌, ◌-◌, ◌≤◌, ◌<◌, ◌≡◌, List, ℤ}
-use Rattle.std.proofs.Common.{sym, ◌∙◌, arith}
+use Rattle.std.specs.Prelude.{ℕ, ◌+◌, ◌-◌, ◌≤◌, ◌<◌, ◌≡◌, List, ℤ, Ok, Err}
+use Rattle.std.proofs.Common.{arith}
 use borrow.Author.Tests.{lt-ltb, le-ltb}
-use Rattle.words.specs.Outcomes.{outcome, unless_number}
-use Rattle.words.specs.Laws.Rows.{stops}
+use Rattle.words.specs.Outcomes.{outcome, refused}
+use Rattle.words.specs.declared.Refusal.{Refusal}
+use Rattle.formula.specs.Check.{checked_of}
+use Rattle.formula.specs.Laws.Check.{checked_stops, checked_leaves}
 use Rattle.formula.specs.Limits.{limits}
 use Rattle.formula.specs.Formula.{formula_of}
 use Rattle.record.specs.declared.rule.State.TheVariants.{Open}
@@ -15,29 +17,28 @@ use Rattle.memory.specs.Reasons.{why}
 use Rattle.search.specs.Run.{trip, run_from, why_from}
 use Rattle.session.specs.declared.Revision.{Revision}
 use Rattle.session.specs.declared.Session.{Session}
-use Rattle.session.specs.declared.Ran.TheVariants.{Until, Stopped}
 use Rattle.session.specs.Refusals.{last_revision, session_rows, of_run, run_refusal}
 use Rattle.session.specs.Outcome.{session}
-use Rattle.session.specs.Run.{run_of}
+use Rattle.session.specs.Run.{run_of, run_to}
 use Rattle.session.specs.Inner.Guards.{session_refusal}
 use Rattle.session.specs.Laws.Accepted.{guarded, run_from_15}
 
-module _ (s : Session) (b : List ℤ) (m : Memory) (seen : Revision) (budget : ℕ) (preferred : List ℤ) {r : ℕ} (e : r ≡ session_refusal limits s b m seen) where
-  pub run_stops : (r ≡ 0 → ⊥) → outcome (Stopped r) m ≡ run_of limits s b m seen budget preferred
+module _ (s : Session) (b : List ℤ) (m : Memory) (seen : Revision) (budget : ℕ) (preferred : List ℤ) where
+  pub run_stops : (e : Refusal) → Err e ≡ checked_of (session_refusal limits s b m seen) → outcome (Err e) m ≡ run_of limits s b m seen budget preferred
   unfolding run_of run_refusal session_refusal
-  run_stops f = rw (← stops (session_rows limits s b m seen) (of_run s b m seen budget) e f) (unless_number Stopped r m _ f)
+  run_stops e h = checked_leaves _ m _ e (checked_stops (session_rows limits s b m seen) (of_run s b m seen budget) e h)
 
-  module _ (z : r ≡ 0) where
-    pub run_over : last_revision - s.revision.0 < budget → outcome (Stopped 15) m ≡ run_of limits s b m seen budget preferred
+  module _ (z : session_refusal limits s b m seen ≡ 0) where
+    pub run_over : last_revision - s.revision.0 < budget → outcome (refused 15) m ≡ run_of limits s b m seen budget preferred
     unfolding run_of
-    run_over h = rw (run_from_15 limits s b m seen budget (sym e ∙ z), lt-ltb last_revision (s.revision.0 + budget) (omega arith))
+    run_over h = rw (run_from_15 limits s b m seen budget z, lt-ltb last_revision (s.revision.0 + budget) (omega arith))
 
     pub run_moves : s.revision.0 ≤ last_revision → budget ≤ last_revision - s.revision.0
         → (t : Reached) (steps : ℕ) (t' : Trail) → trip (reached t t') steps ≡ run_from (formula_of b) preferred budget (search m.trail s.length Open) 0
         → (ws : List ℕ) (w : ℕ) → why ws w ≡ why_from (formula_of b) preferred budget (search m.trail s.length Open) (why m.reasons 0)
         → {s' : Session} → s' ≡ session t.count (s.revision.0 + steps) t.state
-        → outcome (Until s' steps w) (record { trail = t'; reasons = ws }) ≡ run_of limits s b m seen budget preferred
+        → outcome (Ok (run_to s' steps w)) (record { trail = t'; reasons = ws }) ≡ run_of limits s b m seen budget preferred
     unfolding run_of
     run_moves low h t steps t' a ws w v d =
-        let g = guarded limits s b m seen (sym e ∙ z) in
-        rw (run_from_15 limits s b m seen budget (sym e ∙ z), le-ltb last_revision (s.revision.0 + budget) (omega arith), g.live, ← a, ← v, d)
+        let g = guarded limits s b m seen z in
+        rw (run_from_15 limits s b m seen budget z, le-ltb last_revision (s.revision.0 + budget) (omega arith), g.live, ← a, ← v, d)

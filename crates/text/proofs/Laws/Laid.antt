@@ -3,7 +3,7 @@
 use Rattle.std.specs.Prelude.{◌≡◌, refl, Bool, false, List, [], ◌∷◌, map, ℕ, suc, ◌+◌, ◌≤◌, min, ℤ, pos, length, take, drop, set}
 use Rattle.std.proofs.Common.{sym, ◌∙◌, ap, arith, length-append, take-append-drop, length-take-le, ltb-false, le-ltb}
 use Rattle.std.proofs.lemmas.List.Edits.{sets}
-use Rattle.std.proofs.lemmas.List.{take-set-le}
+use Rattle.std.proofs.lemmas.List.{drop-take, take-set-le}
 use Rattle.words.specs.Laws.Bools.{or_fl, or_fr}
 use Rattle.words.specs.Lists.{any}
 use Rattle.words.specs.Laws.Lists.{any_append}
@@ -13,7 +13,7 @@ use Rattle.reader.specs.Keep.{is_forall, beyond, capped, stored}
 use Rattle.text.specs.Tree.{words_of, numbers_of, literals_of, ends_of}
 use Rattle.reader.proofs.Laws.Capped.{cap_is, cap_grows}
 use Rattle.text.proofs.Laws.Kept.{put, put_clauses, put_append, large, stored_as, stored_is, stored_words}
-use Rattle.laid.specs.Laws.Stores.{sets_append, sets_set, drop_take, take_run}
+use Rattle.laid.specs.Laws.Stores.{sets_append, sets_set, take_run}
 
 -- ---- what is not beyond is stored as it is
 pub cap_small : (n : ℕ) → large n ≡ false → capped n ≡ n
@@ -71,7 +71,7 @@ first_words o ws n h k r =
     let run : put 6 o 0 (take n ws) ≡ sets o 6 (take n ws) = put_sets 6 o 0 (take n ws) (omega arith) in
     let fits : 6 + length (take n ws) ≤ length o = omega arith in
     let part : take n (drop 6 (sets o 6 (take n ws))) ≡ take n ws = rw long at (take_run (take n ws) o 6 fits) in
-    sym (drop_take 6 n (put 6 o 0 ws)) ∙ ap (drop 6) (cut ∙ ap (take (6 + n)) run) ∙ drop_take 6 n (sets o 6 (take n ws)) ∙ part
+    sym (drop-take 6 n (put 6 o 0 ws)) ∙ ap (drop 6) (cut ∙ ap (take (6 + n)) run) ∙ drop-take 6 n (sets o 6 (take n ws)) ∙ part
 
 end_stored : (n : ℕ) → n ≤ 2147483647 → stored_is (pos (capped n)) ≡ pos n
 unfolding stored_is stored beyond

@@ -6,7 +6,7 @@ use Prim.Native.Nat.{ℕ, zero, suc, ◌+◌, ◌≤◌, ◌<◌, min}
 use Rattle.std.proofs.Math.Decide.{dec_le}
 use native.Mathlib.Omega.{arith}
 use Rattle.std.proofs.Math.ListN.{length, take, set}
-use Rattle.std.proofs.lemmas.List.{length-map}
+use Rattle.std.proofs.lemmas.List.{drop-take, length-map}
 use Rattle.std.proofs.Math.Seq.{sets, length-sets, take-length}
 use Rattle.words.specs.Laws.Bools.{look, or_fl, or_fr}
 use Rattle.words.specs.Lists.{any}
@@ -20,13 +20,12 @@ use Rattle.words.specs.Laws.Rows.{passed}
 use Rattle.formula.specs.Laws.Permuted.{words_count}
 use Rattle.formula.specs.Limits.{Limits}
 use Rattle.formula.specs.Block.{names, no_variable, twice, refusal}
-use Rattle.text.specs.declared.Answer.TheVariants.{Refused, Row as AtRow}
 use Rattle.grammar.specs.Grammar.{Group, Text}
 use Rattle.grammar.specs.Machine.{signed}
 use Rattle.reader.specs.Keep.{is_forall, capped}
-use Rattle.text.specs.Tree.{words_of, numbers_of, literals_of, ends_of, some_beyond, count_rows, text_refusal, block_of, tree_rows, row_of, zeros, text_of}
+use Rattle.text.specs.Tree.{text_refused, block_refused, words_of, numbers_of, literals_of, ends_of, some_beyond, count_rows, text_refusal, block_of, tree_rows, row_of, zeros, text_of}
 use Rattle.text.specs.Pieces.{kept_words, kept_ends, kept_literals, kept_block, kept_row, settled}
-use Rattle.laid.specs.Laws.Stores.{drop_take, take_run, drop_run}
+use Rattle.laid.specs.Laws.Stores.{take_run, drop_run}
 use Rattle.text.proofs.Laws.Kept.{large, strange, stored_is, put, length_put, put_clauses, tree_kept, tree_output}
 use Rattle.reader.proofs.Laws.Capped.{cap_is}
 use Rattle.text.proofs.Laws.Laid.{cap_small, words_stored, first_words, clauses_put}
@@ -142,7 +141,7 @@ module _ (L : Limits) (hidden : Hidden L) (t : Text) (o : List ℤ) (f : Fit L t
       let Y = sets X (6 + t.variables + length t.clauses) ls in
       let near : take (6 + few) (sets Y (6 + t.variables) es) ≡ take (6 + few) X = take_sets es Y (6 + t.variables) (6 + few) (omega arith) ∙ take_sets ls X (6 + t.variables + length t.clauses) (6 + few) (omega arith) in
       rw (few_is, output_is)
-      (sym (drop_take 6 few (sets Y (6 + t.variables) es)) ∙ ap (drop 6) near ∙ drop_take 6 few X ∙ first_words o ws few (omega arith) (omega (arith, f.variables, hidden.variables)) (omega (arith, f.fits)))
+      (sym (drop-take 6 few (sets Y (6 + t.variables) es)) ∙ ap (drop 6) near ∙ drop-take 6 few X ∙ first_words o ws few (omega arith) (omega (arith, f.variables, hidden.variables)) (omega (arith, f.fits)))
 
   variables_are : (tree_kept t).variables ≡ t.variables
   unfolding tree_kept
@@ -241,6 +240,6 @@ module _ (L : Limits) (hidden : Hidden L) (t : Text) (o : List ℤ) where
   unfolding settled text_of
   settled_is =
       rw (output_length t o, counts_same t L hidden (length o))
-      (unless_same Refused (text_refusal L t (length o)) (zeros (length o)) _ _ (λ e. let f = fit L t (length o) e in
-      rw (row_kept L hidden t o f) (unless_same AtRow (row_of t) (zeros (length o)) _ _ (λ r. let b = bound t r in
+      (unless_same text_refused (text_refusal L t (length o)) (zeros (length o)) _ _ (λ e. let f = fit L t (length o) e in
+      rw (row_kept L hidden t o f) (unless_same block_refused (row_of t) (zeros (length o)) _ _ (λ r. let b = bound t r in
       rw (lengths_kept f, block_kept L hidden t o f b.known b.once)))))

@@ -1,9 +1,11 @@
 -- Lists: membership, tests of all and of some elements, and the list as a loop sees it. Each by induction on the list.
 use Rattle.std.specs.Prelude.{◌≡◌, ◌⊎◌, Bool, false, ◌&&◌, ◌||◌, ℕ, ◌+◌, ◌≤◌, ◌<◌, zero, suc, length, get_or, take, drop, replicate}
 use Rattle.std.proofs.Math.Path.{refl, ap₂}
-use Rattle.std.proofs.Common.{sym, inl, inr, zero-le, suc-le-suc, not-suc-le-zero, le_of_suc-le-suc, add-one, drop_of_length-le, drop-cons, take-suc}
+use Rattle.std.proofs.Common.{sym, inl, inr, zero-le, suc-le-suc, not-suc-le-zero, le_of_suc-le-suc, add-one, drop_of_length-le, drop-cons}
 use Rattle.std.proofs.Math.Bool.{true, and_assoc, or_assoc}
 use mathlib.Core.List.{List, [], ◌∷◌, ◌++◌, head-eq_of_cons-eq, tail-eq_of_cons-eq}
+-- what a loop at i has behind it: one element more
+pub use Rattle.std.proofs.lemmas.List.{take_more}
 use Rattle.words.specs.Laws.Bools.{clash, and_l, and_r, and_i, or_e, or_l, or_r, to_false}
 use Rattle.words.specs.Lists.{In, here, there, all, any}
 
@@ -77,10 +79,6 @@ module _ {A : Type 0} where
 
   pub ended : (xs : List A) (i : ℕ) → length xs ≤ i → drop i xs ≡ []
   ended xs i h = drop_of_length-le xs h
-
-  -- and what it has behind it: one element more
-  pub take_more : (xs : List A) (i : ℕ) (d : A) → i < length xs → take (i + 1) xs ≡ take i xs ++ get_or xs i d ∷ []
-  take_more xs i d h = rw add-one (take-suc xs i d h)
 
   -- a fresh table has the same at every place, and past its end
   pub blank : (a : A) (n i : ℕ) → get_or (replicate n a) i a ≡ a

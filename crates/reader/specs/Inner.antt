@@ -1,2 +1,0 @@
--- What the code's functions say to each other; a reader of the promises needs none of it.
-pub mod Opened
