@@ -1,5 +1,7 @@
 -- Laws for the proofs of the functions.
 
+-- ends in order, one by one
+pub mod Cutting
 -- the look at a clause, and what it makes due
 pub mod Looks
 pub mod Decision

@@ -7,6 +7,7 @@ ghost use Rattle.clauses.specs.Inner.Clauses.{Placed, Clauses, level_by, conflic
 ghost use Rattle.clauses.specs.Promises.{StatusPromise, StatusAtPromise, DecidingPromise};
 
 use crate::found::{Deciding, UnitClause};
+use crate::in_order::InOrder;
 use formula::{LITERAL_PLACES, place};
 use record::{PLACES, literal_at};
 use tables::NO_LEVEL;
@@ -92,7 +93,7 @@ pub fn deciding(
     ensures { DecidingPromise ends.now literals.now statuses.now levels.now result }
 {
     let mut unit: Option<UnitClause> = None;
-    for (c, clause) in formula::Clauses::of(ends, literals).enumerate() {
+    for (c, clause) in InOrder::of(ends, literals).enumerate() {
         // [unit.search] Upwards; after the first unit clause only a conflict counts, which fewer literals show.
         let seen = match unit {
             None => look(clause, statuses, levels),

@@ -8,7 +8,7 @@ ghost use Rattle.tables.specs.Inner.ByLiteral.{status_in};
 ghost use Rattle.rules.specs.Inner.Occurrences.{true_by, Occurring, Marked, Counted};
 ghost use Rattle.clauses.specs.Inner.Clauses.{Placed, Clauses};
 
-use clauses::status;
+use clauses::{InOrder, status};
 use formula::{LITERAL_PLACES, place};
 
 // Whether a clause has a true literal.
@@ -51,7 +51,7 @@ pub(crate) fn occurring(
     ensures { Occurring (untrue_of (true_by (status_in statuses.now)) (clauses_from literals.now 0 ends.now)) result }
 {
     let mut occurs = [0u8; LITERAL_PLACES];
-    for clause in formula::Clauses::of(ends, literals) {
+    for clause in InOrder::of(ends, literals) {
         count(clause, statuses, &mut occurs);
     }
     occurs
