@@ -1,9 +1,8 @@
 -- The status of a call is the number of its table, 0 exactly if it is accepted; and with another status every lent buffer, the answer's array among
 -- them, is as it was. By the two cases of the number, 0 and not 0. Reading a text is the exception: with another status its output is 0.
-use Rattle.std.specs.Prelude.{◌≡◌, refl, ◌⊎◌, Bool, List, [], ℕ, zero, suc, ℤ, length, Result, Ok}
+use Rattle.std.specs.Prelude.{◌≡◌, refl, ◌⊎◌, Bool, List, [], ℕ, zero, suc, ℤ, length, Ok}
 use Rattle.std.proofs.Common.{ap, inl, inr, suc-ne-zero}
 use Rattle.std.proofs.lemmas.List.Edits.{sets}
-use Rattle.words.specs.declared.Refusal.{Refusal}
 use Rattle.words.specs.Outcomes.{Outcome, outcome, unless, refused}
 use Rattle.formula.specs.Limits.{Limits}
 use Rattle.formula.specs.Formula.{formula_of}
@@ -36,44 +35,44 @@ pub record Stated {M : Type 0} (n : ℕ) (m : M) (a : List ℕ) (u : Outcome (Le
   pub status : u.answer ≡ n
   pub leaves : (n ≡ 0 → ⊥) → u.memory ≡ lent m a
 
-stated : {M A : Type 0} (status : Result A Refusal → ℕ) (numbers : Result A Refusal → List ℕ) → ((n : ℕ) → status (refused n) ≡ n) → ((n : ℕ) → numbers (refused n) ≡ [])
-    → (n : ℕ) (m : M) (a : List ℕ) (o : Outcome M (Result A Refusal)) → (n ≡ 0 → status o.answer ≡ 0) → Stated n m a (told status numbers a (unless refused n m o))
-stated status numbers tells none zero m a o e = record { status = e refl; leaves = λ f. absurd (f refl) }
-stated status numbers tells none (suc n) m a o e = record { status = tells (suc n); leaves = λ f. rw (none (suc n)) }
+stated : {M A : Type 0} (status : A → ℕ) (numbers : A → List ℕ) (number : ℕ → A) → ((n : ℕ) → status (number n) ≡ n) → ((n : ℕ) → numbers (number n) ≡ [])
+    → (n : ℕ) (m : M) (a : List ℕ) (o : Outcome M A) → (n ≡ 0 → status o.answer ≡ 0) → Stated n m a (told status numbers a (unless number n m o))
+stated status numbers number tells none zero m a o e = record { status = e refl; leaves = λ f. absurd (f refl) }
+stated status numbers number tells none (suc n) m a o e = record { status = tells (suc n); leaves = λ f. rw (none (suc n)) }
 
 pub open_stated : (L : Limits) → (b : List ℤ) (m : Memory) (first : ℕ) (a : List ℕ) → Stated (open_refusal L b (places m)) m a (open_call L b m first a)
 unfolding open_outcome
-open_stated L b m first a = stated opened_status opened_numbers (λ n. refl) (λ n. refl) (open_refusal L b (places m)) m a _ (λ e. refl)
+open_stated L b m first a = stated opened_status opened_numbers refused (λ n. refl) (λ n. refl) (open_refusal L b (places m)) m a _ (λ e. refl)
 
 module _ (L : Limits) (s : Session) (b : List ℤ) (m : Memory) (seen : ℕ) (a : List ℕ) where
   pub step_stated : (l : ℤ) → Stated (step_refusal L s b m (revision seen) (literal l)) m a (step_call L s b m seen l a)
   unfolding step_outcome
-  step_stated l = stated stepped_status stepped_numbers (λ n. refl) (λ n. refl) (step_refusal L s b m (revision seen) (literal l)) m a _ (λ e. refl)
+  step_stated l = stated stepped_status stepped_numbers refused (λ n. refl) (λ n. refl) (step_refusal L s b m (revision seen) (literal l)) m a _ (λ e. refl)
 
   pub run_stated : (budget : ℕ) (preferred : List ℤ) → Stated (run_refusal L s b m (revision seen) budget) m a (run_call L s b m seen budget preferred a)
   unfolding run_of
-  run_stated budget preferred = stated ran_status ran_numbers (λ n. refl) (λ n. refl) (run_refusal L s b m (revision seen) budget) m a _ (λ e. refl)
+  run_stated budget preferred = stated ran_status ran_numbers refused (λ n. refl) (λ n. refl) (run_refusal L s b m (revision seen) budget) m a _ (λ e. refl)
 
 -- an accepted counted run is a run that is accepted
 pub counted_stated : (L : Limits) (s : Session) (b : List ℤ) (w : counted.Lent) (seen budget : ℕ) (preferred : List ℤ) (a : List ℕ) → Stated (counted_refusal L s b w (revision seen) budget) w a (counted_call L s b w seen budget preferred a)
 unfolding counted_of run_of
 counted_stated L s b w seen budget preferred a =
-    stated ran_status ran_numbers (λ n. refl) (λ n. refl) (counted_refusal L s b w (revision seen) budget) w a _
+    stated ran_status ran_numbers refused (λ n. refl) (λ n. refl) (counted_refusal L s b w (revision seen) budget) w a _
     (λ e. rw (passes L s b w (revision seen) budget e).run)
 
 pub page_stated : (L : Limits) → (b : List ℤ) (m : PageMemory) (start : ℕ) (preferred : List ℤ) (budget : ℕ) (a : List ℕ) → Stated (page_refusal L b m start) m a (page_call L b m start preferred budget a)
 unfolding page_of
-page_stated L b m start preferred budget a = stated paged_status paged_numbers (λ n. refl) (λ n. refl) (page_refusal L b m start) m a _ (λ e. refl)
+page_stated L b m start preferred budget a = stated paged_status paged_numbers refused (λ n. refl) (λ n. refl) (page_refusal L b m start) m a _ (λ e. refl)
 
 -- [calls.write] a block that is written
 pub write_stated : (L : Limits) (b : List ℤ) (o a : List ℕ) → Stated (write_refusal L b (length o)) o a (write_call L b o a)
 unfolding write_of
-write_stated L b o a = stated wrote_status wrote_numbers (λ n. refl) (λ n. refl) (write_refusal L b (length o)) o a _ (λ e. refl)
+write_stated L b o a = stated wrote_status wrote_numbers refused (λ n. refl) (λ n. refl) (write_refusal L b (length o)) o a _ (λ e. refl)
 
 -- [calls.shown]
 pub shown_stated : (L : Limits) (s : Session) (b : List ℤ) (t : Trail) (o : List ℤ) (a : List ℕ) → Stated (shown_refusal L s b t (length o)) o a (shown_call L s b t o a)
 unfolding shown_of
-shown_stated L s b t o a = stated showed_status showed_numbers (λ n. refl) (λ n. refl) (shown_refusal L s b t (length o)) o a _ (λ e. refl)
+shown_stated L s b t o a = stated showed_status showed_numbers refused (λ n. refl) (λ n. refl) (shown_refusal L s b t (length o)) o a _ (λ e. refl)
 
 -- a second opinion is lent the answer's array alone
 pub plain_stated : (L : Limits) (b : List ℤ) (a : List ℕ) → ((plain_call L b a).answer ≡ plain_refusal L b) × ((plain_refusal L b ≡ 0 → ⊥) → (plain_call L b a).memory ≡ a)

@@ -19,18 +19,26 @@ pub fn negative(x: i32) -> bool
     x < 0
 }
 
-// A word's size. The least word has one too.
+// The least word, whose negation is no word.
+const LEAST: i32 = -2147483648;
+
+const LEAST_SIZE: usize = 2147483648;
+
+// A word's size. The least word is looked for first: it is never negated.
 pub fn size(x: i32) -> usize
     ensures { SizePromise x result }
 {
-    x.unsigned_abs() as usize
+    if x == LEAST {
+        return LEAST_SIZE;
+    }
+    if x < 0 { (-x) as usize } else { x as usize }
 }
 
 // The opposite of a literal. The least word has none: it is answered with 0, which is no literal.
 pub fn opposite(x: i32) -> i32
     ensures { OppositePromise x result }
 {
-    x.checked_neg().unwrap_or(0)
+    if x == LEAST { 0 } else { -x }
 }
 
 // The size of the word at an index, and whether it is below zero. Past the end there is the word 0.
