@@ -1,37 +1,39 @@
--- Rows 10 and 23 in one clause, from its first literal to its last: the literals passed have the clause's stamp, no two of them are opposites, and it
+-- Rows 10 and 23 in one clause, from its last literal to its first: the literals passed have the clause's stamp, no two of them are opposites, and it
 -- was seen if two of them are the same.
-use Rattle.std.specs.Prelude.{◌≡◌, refl, Bool, false, ◌||◌, List, ℕ, ◌+◌, ◌-◌, ◌*◌, ◌≤◌, ◌<◌, eqb, ℤ, pos, neg_ℤ, nat_abs, length, take, drop, get_or, set, Ok}
+use Rattle.std.specs.Prelude.{◌≡◌, refl, Bool, false, ◌||◌, List, ℕ, ◌+◌, ◌-◌, ◌*◌, ◌≤◌, ◌<◌, eqb, ℤ, pos, neg_ℤ, nat_abs, length, drop, get_or, set, Ok}
 use Rattle.std.proofs.Common.{sym, ◌∙◌, ap, arith, length-set, get_or-set_same, get_or-set_other}
 use Rattle.std.proofs.Math.Decide.{ℕ_discrete}
-use Rattle.std.proofs.Math.Bool.{or-false, or-true}
-use Rattle.std.proofs.lemmas.List.{take-append-drop, take_more}
-use lib.Seq.{take_all}
+use Rattle.std.proofs.Math.Bool.{or_comm}
 use borrow.Author.Tests.{eq-eqb, ne_eqb}
 use Rattle.words.specs.Outcomes.{refused}
 use Rattle.words.specs.Words.{eq_z, mem}
-use Rattle.words.specs.Laws.Words.{eq_z_refl, eq_z_ne, nat_abs_neg, mem_more}
+use Rattle.words.specs.Laws.Lists.{next, ended}
+use Rattle.words.specs.Laws.Words.{eq_z_refl, eq_z_ne, nat_abs_neg}
 use Rattle.formula.specs.Limits.{limits}
 use Rattle.formula.specs.Laws.Limits.{variables_are}
 use Rattle.formula.specs.Block.{both_signs, repeats}
-use Rattle.formula.specs.Laws.Once.{signs_more, signs_front, repeats_more}
+use Rattle.formula.specs.Laws.Once.{signs_drop, signs_at, repeats_at}
 use Rattle.formula.specs.Inner.Places.{literal_places, place_of, word_at}
 use Rattle.formula.specs.Laws.Places.{place_word, word_place, place_within, place_opposite}
 use Rattle.formula.specs.Inner.Tables.{pair_of, Fresh}
 
 pub record Stamped (ls : List ℤ) (stamp : ℕ) (marks : List ℕ) (again : Bool) (i : ℕ) : Type 0 where
+  pub at : i ≤ length ls
   pub fresh : Fresh (stamp + 1) marks
-  pub marked : (k : ℕ) → eqb (get_or marks k 0) stamp ≡ mem (word_at k) (take i ls)
-  pub plain : both_signs (take i ls) ≡ false
-  pub told : again ≡ repeats (take i ls)
+  pub marked : (k : ℕ) → eqb (get_or marks k 0) stamp ≡ mem (word_at k) (drop i ls)
+  pub plain : both_signs (drop i ls) ≡ false
+  pub told : again ≡ repeats (drop i ls)
 
-pub begin : (ls : List ℤ) (stamp : ℕ) (marks : List ℕ) → Fresh stamp marks → Stamped ls stamp marks false 0
+pub begin : (ls : List ℤ) (stamp : ℕ) (marks : List ℕ) → Fresh stamp marks → Stamped ls stamp marks false (length ls)
 unfolding mem both_signs repeats
 begin ls stamp marks f =
+    let none = ended ls (length ls) (omega arith) in
     record {
+      at = omega arith;
       fresh = record { room = f.room; under = λ k. omega (arith, f.under k) };
-      marked = λ k. ne_eqb (get_or marks k 0) stamp (λ e. omega (arith, f.under k));
-      plain = refl;
-      told = refl;
+      marked = λ k. rw none (ne_eqb (get_or marks k 0) stamp (λ e. omega (arith, f.under k)));
+      plain = rw none;
+      told = rw none;
     }
 
 fresh_set : (stamp : ℕ) (marks : List ℕ) (p : ℕ) → p < length marks → Fresh (stamp + 1) marks → Fresh (stamp + 1) (set marks p stamp)
@@ -55,35 +57,42 @@ module _ (w : ℤ) (small : nat_abs w ≤ limits.variables) (own : ℕ) (is-own 
       rw (is-own, ← place_opposite w small) (word_place (neg_ℤ w) l)
 
 module _ (ls : List ℤ) (stamp : ℕ) (marks : List ℕ) (again : Bool) (i : ℕ) (p : Stamped ls stamp marks again i) where
-  pub end : length ls ≤ i → Ok again ≡ pair_of ls
-  end h = let z = take_all i ls h in rw (rw z at p.plain, rw z at p.told)
+  pub end : i ≤ 0 → Ok again ≡ pair_of ls
+  end h = let z : i ≡ 0 = omega arith in rw (rw z at p.plain, rw z at p.told)
 
-  -- the next literal, with its place and its opposite's
-  module _ (h : i < length ls) (small : nat_abs (get_or ls i (pos 0)) ≤ limits.variables) (own : ℕ) (is-own : own ≡ place_of (get_or ls i (pos 0))) (other : ℕ) (is-other : other ≡ 2 * limits.variables - own) where
-    signs : both_signs (take (i + 1) ls) ≡ eqb (get_or marks other 0) stamp
-    signs = rw (take_more ls i (pos 0) h, signs_more (take i ls) (get_or ls i (pos 0)), p.plain, p.marked other, is-other, other_word (get_or ls i (pos 0)) small own is-own)
+  -- one literal further to the front, with its place and its opposite's
+  module _ (j : ℕ) (step : j + 1 ≡ i) (small : nat_abs (get_or ls j (pos 0)) ≤ limits.variables) (own : ℕ) (is-own : own ≡ place_of (get_or ls j (pos 0))) (other : ℕ) (is-other : other ≡ 2 * limits.variables - own) where
+    near : j < length ls
+    near = let z : i ≤ length ls = p.at in omega arith
 
-    twin : repeats (take (i + 1) ls) ≡ again || eqb (get_or marks own 0) stamp
-    twin = rw (take_more ls i (pos 0) h, repeats_more (take i ls) (get_or ls i (pos 0)), p.told, p.marked own, own_word (get_or ls i (pos 0)) small own is-own)
+    signs : both_signs (drop j ls) ≡ eqb (get_or marks other 0) stamp || both_signs (drop i ls)
+    signs = signs_at ls j near ∙ rw (step, p.marked other, is-other, other_word (get_or ls j (pos 0)) small own is-own)
+
+    twin : repeats (drop j ls) ≡ again || eqb (get_or marks own 0) stamp
+    twin =
+        repeats_at ls j near
+        ∙ rw (step, p.told, p.marked own, own_word (get_or ls j (pos 0)) small own is-own) (or_comm (mem (get_or ls j (pos 0)) (drop i ls)) (repeats (drop i ls)))
 
     pub hit : get_or marks other 0 ≡ stamp → refused 10 ≡ pair_of ls
-    hit e = rw (rw (take-append-drop (i + 1) ls) at (signs_front (take (i + 1) ls) (drop (i + 1) ls) (signs ∙ eq-eqb (get_or marks other 0) stamp e)))
+    hit e = rw (signs_drop j ls (signs ∙ rw (eq-eqb (get_or marks other 0) stamp e)))
 
-    mark : own < length marks → (k : ℕ) → eqb (get_or (set marks own stamp) k 0) stamp ≡ mem (word_at k) (take i ls) || eq_z (word_at k) (get_or ls i (pos 0))
+    mark : own < length marks → (k : ℕ) → eqb (get_or (set marks own stamp) k 0) stamp ≡ eq_z (word_at k) (get_or ls j (pos 0)) || mem (word_at k) (drop i ls)
     mark room k = by (ℕ_discrete k own)
       where
-        by : Dec (k ≡ own) → eqb (get_or (set marks own stamp) k 0) stamp ≡ mem (word_at k) (take i ls) || eq_z (word_at k) (get_or ls i (pos 0))
-        by (yes e) = rw (e, get_or-set_same marks own stamp 0 room, eq-eqb stamp stamp refl, own_word (get_or ls i (pos 0)) small own is-own, eq_z_refl (get_or ls i (pos 0))) (sym (or-true (mem (get_or ls i (pos 0)) (take i ls))))
+        by : Dec (k ≡ own) → eqb (get_or (set marks own stamp) k 0) stamp ≡ eq_z (word_at k) (get_or ls j (pos 0)) || mem (word_at k) (drop i ls)
+        by (yes e) = rw (e, get_or-set_same marks own stamp 0 room, eq-eqb stamp stamp refl, own_word (get_or ls j (pos 0)) small own is-own, eq_z_refl (get_or ls j (pos 0)))
         by (no d) =
-            let differ : word_at k ≡ get_or ls i (pos 0) → ⊥ = λ e. d (sym (place_word k) ∙ ap place_of e ∙ sym is-own) in
-            rw (get_or-set_other marks own k stamp 0 d, eq_z_ne differ) (p.marked k ∙ sym (or-false (mem (word_at k) (take i ls))))
+            let differ : word_at k ≡ get_or ls j (pos 0) → ⊥ = λ e. d (sym (place_word k) ∙ ap place_of e ∙ sym is-own) in
+            rw (get_or-set_other marks own k stamp 0 d, eq_z_ne differ) (p.marked k)
 
-    pub more : (get_or marks other 0 ≡ stamp → ⊥) → Stamped ls stamp (set marks own stamp) (again || eqb (get_or marks own 0) stamp) (i + 1)
+    pub more : (get_or marks other 0 ≡ stamp → ⊥) → Stamped ls stamp (set marks own stamp) (again || eqb (get_or marks own 0) stamp) j
+    unfolding mem
     more e =
-        let room : own < length marks = omega (arith, p.fresh.room, own_within (get_or ls i (pos 0)) small own is-own) in
+        let room : own < length marks = omega (arith, p.fresh.room, own_within (get_or ls j (pos 0)) small own is-own) in
         record {
+          at = omega (arith, near);
           fresh = fresh_set stamp marks own room p.fresh;
-          marked = λ k. rw (take_more ls i (pos 0) h, mem_more (word_at k) (take i ls) (get_or ls i (pos 0))) (mark room k);
-          plain = signs ∙ ne_eqb (get_or marks other 0) stamp e;
+          marked = λ k. rw (next ls j (pos 0) near, step) (mark room k);
+          plain = signs ∙ rw (ne_eqb (get_or marks other 0) stamp e) p.plain;
           told = sym twin;
         }

@@ -1,4 +1,5 @@
-// Rows 6, 10 and 23: a table with a mark for each variable, or for each literal, seen so far.
+// Rows 6, 10 and 23: a table with a mark for each variable, or for each literal, seen so far. Both go from the last word to the first, so that the
+// marks are those of the rest of the list.
 ghost use Rattle.std.specs.Prelude.{◌≡◌, ◌+◌, false, length};
 ghost use Rattle.words.specs.Rows.{refusal_of};
 ghost use Rattle.formula.specs.Promises.{VariableTwicePromise};
@@ -17,8 +18,8 @@ pub fn variable_twice(ws: &[i32]) -> bool
     ensures { VariableTwicePromise ws.now result }
 {
     let mut seen = [false; crate::MAX_VARIABLES + 1];
-    for word in ws {
-        let v = words::size(*word);
+    for i in (0..ws.len()).rev() {
+        let v = words::size(ws[i]);
         if crate::MAX_VARIABLES < v || seen[v] {
             return true;
         }
@@ -40,8 +41,8 @@ fn pair_in(
     ensures fresh_2 { Fresh (stamp + 1) marks.new }
 {
     let mut again = false;
-    for word in clause {
-        let own = place(*word);
+    for i in (0..clause.len()).rev() {
+        let own = place(clause[i]);
         prove!(own < LITERAL_PLACES);
         let opposite = marks[2 * crate::MAX_VARIABLES - own] == stamp;
         let twin = marks[own] == stamp;

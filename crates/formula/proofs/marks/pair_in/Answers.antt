@@ -1,5 +1,5 @@
 -- A literal's place and its opposite's are within the table; a marked place of the opposite is row 10, a marked one of its own is row 23.
-use Rattle.std.proofs.Common.{◌≡◌, ◌≤◌, ◌-◌, ◌*◌, rules, get_or, pos, nat_abs, ap, ◌∙◌, arith, w32, FitsSigned}
+use Rattle.std.proofs.Common.{◌≡◌, ◌≤◌, ◌+◌, ◌-◌, ◌*◌, rules, get_or, pos, nat_abs, ap, ◌∙◌, arith, w32, FitsSigned}
 use mir.ValLaws.{to_z-of_z}
 use Rattle.formula.specs.Limits.{limits}
 use Rattle.formula.specs.Laws.Limits.{variables_are}
@@ -8,21 +8,24 @@ use Rattle.formula.proofs.Stamped.{own_within, begin, hit, more, end}
 use Rattle.formula.proofs.marks.pair_in.Goals as goal
 use Rattle.formula.proofs.marks.pair_in.Goals.{After-place-own}
 
--- the literal of this turn names a variable, and the constant is the limit
+-- the literal of this turn is the one before the i-th and names a variable, and the constant is the limit
 module _ (c : After-place-own) where
-  small : nat_abs (get_or c.args.clause.now c.loop-word.word-index (pos 0)) ≤ limits.variables
-  small = (c.requires.all_named.at c.loop-word.word-index c.loop-word-test.true).most
+  step : c.loop-i.i - 1 + 1 ≡ c.loop-i.i
+  step = omega arith
 
-  own-is : c.place-own.result ≡ place_of (get_or c.args.clause.now c.loop-word.word-index (pos 0))
+  small : nat_abs (get_or c.args.clause.now (c.loop-i.i - 1) (pos 0)) ≤ limits.variables
+  small = (c.requires.all_named.at (c.loop-i.i - 1) (omega (arith, c.loop-i.invariant.at))).most
+
+  own-is : c.place-own.result ≡ place_of (get_or c.args.clause.now (c.loop-i.i - 1) (pos 0))
   own-is =
-      let word : FitsSigned w32 (get_or c.args.clause.now c.loop-word.word-index (pos 0)) = search rules in
+      let word : FitsSigned w32 (get_or c.args.clause.now (c.loop-i.i - 1) (pos 0)) = search rules in
       c.place-own.ensures ∙ ap place_of (to_z-of_z w32 _ word)
 
   other-is : 2048 - c.place-own.result ≡ 2 * limits.variables - c.place-own.result
   other-is = omega (arith, variables_are)
 
-pub loop-word-init : goal.loop-word-init
-loop-word-init c = begin _ _ _ c.requires.fresh
+pub loop-i-init : goal.loop-i-init
+loop-i-init c = begin _ _ _ c.requires.fresh
 
 pub prove-unreachable-requires : goal.prove-unreachable-requires
 prove-unreachable-requires c =
@@ -32,12 +35,12 @@ prove-unreachable-requires c =
 pub returns-then-opposite-clause-value : goal.returns-then-opposite-clause-value
 returns-then-opposite-clause-value c =
     let at = (goal.at.returns-then-opposite-clause-value c).After-place-own in
-    hit _ _ _ _ _ c.loop-word.invariant c.loop-word-test.true (small at) _ (own-is at) _ (other-is at) c.if-opposite.true
+    hit _ _ _ _ _ c.loop-i.invariant _ (step at) (small at) _ (own-is at) _ (other-is at) c.if-opposite.true
 
-pub loop-word-preserved : goal.loop-word-preserved
-loop-word-preserved c =
-    let at = (goal.at.loop-word-preserved c).After-place-own in
-    more _ _ _ _ _ c.loop-word.invariant c.loop-word-test.true (small at) _ (own-is at) _ (other-is at) c.if-opposite.false
+pub loop-i-preserved : goal.loop-i-preserved
+loop-i-preserved c =
+    let at = (goal.at.loop-i-preserved c).After-place-own in
+    more _ _ _ _ _ c.loop-i.invariant _ (step at) (small at) _ (own-is at) _ (other-is at) c.if-opposite.false
 
 pub returns-clause-value : goal.returns-clause-value
-returns-clause-value c = end _ _ _ _ _ c.loop-word.invariant c.loop-word-test.false
+returns-clause-value c = end _ _ _ _ _ c.loop-i.invariant (omega arith)
