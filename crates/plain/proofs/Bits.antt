@@ -1,13 +1,11 @@
--- What `==` says of two words is what the definition's test says, so the library's tests of a list are the definition's: both say which words are the same.
-use Rattle.std.specs.Prelude.{◌≡◌, List, [], ◌∷◌, ℤ}
-use Rattle.std.specs.Ordering.{int_eq}
-use Rattle.std.specs.List.{list_any}
-use Rattle.std.proofs.Common.{refl}
-use Rattle.words.specs.Lists.{any}
-use Rattle.words.specs.Laws.Listed.{mem_listed}
-use Rattle.plain.specs.Inner.Met.{met}
+-- A chain over clauses whose ends are in order runs over the list of them.
+use Rattle.std.specs.Prelude.{◌≡◌, List, ℤ}
+use Rattle.std.specs.Iterator.{YieldsFirstRef}
+use Rattle.std.proofs.lemmas.Iterator.{YieldsList}
+use Rattle.std.proofs.lemmas.Iterator.Consumers.{YieldsList-from_first}
+use Rattle.clauses.specs.declared.in_order.InOrder.{InOrder}
+use Rattle.formula.specs.Formula.{clauses_from}
 
-pub met_listed : (σ clause : List ℤ) → list_any (λ l. list_any (λ y. int_eq y l) σ) clause ≡ met σ clause
-unfolding any
-met_listed σ [] = refl
-met_listed σ (l ∷ clause) = rw (mem_listed l σ, met_listed σ clause)
+pub each_in_order : (c : InOrder) (all : List (List ℤ)) → clauses_from c.literals.now c.from c.ends.now ≡ all
+    → YieldsList (YieldsFirstRef (λ (s : InOrder). clauses_from s.literals.now s.from s.ends.now)) (λ x. x.now) c all
+each_in_order c all e = YieldsList-from_first (λ x. x.now) (λ (s : InOrder). clauses_from s.literals.now s.from s.ends.now) all e

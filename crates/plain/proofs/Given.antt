@@ -12,7 +12,8 @@ use Rattle.words.specs.Words.{negative}
 use Rattle.words.specs.Laws.Bools.{clash}
 use Rattle.words.specs.Laws.Lists.{next, ended}
 use Rattle.formula.specs.Limits.{limits}
-use Rattle.formula.specs.Formula.{variables_of, prefix_of, formula_of}
+use Rattle.formula.specs.Formula.{variables_of, prefix_of, ends_of, literals_of, formula_of}
+use Rattle.formula.specs.Block.{bad_ends}
 use Rattle.formula.specs.Truth.{asked, truth}
 use Rattle.formula.specs.Laws.Accepted as block
 use Rattle.plain.specs.Solve.{most_variables, holds_from}
@@ -26,6 +27,9 @@ module _ (b : List ℤ) (i : ℕ) (r : Ready b i) where
 
   pub prefix_long : length (prefix_of b) ≡ variables_of b
   prefix_long = block.prefix_length a
+
+  pub ends_good : bad_ends (length (literals_of b)) 0 (ends_of b) ≡ false
+  ends_good = rw (block.literals_length a) a.ends
 
 -- one variable more
 pub one_more : (b : List ℤ) (i : ℕ) → Ready b i → i < variables_of b → Ready b (i + 1)

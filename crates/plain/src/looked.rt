@@ -1,21 +1,31 @@
 // The clauses, with every variable given a value. The literals made true are the values' words.
-ghost use Rattle.std.specs.Prelude.{◌≡◌};
+ghost use Rattle.std.specs.Prelude.{◌≡◌, false, length};
 ghost use Rattle.words.specs.Lists.{all};
+ghost use Rattle.words.specs.Words.{mem};
+ghost use Rattle.formula.specs.Block.{bad_ends};
 ghost use Rattle.formula.specs.Formula.{clauses_from};
 ghost use Rattle.plain.specs.Inner.Met.{met};
 
-use formula::Clauses;
+use clauses::InOrder;
+
+// Whether a literal was made true. The look ends at its value, and the newest value comes first; `contains` would look at eight of them at a time.
+fn made_true(literal: i32, values: &[i32]) -> bool
+    ensures { result ≡ mem literal values.now }
+{
+    values.iter().any(|value| *value == literal)
+}
 
 // Whether a clause has a true literal.
 fn clause_met(clause: &[i32], values: &[i32]) -> bool
     ensures { result ≡ met values.now clause.now }
 {
-    clause.iter().any(|literal| values.contains(literal))
+    clause.iter().any(|literal| made_true(*literal, values))
 }
 
 // Whether every clause has one.
 pub(crate) fn all_met(ends: &[i32], literals: &[i32], values: &[i32]) -> bool
+    requires { bad_ends (length literals.now) 0 ends.now ≡ false }
     ensures { result ≡ all (met values.now) (clauses_from literals.now 0 ends.now) }
 {
-    Clauses::of(ends, literals).all(|clause| clause_met(clause, values))
+    InOrder::of(ends, literals).all(|clause| clause_met(clause, values))
 }

@@ -6,7 +6,11 @@ use Rattle.words.specs.Lists.{all}
 use Rattle.formula.specs.Formula.{formula_of, clauses_from}
 use Rattle.plain.specs.Inner.Met.{met}
 use Rattle.plain.specs.Solve.{most_variables}
+use Rattle.plain.proofs.Given.{ends_good}
 use Rattle.plain.proofs.tried.met_so_far.Goals as goal
+
+pub all_met-requires : goal.all_met-requires
+all_met-requires c = rw (c.literals.ensures, c.ends.ensures) (ends_good _ _ c.requires)
 
 pub returns : goal.returns
 unfolding formula_of
