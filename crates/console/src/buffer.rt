@@ -4,10 +4,18 @@ ghost use Rattle.std.specs.Prelude.{◌≤◌, length};
 use crate::line::Words;
 use crate::numbers::{Place, all_fit};
 
-#[derive(Drop)]
-pub(crate) struct Buffer<'a, T> {
-    room: &'a mut [T],
+// So many words, and no more than there is room for. A type of its own, since a part of a room can't be lent past a ghost field.
+#[derive(Clone, Copy)]
+struct InUse<const ROOM: usize> {
     count: usize,
+    ghost within: { count ≤ ROOM },
+}
+
+// The room has ROOM places.
+#[derive(Drop)]
+pub(crate) struct Buffer<'a, T, const ROOM: usize> {
+    room: &'a mut [T],
+    used: InUse<ROOM>,
 }
 
 // Stores the numbers of words, as far as they fit, and answers how many there are.
@@ -24,18 +32,21 @@ fn store<T: Place>(room: &mut [T], words: Words<'_>) -> usize
     room.len()
 }
 
-impl<'a, T: Place> Buffer<'a, T> {
-    pub(crate) fn new(room: &'a mut [T]) -> Buffer<'a, T> {
-        Buffer { room, count: 0 }
+impl<'a, T: Place, const ROOM: usize> Buffer<'a, T, ROOM> {
+    pub(crate) fn new(room: &'a mut [T; ROOM]) -> Buffer<'a, T, ROOM> {
+        Buffer {
+            room,
+            used: InUse { count: 0 },
+        }
     }
 
-    // The words in use. They are never more than there are, but no ghost field says so, since a part can't be lent past one: so the length is looked at.
+    // The words in use. They are never more than there are places, but of the room nothing is known here: so its length is looked at.
     pub(crate) fn words(&self) -> &[T] {
-        &self.room[..self.count.min(self.room.len())]
+        &self.room[..self.used.count.min(self.room.len())]
     }
 
     pub(crate) fn words_mut(&mut self) -> &mut [T] {
-        let count = self.count.min(self.room.len());
+        let count = self.used.count.min(self.room.len());
         &mut self.room[..count]
     }
 
@@ -47,17 +58,20 @@ impl<'a, T: Place> Buffer<'a, T> {
 
     // Puts as many words in use as are asked for, or all that there are.
     pub(crate) fn use_first(&mut self, most: usize) -> &mut [T] {
-        self.count = self.room.len().min(most);
+        self.used = InUse {
+            count: ROOM.min(most),
+        };
         self.words_mut()
     }
 
     // Puts numbers in use, and answers how many, if each of them fits and there is room for all. All are looked at before the first is stored, so
     // that a line that doesn't fit changes nothing.
     pub(crate) fn set(&mut self, words: Words<'_>) -> Option<usize> {
-        if !all_fit::<T>(words, self.room.len()) {
+        if !all_fit::<T>(words, ROOM) {
             return None;
         }
-        self.count = store(self.room, words);
-        Some(self.count)
+        let count = store(self.room, words).min(ROOM);
+        self.used = InUse { count };
+        Some(count)
     }
 }

@@ -5,7 +5,10 @@ use crate::command::{Command, asked};
 use crate::line::Words;
 use crate::numbers::{all_fit, read};
 use crate::reply::{Held, Reply};
-use crate::room::{PIECES_MOST, RECORD_PLACES};
+use crate::room::{
+    BLOCK_WORDS, INDEX_WORDS, NUMBER_WORDS, OUTPUT_WORDS, PIECES_MOST, PREFERRED_WORDS,
+    RECORD_PLACES, TEXT_BYTES,
+};
 use memory::number_of;
 use record::State;
 use session::{Ran, Revision, Session};
@@ -15,16 +18,16 @@ use words::{Literal, Refusal};
 #[derive(Drop)]
 pub(crate) struct Desk<'a> {
     pub(crate) session: Session,
-    pub(crate) block: Buffer<'a, i32>,
-    pub(crate) literals: Buffer<'a, i32>,
-    pub(crate) kinds: Buffer<'a, u8>,
-    pub(crate) reasons: Buffer<'a, u32>,
-    pub(crate) output: Buffer<'a, u32>,
-    pub(crate) preferred: Buffer<'a, i32>,
-    pub(crate) text: Buffer<'a, u8>,
-    pub(crate) trues: Buffer<'a, u32>,
-    pub(crate) opens: Buffer<'a, u32>,
-    pub(crate) index: Buffer<'a, u32>,
+    pub(crate) block: Buffer<'a, i32, BLOCK_WORDS>,
+    pub(crate) literals: Buffer<'a, i32, RECORD_PLACES>,
+    pub(crate) kinds: Buffer<'a, u8, RECORD_PLACES>,
+    pub(crate) reasons: Buffer<'a, u32, RECORD_PLACES>,
+    pub(crate) output: Buffer<'a, u32, OUTPUT_WORDS>,
+    pub(crate) preferred: Buffer<'a, i32, PREFERRED_WORDS>,
+    pub(crate) text: Buffer<'a, u8, TEXT_BYTES>,
+    pub(crate) trues: Buffer<'a, u32, NUMBER_WORDS>,
+    pub(crate) opens: Buffer<'a, u32, NUMBER_WORDS>,
+    pub(crate) index: Buffer<'a, u32, INDEX_WORDS>,
 }
 
 // "At the start everything is empty and the session is 0 0 0."

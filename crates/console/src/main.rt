@@ -1,6 +1,7 @@
 // The console: one desk, served line by line on standard input until that ends.
 #![tactic(auto)]
 
+mod answer; // the text of an answer
 mod buffer; // a buffer, and how much of it is in use
 mod command; // what a line asks for
 mod desk; // the desk, and what a command does with it
@@ -10,6 +11,7 @@ mod numbers; // a word's number
 mod reply; // what a line is answered
 mod room; // how large all that is
 
+use answer::Answer;
 use buffer::Buffer;
 use desk::Desk;
 use input::Input;
@@ -28,12 +30,12 @@ fn serve(
     input: &mut Input<impl Read>,
     line: &mut Line,
     desk: &mut Desk<'_>,
+    answer: &mut Answer,
 ) -> io::Result<()> {
     for _ in 0..u64::MAX {
         let ended = input.read_line(line);
         if !line.is_silent() {
-            let reply = desk.answer(line.bytes());
-            println!(rt; "{reply}")?;
+            answer.write(rt, desk.answer(line.bytes()))?;
         }
         if !ended {
             break;
@@ -69,5 +71,6 @@ fn main(rt: HostRuntime) {
     };
     let mut input = Input::new(rt.stdin());
     let mut line = Line::new();
-    let _ = serve(&rt, &mut input, &mut line, &mut desk);
+    let mut answer = Answer::new();
+    let _ = serve(&rt, &mut input, &mut line, &mut desk, &mut answer);
 }

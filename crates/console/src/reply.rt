@@ -73,7 +73,8 @@ struct Listed<'a, T>(&'a [T]);
 impl<T: Display> Display for Listed<'_, T> {
     fn fmt<W: fmt::Write>(&self, f: &mut Formatter<W>) -> fmt::Result {
         for number in self.0 {
-            write!(f, " {number}")?;
+            f.write_str(" ")?;
+            number.fmt(f)?;
         }
         Ok(())
     }

@@ -25,3 +25,7 @@ pub(crate) const PIECES_MOST: usize = PREFERRED_WORDS;
 
 // The input is read in parts of so many bytes.
 pub(crate) const PART_BYTES: usize = LINE_BYTES / 4;
+
+// Every answer has room: none has more numbers than a text has bytes, each of which takes four bytes at most, with the space before it. A number of
+// another buffer takes twelve, and there are a quarter as many.
+pub(crate) const ANSWER_BYTES: usize = 524288;

@@ -75,12 +75,12 @@ impl Sheet {
                     count: from.count.wrapping_add(u64::from(page.entries)),
                     next: page.next,
                 };
-                said::progress(rt, u64::from(page.next), request.progress);
-                if !page.paused && ENTRIES <= page.entries as usize {
-                    return Some(place);
+                let more = !page.paused && ENTRIES <= page.entries as usize;
+                if !more {
+                    end(rt, block, place, page.paused);
                 }
-                end(rt, block, place, page.paused);
-                None
+                said::progress(rt, u64::from(page.next), request.progress);
+                if more { Some(place) } else { None }
             }
             Err(refusal) => {
                 said::refused(rt, refusal);
