@@ -1,18 +1,23 @@
 -- The lowest conflict and the lowest unit clause of all, from what one clause shows and the clauses after it: one that is neither is passed
 -- over, one in conflict is the lowest, and after a unit clause only a conflict still counts.
-use Rattle.std.specs.Prelude.{◌≡◌, refl, ℕ, zero, suc, ◌+◌, min, Bool, true, false, not, ◌||◌, cond, List, [], ◌∷◌, eqb, ℤ, Option, Some, None}
-use Rattle.std.proofs.Common.{sym, ◌∙◌, ap, arith, add-one, ne_eqb}
-use Rattle.words.specs.Lists.{In, here, there, any}
+use Rattle.std.specs.Prelude.{◌≡◌, refl, ℕ, zero, suc, ◌+◌, min, Bool, true, false, not, ◌||◌, cond, List, [], ◌∷◌, length, slice_get, eqb, ltb, ℤ, Option, Some, None, MatchOption, IfSome}
+use Rattle.std.proofs.Common.{sym, ◌∙◌, ap, arith, add-one, ne_eqb, Bor}
+use denote.Param.Members.{Mut, Called}
+use Rattle.std.specs.List.{FoldsTo, position_or_len}
+use Rattle.std.specs.Option.{option_map}
+use Rattle.std.specs.Iterator.{YieldsFirstRef, Yields, FindsMapped}
+use Rattle.std.specs.Iterator.Runs.{SomeRun, AllItemsGive, YieldsRun}
+use Rattle.words.specs.Lists.{In, there, any}
 use Rattle.record.specs.Found.{on_found, literal}
 use Rattle.record.specs.Inner.Tables.{places}
 use Rattle.clauses.specs.Found.{unit_clause}
 use Rattle.clauses.specs.Lowest.{lowest}
-use Rattle.clauses.specs.Inner.Clauses.{Placed, by_status, keeps_by, conflict_by, unit_literal, stays_unit, unit_if, sight_from, lowest_unit_by, deciding_by, decided_by}
+use Rattle.clauses.specs.Inner.Clauses.{by_status, keeps_by, conflict_by, unit_literal, stays_unit, unit_if, sight_from, lowest_unit_by, deciding_by, decided_by, decisive}
 use Rattle.clauses.specs.declared.clauses.Sight.{Sight}
 use Rattle.clauses.specs.declared.clauses.Sight.TheVariants.{InConflict, UnitOn, Neither}
-use Rattle.clauses.specs.declared.found.UnitClause.{UnitClause}
 use Rattle.clauses.specs.declared.found.Deciding.{Deciding}
 use Rattle.clauses.specs.declared.found.Deciding.TheVariants.{Conflict, Quiet}
+use Rattle.clauses.proofs.Position.{lowest_after}
 
 module _ (st lev : ℤ → ℕ) where
   abbrev is_conflict : Sight → Bool
@@ -46,73 +51,79 @@ module _ (st lev : ℤ → ℕ) where
       go (UnitOn l) = ap (λ n. on_found (lowest (conflict_by st) n m) Conflict (Quiet (Some (unit_clause l c)))) (add-one c)
       go Neither = rw add-one
 
-  -- ---- the search: what the clauses left make due, where `unit` is the first unit clause so far
-  abbrev left : Option UnitClause → ℕ → List (List ℤ) → Deciding
-  left None n m = deciding_by st lev n m
-  left (Some u) n m = on_found (lowest (conflict_by st) n m) Conflict (Quiet (Some u))
+  -- ---- the search: those that decide nothing are passed over, up to the first that decides
+  decisive_some : (s w : Sight) → Some w ≡ decisive s → (s ≡ w) × (w ≡ Neither → ⊥)
+  decisive_some InConflict w e = let q : InConflict ≡ w = cc in (q, λ z. let y : InConflict ≡ Neither = q ∙ z in let o : ◌≡◌ {A = ℕ} 0 1 = cc in omega arith)
+  decisive_some (UnitOn l) w e = let q : UnitOn l ≡ w = cc in (q, λ z. let y : UnitOn l ≡ Neither = q ∙ z in let o : ◌≡◌ {A = ℕ} 0 1 = cc in omega arith)
+  decisive_some Neither w e = let z : ◌≡◌ {A = ℕ} 0 1 = cc in absurd (omega arith)
 
-  -- and what is seen of the next of them
-  abbrev pub seen_of : Option UnitClause → List ℤ → Sight
-  seen_of None C = sight_from st lev places C
-  seen_of (Some u) C = cond (conflict_by st C) InConflict Neither
+  decisive_none : (s : Sight) → None ≡ decisive s → s ≡ Neither
+  decisive_none InConflict e = cc
+  decisive_none (UnitOn l) e = cc
+  decisive_none Neither e = refl
 
-  module _ (all : List (List ℤ)) where
-    pub record Seeking (unit : Option UnitClause) (n : ℕ) (m : List (List ℤ)) : Type 0 where
-      pub placed : (C : List ℤ) → In C m → Placed C
-      pub same : left unit n m ≡ deciding_by st lev 0 all
+  -- m's first clause that decides shows s, and others are after it, the first of m being number n
+  pub record First (n : ℕ) (m : List (List ℤ)) (s : Sight) (others : List (List ℤ)) : Type 0 where
+    pub number : ℕ
+    pub before : number + 1 + length others ≡ n + length m
+    pub due : decided_by st number s others (deciding_by st lev (number + 1) others) ≡ deciding_by st lev n m
+    pub decides : s ≡ Neither → ⊥
+    pub left : (C : List ℤ) → In C others → In C m
 
-    pub seek_start : ((C : List ℤ) → In C all → Placed C) → Seeking None 0 all
-    seek_start p = record { placed = p; same = refl }
+  passed : (n : ℕ) (C : List ℤ) (m : List (List ℤ)) → None ≡ decisive (sight_from st lev places C) → deciding_by st lev (n + 1) m ≡ deciding_by st lev n (C ∷ m)
+  unfolding decided_by
+  passed n C m e = deciding_next n C m (decisive_none _ e) refl
 
-    module _ (unit : Option UnitClause) (n : ℕ) (m : List (List ℤ)) (k : Seeking unit n m) where
-      pub seek_end : m ≡ [] → Quiet unit ≡ deciding_by st lev 0 all
-      unfolding deciding_by lowest lowest_unit_by
-      seek_end e = go unit (rw e at k.same)
-        where
-          go : (u : Option UnitClause) → left u n [] ≡ deciding_by st lev 0 all → Quiet u ≡ deciding_by st lev 0 all
-          go None i = i
-          go (Some u) i = i
+  module _ {S : Type 0} (shown : S → List (List ℤ)) {F : Type 0} (g : Mut F (Bor (List ℤ) × Unit {0}) (Option Sight)) (f : F)
+      (k : (x : Bor (List ℤ)) (r : Option Sight) (q : F) → Called g f (x, tt) r q → (q ≡ f) × (r ≡ decisive (sight_from st lev places x.now))) where
+    abbrev steps : S → Option (Bor (List ℤ)) → S → Type 0
+    steps = YieldsFirstRef shown
 
-      module _ (C : List ℤ) (m' : List (List ℤ)) (e : m ≡ C ∷ m') where
-        pub seek_placed : Placed C
-        seek_placed = k.placed C (rw e (here refl))
+    called : (p : F) (x : Bor (List ℤ)) (r : Option Sight) (q : F) → p ≡ f → Called g p (x, tt) r q → (q ≡ f) × (r ≡ decisive (sight_from st lev places x.now))
+    called p x r q e c = k x r q (rw e at c)
 
-        decides : left unit n (C ∷ m') ≡ deciding_by st lev 0 all
-        decides = rw e at k.same
+    first : (n : ℕ) (xs : List (Bor (List ℤ))) (s t u : S) (o : Option (Bor (List ℤ))) (p j : F) (r : Option Sight) (w : Sight) → r ≡ Some w → p ≡ f → Yields steps s xs t → steps t o u → FoldsTo (λ p x q. Called g p (x, tt) None q) p xs j
+        → MatchOption o (r ≡ None) (λ x. (h : F) × Called g j (x, tt) r h) → First n (shown s) w (shown u)
+    first n [] s t u None p j r w i e y l d m = let z : ◌≡◌ {A = ℕ} 0 1 = cc in absurd (omega arith)
+    first n [] s t u (Some x) p j r w i e y l d m =
+        let a : (sight_from st lev places x.now ≡ w) × (w ≡ Neither → ⊥) = decisive_some _ w (sym i ∙ (called j x r m.0 (sym d ∙ e) m.1).1) in
+        let both : shown s ≡ x.now ∷ shown u = ap shown y ∙ l in
+        record { number = n; before = rw both (omega arith); due = rw both (deciding_next n x.now (shown u) a.0 refl); decides = a.1; left = λ D i. rw both (there i) }
+    first n (x ∷ xs) s t u o p j r w i e y l d m =
+        let a = called p x None d.0 e d.1 in
+        let on = first (n + 1) xs y.0 t u o d.0 j r w i a.0 y.2 l d.2 m in
+        record { number = on.number; before = rw y.1 (omega (arith, on.before)); due = on.due ∙ rw y.1 (passed n x.now (shown y.0) a.1); decides = on.decides; left = λ D i. rw y.1 (there (on.left D i)) }
 
-        -- in conflict, a unit clause, neither
-        pub seek_conflict : InConflict ≡ seen_of unit C → Conflict n ≡ deciding_by st lev 0 all
-        unfolding lowest decided_by
-        seek_conflict s = go unit s decides
-          where
-            go : (u : Option UnitClause) → InConflict ≡ seen_of u C → left u n (C ∷ m') ≡ deciding_by st lev 0 all → Conflict n ≡ deciding_by st lev 0 all
-            go None s i = deciding_next n C m' (sym s) refl ∙ i
-            go (Some u) s i = by (conflict_by st C) s i
-              where
-                by : (b : Bool) → InConflict ≡ cond b InConflict Neither → on_found (cond b (Some n) (lowest (conflict_by st) (suc n) m')) Conflict (Quiet (Some u)) ≡ deciding_by st lev 0 all → Conflict n ≡ deciding_by st lev 0 all
-                by true s i = i
-                by false s i = cc
+    none : (n : ℕ) (xs : List (Bor (List ℤ))) (s t u : S) → Yields steps s xs t → steps t None u → ((i : ℕ) → IfSome (slice_get xs i) (λ x. Called g f (x, tt) None f)) → Quiet None ≡ deciding_by st lev n (shown s)
+    unfolding deciding_by lowest lowest_unit_by
+    none n [] s t u y l c = rw (ap shown y ∙ l.0) refl
+    none n (x ∷ xs) s t u y l c = none (n + 1) xs y.0 t u y.2 l (λ i. c (suc i)) ∙ rw y.1 (passed n x.now (shown y.0) (k x None f (c 0)).1)
 
-        pub seek_unit : (l : _) → UnitOn l ≡ seen_of unit C → Seeking (Some (unit_clause l n)) (n + 1) m'
-        unfolding decided_by
-        seek_unit l s = record { placed = λ D i. k.placed D (rw e (there i)); same = go unit s decides }
-          where
-            go : (u : Option UnitClause) → UnitOn l ≡ seen_of u C → left u n (C ∷ m') ≡ deciding_by st lev 0 all → left (Some (unit_clause l n)) (n + 1) m' ≡ deciding_by st lev 0 all
-            go None s i = deciding_next n C m' (sym s) refl ∙ i
-            go (Some u) s i = by (conflict_by st C) s
-              where
-                by : (b : Bool) → UnitOn l ≡ cond b InConflict Neither → left (Some (unit_clause l n)) (n + 1) m' ≡ deciding_by st lev 0 all
-                by true s = cc
-                by false s = cc
+    -- as `find_map` says it
+    pub first_found : (s u : S) (r : Option Sight) (w : Sight) → r ≡ Some w → FindsMapped steps g s f r u → First 0 (shown s) w (shown u)
+    first_found s u r w i (xs, o, j, y, d, m) = first 0 xs s y.0 u o f j r w i refl y.1 y.2 d m
 
-        pub seek_past : Neither ≡ seen_of unit C → Seeking unit (n + 1) m'
-        unfolding lowest decided_by
-        seek_past s = record { placed = λ D i. k.placed D (rw e (there i)); same = go unit s decides }
-          where
-            go : (u : Option UnitClause) → Neither ≡ seen_of u C → left u n (C ∷ m') ≡ deciding_by st lev 0 all → left u (n + 1) m' ≡ deciding_by st lev 0 all
-            go None s i = deciding_next n C m' (sym s) refl ∙ i
-            go (Some u) s i = rw add-one (by (conflict_by st C) s i)
-              where
-                by : (b : Bool) → Neither ≡ cond b InConflict Neither → on_found (cond b (Some n) (lowest (conflict_by st) (suc n) m')) Conflict (Quiet (Some u)) ≡ deciding_by st lev 0 all → left (Some u) (suc n) m' ≡ deciding_by st lev 0 all
-                by true s i = cc
-                by false s i = i
+    -- and with none, as the run says it that went on to its end
+    pub none_found : (s : S) → SomeRun steps s (λ p. (p.whole ≡ true) × AllItemsGive p g f None) → Quiet None ≡ deciding_by st lev 0 (shown s)
+    unfolding YieldsRun
+    none_found s (p, i, w) =
+        let y = p.gave in
+        let end = y.0.2 w.0 in
+        rw i at (none 0 p.items p.from y.0.0 end.0 y.0.1 end.1 (λ i. rw (y.1 i) at (w.1 (λ x r q h. (k x.0 r q h).0) i)))
+
+  -- ---- what it makes due: in conflict, a unit clause
+  module _ {n : ℕ} {m : List (List ℤ)} {s : Sight} {others : List (List ℤ)} (k : First n m s others) where
+    pub conflict_due : s ≡ InConflict → Conflict k.number ≡ deciding_by st lev n m
+    unfolding decided_by
+    conflict_due e = rw e at k.due
+
+    -- after which r is the place of the first in conflict among the others
+    pub unit_due : (l : _) → s ≡ UnitOn l → (r : Option ℕ) → r ≡ cond (ltb (position_or_len (conflict_by st) others) (length others)) (Some (position_or_len (conflict_by st) others)) None
+        → on_found r (λ at. Conflict (k.number + 1 + at)) (Quiet (Some (unit_clause l k.number))) ≡ deciding_by st lev n m
+    unfolding decided_by
+    unit_due l e r p = go r (lowest_after (conflict_by st) (k.number + 1) others r p) ∙ rw e at k.due
+      where
+        go : (r : Option ℕ) → lowest (conflict_by st) (k.number + 1) others ≡ option_map (λ at. k.number + 1 + at) r
+            → on_found r (λ at. Conflict (k.number + 1 + at)) (Quiet (Some (unit_clause l k.number))) ≡ on_found (lowest (conflict_by st) (k.number + 1) others) Conflict (Quiet (Some (unit_clause l k.number)))
+        go None q = rw q refl
+        go (Some at) q = rw q refl

@@ -3,7 +3,7 @@ ghost use Rattle.std.specs.Prelude.{◌≡◌, ◌≤◌, pos, nat_abs, get_or};
 ghost use Rattle.formula.specs.Limits.{limits};
 ghost use Rattle.record.specs.Inner.Tables.{places};
 ghost use Rattle.tables.specs.Inner.ByLiteral.{status_in};
-ghost use Rattle.clauses.specs.Inner.Clauses.{Placed, Clauses, level_by, conflict_by, sight_from};
+ghost use Rattle.clauses.specs.Inner.Clauses.{Placed, Clauses, level_by, conflict_by, sight_from, decisive};
 ghost use Rattle.clauses.specs.Promises.{StatusPromise, StatusAtPromise, DecidingPromise};
 
 use crate::found::{Deciding, UnitClause};
@@ -82,6 +82,17 @@ fn look(clause: &[i32], statuses: &[u8; LITERAL_PLACES], levels: &[u16; PLACES])
     }
 }
 
+// The same, where it decides.
+fn found(clause: &[i32], statuses: &[u8; LITERAL_PLACES], levels: &[u16; PLACES]) -> Option<Sight>
+    requires { Placed clause.now }
+    ensures { result ≡ decisive (sight_from (status_in statuses.now) (level_by levels.now) places clause.now) }
+{
+    match look(clause, statuses, levels) {
+        Sight::Neither => None,
+        sight => Some(sight),
+    }
+}
+
 // The lowest clause in conflict, or with none the lowest unit clause and its literal. Each clause's literals are read once.
 pub fn deciding(
     ends: &[i32],
@@ -92,19 +103,18 @@ pub fn deciding(
     requires { Clauses ends.now literals.now 0 }
     ensures { DecidingPromise ends.now literals.now statuses.now levels.now result }
 {
-    let mut unit: Option<UnitClause> = None;
-    for (c, clause) in InOrder::of(ends, literals).enumerate() {
-        // [unit.search] Upwards; after the first unit clause only a conflict counts, which fewer literals show.
-        let seen = match unit {
-            None => look(clause, statuses, levels),
-            Some(_) if in_conflict(clause, statuses) => Sight::InConflict,
-            Some(_) => Sight::Neither,
-        };
-        match seen {
-            Sight::InConflict => return Deciding::Conflict(c),
-            Sight::UnitOn(literal) => unit = Some(UnitClause { literal, clause: c }),
-            Sight::Neither => {}
-        }
+    let mut clauses = InOrder::of(ends, literals);
+    // [unit.search] Upwards, to the first clause that decides; after a unit clause only a conflict counts, which fewer literals show.
+    let Some(sight) = clauses.find_map(|clause| found(clause, statuses, levels)) else {
+        return Deciding::Quiet(None);
+    };
+    let c = ends.len() - 1 - clauses.ends.len(); // it is the last that came
+    match sight {
+        Sight::InConflict => Deciding::Conflict(c),
+        Sight::UnitOn(literal) => match clauses.position(|clause| in_conflict(clause, statuses)) {
+            Some(at) => Deciding::Conflict(c + 1 + at),
+            None => Deciding::Quiet(Some(UnitClause { literal, clause: c })),
+        },
+        Sight::Neither => Deciding::Quiet(None),
     }
-    Deciding::Quiet(unit)
 }

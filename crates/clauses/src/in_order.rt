@@ -9,7 +9,7 @@ ghost use Rattle.formula.specs.Promises.{ClausesPromise};
 // Those that are still to come.
 #[derive(Clone, Copy)]
 pub struct InOrder<'a> {
-    ends: &'a [i32],
+    pub(crate) ends: &'a [i32],
     literals: &'a [i32],
     from: usize,
     pub ghost ordered: { bad_ends (length literals.now) from ends.now ≡ false },

@@ -46,6 +46,12 @@ unit_literal InConflict = None
 unit_literal (UnitOn l) = Some l
 unit_literal Neither = None
 
+-- and it decides where it is one of the first two
+abbrev pub decisive : Sight → Option Sight
+decisive InConflict = Some InConflict
+decisive (UnitOn l) = Some (UnitOn l)
+decisive Neither = None
+
 -- what follows the search for both
 abbrev pub on_deciding : {A : Type 0} → Deciding → (ℕ → A) → (Option UnitClause → A) → A
 on_deciding (Conflict c) f g = f c

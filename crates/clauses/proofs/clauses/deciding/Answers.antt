@@ -1,72 +1,105 @@
--- What is seen of a clause says what it and those after it make due.
-use Rattle.std.proofs.Common.{◌≡◌, ◌∙◌, ◌∷◌, ◌+◌, ap, sym, length, inl, rules, arith}
+-- The first clause that decides, and after a unit clause the lowest conflict among those that are left; each has words with a place.
+use Rattle.std.proofs.Common.{◌≡◌, ◌∙◌, ◌+◌, ◌-◌, ap, length, inl, refl, rules, arith, List, ℤ}
+use Rattle.std.specs.Prelude.{cond, ltb, Some, None}
+use Rattle.std.specs.List.{position_or_len}
+use borrow.Author.Tests.{tests}
+use Rattle.std.proofs.lemmas.Iterator.Consumers.{YieldsList-from_first}
+use Rattle.std.proofs.lemmas.Iterator.Adapters.{serves_from_places}
+use Rattle.std.proofs.lemmas.Iterator.Search.{position_from_yields_List}
+use Rattle.words.specs.Lists.{In}
+use Rattle.words.specs.Laws.Lists.{in_at}
 use Rattle.formula.specs.Formula.{clauses_from}
 use Rattle.formula.specs.Laws.Clauses.{clauses_length}
 use Rattle.tables.specs.Inner.ByLiteral.{status_in}
-use Rattle.clauses.specs.Inner.Clauses.{level_by}
+use Rattle.clauses.specs.Inner.Clauses.{Placed, level_by, conflict_by, deciding_by}
+use Rattle.clauses.specs.declared.in_order.InOrder.{InOrder}
 use Rattle.clauses.proofs.Laws.Walk.{clauses_placed}
-use Rattle.clauses.proofs.Decision.{seen_of, seek_start, seek_end, seek_placed, seek_conflict, seek_unit, seek_past}
+use Rattle.clauses.proofs.Decision.{First, first_found, none_found, conflict_due, unit_due}
 use Rattle.clauses.proofs.clauses.deciding.Goals as goal
-use Rattle.clauses.proofs.clauses.deciding.Goals.{After-into_iter-c-iterator, In-Some, Joined-unit, in-None-unit, in-Some-unit, in-Some-2}
+use Rattle.clauses.proofs.clauses.deciding.Goals.{In-Some, After-position}
 
--- before the first turn all clauses are left, as many as ends
-module _ (c : After-into_iter-c-iterator) where
-  all : clauses_from c.into_iter-c-iterator.result.iter.literals.now c.into_iter-c-iterator.result.iter.from c.into_iter-c-iterator.result.iter.ends.now ≡ clauses_from c.args.literals.now 0 c.args.ends.now
-  all = rw (c.into_iter-c-iterator.ensures.into_iter_gives, c.enumerate-c-items.ensures.source) c.of.ensures
+abbrev shown : InOrder → List (List ℤ)
+shown s = clauses_from s.literals.now s.from s.ends.now
 
-  none : c.into_iter-c-iterator.result.count ≡ 0
-  none = rw c.into_iter-c-iterator.ensures.into_iter_gives c.enumerate-c-items.ensures.count
+pub find_map-requires-clause-callable : goal.find_map-requires-clause-callable
+find_map-requires-clause-callable c =
+    let all = clauses_from c.args.literals.now 0 c.args.ends.now in
+    serves_from_places (YieldsList-from_first (λ x. x.now) shown all c.of-clauses.ensures) (λ x q r. search rules)
+    (λ x k h e.
+    let there : In x.now all = rw (← e) at (in_at all k x.now h) in
+    let placed : Placed x.now = clauses_placed _ c.requires.placed 0 _ _ there in
+    search rules)
 
-pub loop-c-init-derived : goal.loop-c-init-derived
-loop-c-init-derived c =
-    let l = ap length (all (goal.at.loop-c-init-derived c).After-into_iter-c-iterator) in
-    ((tt, tt, inl (omega (arith, none (goal.at.loop-c-init-derived c).After-into_iter-c-iterator, l, clauses_length c.args.literals.now 0 c.args.ends.now))), tt)
+pub returns-in_default : goal.returns-in_default
+returns-in_default c =
+    none_found (status_in c.args.statuses.now) (level_by c.args.levels.now) shown _ _ (λ x r q h. search (rules, tests)) c.of-clauses.result c.in_default.ensures.runs ∙ ap (deciding_by _ _ 0) c.of-clauses.ensures
 
-pub loop-c-init : goal.loop-c-init
-loop-c-init c =
-    let at = (goal.at.loop-c-init c).After-into_iter-c-iterator in
-    rw (all at, none at) (seek_start _ _ _ (clauses_placed _ c.requires.placed 0 _))
-
--- the clause of this turn, and its number
+-- the first that decides, and its number
 module _ (c : In-Some) where
-  next : clauses_from c.loop-c.c-iterator.iter.literals.now c.loop-c.c-iterator.iter.from c.loop-c.c-iterator.iter.ends.now
-      ≡ c.in-Some.clause.now ∷ clauses_from c.next.new.self.iter.literals.now c.next.new.self.iter.from c.next.new.self.iter.ends.now
-  next = search rules
+  found : First (status_in c.args.statuses.now) (level_by c.args.levels.now) 0 (shown c.of-clauses.result) c.in-Some.sight (shown c.find_map.new.self)
+  found = first_found _ _ shown _ _ (λ x r q h. search (rules, tests)) c.of-clauses.result c.find_map.new.self c.find_map.result _ c.in-Some.is c.find_map.ensures.ran
 
-  number : c.in-Some.c ≡ c.loop-c.c-iterator.count
-  number = search rules
+  long : length (shown c.find_map.new.self) ≡ length c.find_map.new.self.ends.now
+  long = clauses_length _ _ _
 
-  later : c.next.new.self.count ≡ c.loop-c.c-iterator.count + 1
-  later = search rules
+  total : found.number + 1 + length c.find_map.new.self.ends.now ≡ length c.args.ends.now
+  total = omega (arith, found.before, ap length c.of-clauses.ensures, clauses_length c.args.literals.now 0 c.args.ends.now, long)
 
-pub look-seen-requires : goal.look-seen-requires
-look-seen-requires c = seek_placed _ _ _ _ _ _ c.loop-c.invariant _ _ (next (goal.at.look-seen-requires c).In-Some)
+  number : length c.args.ends.now - 1 - length c.find_map.new.self.ends.now ≡ found.number
+  number = omega (arith, total)
 
-pub in_conflict-requires : goal.in_conflict-requires
-in_conflict-requires c = seek_placed _ _ _ _ _ _ c.loop-c.invariant _ _ (next (goal.at.in_conflict-requires c).In-Some)
+pub overflow_sub-c : goal.overflow_sub-c
+overflow_sub-c c = omega (arith, total (goal.at.overflow_sub-c c).In-Some)
 
--- what is seen of it
-seen_is : (c : Joined-unit) → c.match-unit.seen ≡ seen_of (status_in c.args.statuses.now) (level_by c.args.levels.now) c.loop-c.unit c.in-Some.clause.now
-seen_is c = elim c.match-unit.branch [
-  | in-None-unit w ↦ rw w.in-None-unit.is (w.seen-is ∙ w.look-seen.ensures)
-  | in-Some-unit w ↦ rw (w.in-Some-unit.is, ← w.in_conflict.ensures, w.if-in_conflict.true) w.seen-is
-  | in-Some-2 w ↦ rw (w.in-Some-unit.is, ← w.in_conflict.ensures, w.if-in_conflict.false) w.seen-is
-]
+pub overflow_sub-c-2 : goal.overflow_sub-c-2
+overflow_sub-c-2 c = omega (arith, total (goal.at.overflow_sub-c-2 c).In-Some)
 
 pub returns-in-InConflict : goal.returns-in-InConflict
 returns-in-InConflict c =
-    let at = goal.at.returns-in-InConflict c in
-    rw (number at.In-Some) (seek_conflict _ _ _ _ _ _ c.loop-c.invariant _ _ (next at.In-Some) (sym c.in-InConflict.is ∙ seen_is at.Joined-unit))
+    let at = (goal.at.returns-in-InConflict c).In-Some in
+    rw (number at) (conflict_due _ _ (found at) c.in-InConflict.is ∙ ap (deciding_by _ _ 0) c.of-clauses.ensures)
 
-pub loop-c-preserved-in-UnitOn : goal.loop-c-preserved-in-UnitOn
-loop-c-preserved-in-UnitOn c =
-    let at = goal.at.loop-c-preserved-in-UnitOn c in
-    rw (number at.In-Some, later at.In-Some) (seek_unit _ _ _ _ _ _ c.loop-c.invariant _ _ (next at.In-Some) _ (sym c.in-UnitOn.is ∙ seen_is at.Joined-unit))
+pub position-requires-clause-callable : goal.position-requires-clause-callable
+position-requires-clause-callable c =
+    let at = (goal.at.position-requires-clause-callable c).In-Some in
+    let left = shown c.find_map.new.self in
+    let all = clauses_from c.args.literals.now 0 c.args.ends.now in
+    serves_from_places (YieldsList-from_first (λ x. x.now) shown left refl) (λ x q r. search rules)
+    (λ x k h e.
+    let later : In x.now left = rw (← e) at (in_at left k x.now h) in
+    let there : In x.now all = rw c.of-clauses.ensures at ((found at).left _ later) in
+    let placed : Placed x.now = clauses_placed _ c.requires.placed 0 _ _ there in
+    search rules)
 
-pub loop-c-preserved : goal.loop-c-preserved
-loop-c-preserved c =
-    let at = goal.at.loop-c-preserved c in
-    rw (later at.In-Some) (seek_past _ _ _ _ _ _ c.loop-c.invariant _ _ (next at.In-Some) (sym c.in-Neither.is ∙ seen_is at.Joined-unit))
+pub position-requires-clause-fits : goal.position-requires-clause-fits
+position-requires-clause-fits c =
+    let at = (goal.at.position-requires-clause-fits c).In-Some in
+    inl (omega (arith, total at, long at))
 
-pub returns : goal.returns
-returns c = seek_end _ _ _ _ _ _ c.loop-c.invariant (search rules)
+pub overflow_add-result-in-Some-position : goal.overflow_add-result-in-Some-position
+overflow_add-result-in-Some-position c =
+    let at = (goal.at.overflow_add-result-in-Some-position c).In-Some in
+    omega (arith, total at, long at, c.in-Some-position.ensures.bound)
+
+-- after a unit clause: the place among the others of the first in conflict
+module _ (c : After-position) where
+  place : c.position.result
+      ≡ cond (ltb (position_or_len (conflict_by (status_in c.args.statuses.now)) (shown c.find_map.new.self)) (length (shown c.find_map.new.self)))
+      (Some (position_or_len (conflict_by (status_in c.args.statuses.now)) (shown c.find_map.new.self))) None
+  place =
+      position_from_yields_List (conflict_by (status_in c.args.statuses.now)) c.position.new.self _ c.position.result c.position.ensures.ran (YieldsList-from_first (λ x. x.now) shown (shown c.find_map.new.self) refl) (λ x b q k. search (rules, tests))
+
+pub returns-in-Some-position : goal.returns-in-Some-position
+returns-in-Some-position c =
+    let at = goal.at.returns-in-Some-position c in
+    let due = unit_due _ _ (found at.In-Some) _ c.in-UnitOn.is c.position.result (place at.After-position) in
+    rw (number at.In-Some) (rw c.in-Some-position.is at due ∙ ap (deciding_by _ _ 0) c.of-clauses.ensures)
+
+pub returns-in-None : goal.returns-in-None
+returns-in-None c =
+    let at = goal.at.returns-in-None c in
+    let due = unit_due _ _ (found at.In-Some) _ c.in-UnitOn.is c.position.result (place at.After-position) in
+    rw (number at.In-Some) (rw c.in-None.is at due ∙ ap (deciding_by _ _ 0) c.of-clauses.ensures)
+
+pub returns-in-Neither : goal.returns-in-Neither
+returns-in-Neither c = absurd ((found (goal.at.returns-in-Neither c).In-Some).decides c.in-Neither.is)
