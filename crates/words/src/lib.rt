@@ -24,14 +24,18 @@ const LEAST: i32 = -2147483648;
 
 const LEAST_SIZE: usize = 2147483648;
 
-// A word's size. The least word is looked for first: it is never negated.
+// A word's size. Below zero the least word is looked for first: it is never negated.
 pub fn size(x: i32) -> usize
     ensures { SizePromise x result }
 {
-    if x == LEAST {
-        return LEAST_SIZE;
+    if x >= 0 {
+        return x as usize;
     }
-    if x < 0 { (-x) as usize } else { x as usize }
+    if x == LEAST {
+        LEAST_SIZE
+    } else {
+        (-x) as usize
+    }
 }
 
 // The opposite of a literal. The least word has none: it is answered with 0, which is no literal.
