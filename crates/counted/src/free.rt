@@ -2,7 +2,7 @@
 ghost use Rattle.std.specs.Prelude.{◌≡◌, ◌≤◌, nat_abs, length};
 ghost use Rattle.formula.specs.Limits.{limits};
 ghost use Rattle.choice.specs.First.{first_of};
-ghost use Rattle.counted.specs.Inner.Free.{AllSmall, first_at, Livable, monotone_at, Walkable, free_rule};
+ghost use Rattle.counted.specs.Inner.Free.{free_at, Livable, monotone_at, Walkable, free_rule};
 
 use crate::fixed::Fixed;
 use crate::live::is_live;
@@ -10,25 +10,12 @@ use formula::{LITERAL_PLACES, MIDDLE};
 use record::Rule;
 use words::Literal;
 
-// The variable of a prefix word, true, if it is unassigned.
-fn unassigned(word: i32, statuses: &[u8; LITERAL_PLACES]) -> Option<Literal>
+// Whether the variable of a prefix word is unassigned.
+fn is_free(word: i32, statuses: &[u8; LITERAL_PLACES]) -> bool
     requires { nat_abs word ≤ limits.variables }
-    ensures { result ≡ first_at statuses.now word }
+    ensures { result ≡ free_at statuses.now (nat_abs word) }
 {
-    let v = words::size(word);
-    if statuses[MIDDLE + v] < 2 {
-        None
-    } else {
-        Some(Literal(v as i32))
-    }
-}
-
-// The first unassigned variable.
-fn first_unassigned(prefix: &[i32], statuses: &[u8; LITERAL_PLACES]) -> Option<Literal>
-    requires { AllSmall prefix.now }
-    ensures { result ≡ first_of (first_at statuses.now) prefix.now }
-{
-    prefix.iter().find_map(|word| unassigned(*word, statuses))
+    statuses[MIDDLE + words::size(word)] >= 2
 }
 
 // What the variable of a prefix word takes by Monotone, if it is unassigned: with occurrences of one sign only in the clauses that count, an
@@ -42,10 +29,10 @@ fn monotone(
     requires { Livable word fixed.now.stops.now fixed.now.index.now trues.now }
     ensures { result ≡ monotone_at fixed.now.stops.now fixed.now.index.now statuses.now trues.now word }
 {
-    let v = words::size(word);
-    if statuses[MIDDLE + v] < 2 {
+    if !is_free(word, statuses) {
         return None;
     }
+    let v = words::size(word);
     let plus = is_live(fixed.part(MIDDLE + v), trues);
     let minus = is_live(fixed.part(MIDDLE - v), trues);
     match (plus, minus) {
@@ -82,14 +69,17 @@ pub(crate) fn due_free(
     requires count_in_bounds { count ≤ length kinds.now }
     ensures { result ≡ free_rule prefix.now kinds.now count fixed.now.stops.now fixed.now.index.now statuses.now trues.now }
 {
-    if let Some(literal) = first_monotone(prefix, fixed, statuses, trues) {
-        return Rule::Monotone { literal };
-    }
-    if let Some(first) = first_unassigned(prefix, statuses) {
-        return Rule::Decide { first };
-    }
-    match record::last_kind(kinds, count, 2) {
-        Some(at) => Rule::BacktrackForall { at },
-        None => Rule::Succeed,
+    let Some(first) = prefix.iter().position(|word| is_free(*word, statuses)) else {
+        return match record::last_kind(kinds, count, 2) {
+            Some(at) => Rule::BacktrackForall { at },
+            None => Rule::Succeed,
+        };
+    };
+    // The variables before it are assigned, and none of them takes anything.
+    match first_monotone(&prefix[first..], fixed, statuses, trues) {
+        Some(literal) => Rule::Monotone { literal },
+        None => Rule::Decide {
+            first: record::true_at(prefix, first),
+        },
     }
 }

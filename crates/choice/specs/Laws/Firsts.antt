@@ -1,5 +1,5 @@
 -- The first that a test picks, by index: what a look at a list from its front finds. By induction on the list.
-use Rattle.std.specs.Prelude.{ℕ, zero, suc, ◌<◌, ◌≡◌, refl, List, [], ◌∷◌, ℤ, pos, length, get_or, Option, Some, None, MatchOption}
+use Rattle.std.specs.Prelude.{ℕ, zero, suc, ◌<◌, ◌≡◌, refl, List, [], ◌∷◌, ℤ, pos, length, get_or, drop, Option, Some, None, MatchOption}
 use Rattle.std.proofs.Common.{arith}
 use Rattle.words.specs.declared.Literal.{Literal}
 use Rattle.choice.specs.First.{first_of}
@@ -15,6 +15,13 @@ module _ (f : ℤ → Option Literal) where
   first_here [] i k h e = absurd (omega arith)
   first_here (x ∷ xs) zero k h e = rw e
   first_here (x ∷ xs) (suc i) k h e = rw (h 0 (omega arith)) (first_here xs i (omega arith) (λ j l. h (suc j) (omega arith)) e)
+
+  -- the words before the i-th pick nothing, so those from it on pick the same
+  pub first_later : (xs : List ℤ) (i : ℕ) → ((j : ℕ) → j < i → f (get_or xs j (pos 0)) ≡ None) → first_of f (drop i xs) ≡ first_of f xs
+  unfolding first_of
+  first_later xs zero h = refl
+  first_later [] (suc i) h = refl
+  first_later (x ∷ xs) (suc i) h = rw (h 0 (omega arith)) (first_later xs i (λ j l. h (suc j) (omega arith)))
 
   -- as `find_map` says it
   pub first_is : (xs : List ℤ) (r : Option Literal)

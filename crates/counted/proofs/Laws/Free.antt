@@ -1,10 +1,10 @@
 -- The search over the prefix by statuses, index and numbers is the rules' own: a status of 2 or 3 says that a variable is unassigned, and a live literal
 -- is one that occurs in a clause with no true literal.
 use Prim.Native.Nat.{ℕ, ◌+◌, ◌-◌, ◌≤◌, ◌<◌}
-use Rattle.std.specs.Prelude.{◌≡◌, ◌⊎◌, Bool, ◌&&◌, List, leb, ℤ, pos, neg_ℤ, get_or, take, Option, Some, None}
+use Rattle.std.specs.Prelude.{◌≡◌, ◌⊎◌, Bool, ◌&&◌, List, leb, ℤ, pos, neg_ℤ, get_or, take, drop, Option, Some, None}
 use Rattle.std.proofs.Math.Path.{refl, sym, ap}
-use Rattle.std.proofs.Common.{◌∙◌, arith, le-leb}
-use Rattle.std.proofs.lemmas.Bool.{lt-leb}
+use Rattle.std.proofs.Common.{◌∙◌, arith}
+use Rattle.std.proofs.lemmas.List.{length-drop}
 use Rattle.std.proofs.Math.Logic.{inl, inr}
 use Rattle.std.proofs.Math.Bool.{true, false, cond, not}
 use Rattle.std.proofs.Math.IntN.{nat_abs}
@@ -12,6 +12,7 @@ use Rattle.std.proofs.Math.ListN.{length}
 use Rattle.words.specs.Laws.Bools.{and_r}
 use Rattle.words.specs.Lists.{In}
 use Rattle.words.specs.declared.Literal.{Literal}
+use Rattle.words.specs.Laws.Lists.{in_drop}
 use Rattle.words.specs.Laws.Words.{nat_abs_neg, negneg}
 use Rattle.formula.specs.Limits.{limits, max_variables}
 use Rattle.formula.specs.Formula.{existential, universal, prefix_of, literals_of, formula_of}
@@ -35,6 +36,7 @@ use Rattle.rules.specs.Inner.Tabled.{Sorted, as_false, as_true, as_existential, 
 use Rattle.record.proofs.Laws.Accepted.{accepted_bound, kept_true}
 use Rattle.record.proofs.Laws.Last.{last_kind_lem}
 use Rattle.record.proofs.Laws.Records.{kept_room}
+use Rattle.choice.specs.Laws.Firsts.{first_past, first_here, first_later}
 use Rattle.choice.specs.Laws.Searches.{first_same}
 use Rattle.rules.proofs.Laws.VariablesMean.{monotone_own, monotone_opposite}
 use Rattle.record.specs.declared.rule.Rule.TheVariants.{Monotone, Decide, BacktrackForall, Succeed}
@@ -169,42 +171,49 @@ module _
         )
 
 -- ---- what a prefix word takes, by its status and by the looks at its two literals
-module _ (statuses : List ℕ) (q : ℤ) {v : ℕ} (is : v ≡ nat_abs q) where
-  is_held : get_or statuses (max_variables + v) 0 < 2 → free_at statuses (nat_abs q) ≡ false
-  is_held h = rw (← is, lt-leb 2 (get_or statuses (max_variables + v) 0) h)
-
-  is_free : 2 ≤ get_or statuses (max_variables + v) 0 → free_at statuses (nat_abs q) ≡ true
-  is_free h = rw (← is, le-leb 2 (get_or statuses (max_variables + v) 0) h)
-
-  pub unassigned_held : get_or statuses (max_variables + v) 0 < 2 → None ≡ first_at statuses q
+module _ (statuses : List ℕ) (q : ℤ) where
+  first_held : free_at statuses (nat_abs q) ≡ false → first_at statuses q ≡ None
   unfolding first_at
-  unassigned_held h = rw (is_held h)
+  first_held h = rw h refl
 
-  pub unassigned_free : 2 ≤ get_or statuses (max_variables + v) 0 → Some (literal (pos v)) ≡ first_at statuses q
+  first_free : free_at statuses (nat_abs q) ≡ true → first_at statuses q ≡ Some (literal (pos (nat_abs q)))
   unfolding first_at
-  unassigned_free h = rw (is_free h, is)
+  first_free h = rw h refl
 
-  module _ (stops index ts : List ℕ) where
-    pub monotone_held : get_or statuses (max_variables + v) 0 < 2 → None ≡ monotone_at stops index statuses ts q
-    unfolding monotone_at
-    monotone_held h = rw (is_held h)
+module _ (stops index statuses ts : List ℕ) (q : ℤ) where
+  pub monotone_held : free_at statuses (nat_abs q) ≡ false → monotone_at stops index statuses ts q ≡ None
+  unfolding monotone_at
+  monotone_held h = rw h refl
 
-    pub monotone_free : 2 ≤ get_or statuses (max_variables + v) 0 → {L M : List ℕ} → L ≡ part_at stops index (max_variables + v) → M ≡ part_at stops index (max_variables - v)
-        → (x y : Bool) → x ≡ some_zero ts L → y ≡ some_zero ts M → taken_by x y q ≡ monotone_at stops index statuses ts q
-    unfolding monotone_at taken_at live_at
-    monotone_free h l m x y a b = rw (is_free h, ← is, ← l, ← m, ← a, ← b)
+  pub monotone_free : free_at statuses (nat_abs q) ≡ true → {v : ℕ} → v ≡ nat_abs q → {L M : List ℕ} → L ≡ part_at stops index (max_variables + v) → M ≡ part_at stops index (max_variables - v)
+      → (x y : Bool) → x ≡ some_zero ts L → y ≡ some_zero ts M → taken_by x y q ≡ monotone_at stops index statuses ts q
+  unfolding monotone_at taken_at live_at
+  monotone_free h is l m x y a b = rw (h, ← is, ← l, ← m, ← a, ← b)
 
--- ---- the prefix gone through
+-- ---- the prefix gone through up to the first unassigned variable, and from it on: what is assigned takes nothing
 module _ (p : List ℤ) (stops index statuses ts ks : List ℕ) (n : ℕ) where
-  pub rule_monotone : (x : Literal) → Some x ≡ first_of (monotone_at stops index statuses ts) p → Monotone x ≡ free_rule p ks n stops index statuses ts
+  abbrev held_to : ℕ → Type 0
+  held_to i = (j : ℕ) → j < i → free_at statuses (nat_abs (get_or p j (pos 0))) ≡ false
+
+  pub rule_assigned : held_to (length p) → {o : Option ℕ} → o ≡ last_kind ks 2 n → on_found o (λ i. BacktrackForall i) Succeed ≡ free_rule p ks n stops index statuses ts
   unfolding free_rule
-  rule_monotone x e = rw (← e)
+  rule_assigned h is =
+      rw (← first_past (monotone_at stops index statuses ts) p (λ j l. monotone_held _ _ _ _ _ (h j l)), ← first_past (first_at statuses) p (λ j l. first_held _ _ (h j l)), is)
 
-  module _ (none : None ≡ first_of (monotone_at stops index statuses ts) p) where
-    pub rule_decides : (x : Literal) → Some x ≡ first_of (first_at statuses) p → Decide x ≡ free_rule p ks n stops index statuses ts
-    unfolding free_rule
-    rule_decides x e = rw (← none, ← e)
+  module _ (i : ℕ) (held : held_to i) where
+    later : first_of (monotone_at stops index statuses ts) (drop i p) ≡ first_of (monotone_at stops index statuses ts) p
+    later = first_later (monotone_at stops index statuses ts) p i (λ j l. monotone_held _ _ _ _ _ (held j l))
 
-    pub rule_assigned : None ≡ first_of (first_at statuses) p → {o : Option ℕ} → o ≡ last_kind ks 2 n → on_found o (λ i. BacktrackForall i) Succeed ≡ free_rule p ks n stops index statuses ts
+    pub rule_monotone : (x : Literal) → Some x ≡ first_of (monotone_at stops index statuses ts) (drop i p) → Monotone x ≡ free_rule p ks n stops index statuses ts
     unfolding free_rule
-    rule_assigned e is = rw (← none, ← e, is)
+    rule_monotone x e = rw (← (e ∙ later))
+
+    pub rule_decides : i < length p → free_at statuses (nat_abs (get_or p i (pos 0))) ≡ true → None ≡ first_of (monotone_at stops index statuses ts) (drop i p)
+        → {x : Literal} → x ≡ literal (pos (nat_abs (get_or p i (pos 0)))) → Decide x ≡ free_rule p ks n stops index statuses ts
+    unfolding free_rule
+    rule_decides l free none is =
+        rw (← (none ∙ later), ← first_here (first_at statuses) p i l (λ j k. first_held _ _ (held j k)) (first_free statuses _ free), is)
+
+-- every word from the i-th on may be looked at too
+pub walkable_later : (p : List ℤ) (stops index ts : List ℕ) → Walkable p stops index ts → (i : ℕ) → Walkable (drop i p) stops index ts
+walkable_later p stops index ts w i = record { few = omega (arith, length-drop i p, w.few); each = λ q k. w.each q (in_drop i p k) }

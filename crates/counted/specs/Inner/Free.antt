@@ -11,10 +11,6 @@ use Rattle.record.specs.declared.rule.Rule.TheVariants.{Monotone, Decide, Backtr
 use Rattle.counted.specs.Inner.Index.{part_at, Parts}
 use Rattle.counted.specs.Inner.Live.{some_zero, Within}
 
--- every word of a list has a place
-abbrev pub AllSmall : List ℤ → Type 0
-AllSmall p = (q : ℤ) → In q p → nat_abs q ≤ limits.variables
-
 -- the parts of a prefix word's two literals lie in the index, and their clauses have numbers
 pub record Livable (q : ℤ) (stops index ts : List ℕ) : Type 0 where
   pub small : nat_abs q ≤ limits.variables
