@@ -8,11 +8,15 @@ ghost use Rattle.plain.specs.Inner.Met.{met};
 
 use clauses::InOrder;
 
-// Whether a literal was made true. The look ends at its value, and the newest value comes first; `contains` would look at eight of them at a time.
+// Whether a literal was made true. The look ends at its value; `contains` would look at eight of them at a time. The newest value, which comes first,
+// is asked for on its own: where it is the literal's, the loop over the others isn't begun.
 fn made_true(literal: i32, values: &[i32]) -> bool
     ensures { result ≡ mem literal values.now }
 {
-    values.iter().any(|value| *value == literal)
+    let Some((newest, others)) = values.split_first() else {
+        return false;
+    };
+    *newest == literal || others.iter().any(|value| *value == literal)
 }
 
 // Whether a clause has a true literal.
