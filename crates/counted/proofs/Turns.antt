@@ -6,13 +6,13 @@ use Rattle.words.specs.Laws.Lists.{next}
 use Rattle.formula.specs.Formula.{clauses_from}
 use Rattle.formula.specs.Laws.Clauses.{clauses_length}
 use Rattle.formula.specs.Laws.Ends.{clause_start}
-use Rattle.formula.specs.declared.each_clause.Clauses.{Clauses}
 use Rattle.clauses.specs.Inner.Clauses.{Placed}
+use Rattle.clauses.specs.declared.in_order.InOrder.{InOrder}
 use Rattle.clauses.proofs.Laws.Walk.{placed_part}
 use Rattle.counted.proofs.Laws.Lowest.{clause_taken}
 
 -- the clauses that are still to come
-abbrev pub left : Clauses → List (List ℤ)
+abbrev pub left : InOrder → List (List ℤ)
 left s = clauses_from s.literals.now s.from s.ends.now
 
 module _ {A : Type 0} (all : List A) (c : ℕ) {rest : List A} (here : rest ≡ drop c all) where

@@ -5,7 +5,8 @@ ghost use Rattle.formula.specs.Formula.{clauses_from};
 ghost use Rattle.clauses.specs.Inner.Clauses.{Placed};
 ghost use Rattle.counted.specs.Inner.Index.{Few, Table, at, before, Indexed};
 
-use formula::{Clauses, LITERAL_PLACES, place};
+use clauses::InOrder;
+use formula::{LITERAL_PLACES, place};
 
 // How many words have each place.
 fn count_literals(words: &[i32]) -> [u16; LITERAL_PLACES]
@@ -43,7 +44,7 @@ pub(crate) fn enter_clauses(ends: &[i32], words: &[i32], index: &mut [u32]) -> [
     ensures { Indexed words.now (clauses_from words.now 0 ends.now) result index.old index.new }
 {
     let mut stops = starts_of(words);
-    for (c, clause) in Clauses::of(ends, words).enumerate() {
+    for (c, clause) in InOrder::of(ends, words).enumerate() {
         for word in clause {
             let p = place(*word);
             let stop = stops[p];

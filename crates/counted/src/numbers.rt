@@ -6,7 +6,8 @@ ghost use Rattle.tables.specs.Inner.ByLiteral.{status_in};
 ghost use Rattle.clauses.specs.Inner.Clauses.{Placed};
 ghost use Rattle.counted.specs.Inner.Numbers.{numbers_of, Fillable, Filled, NoneFrom, Least};
 
-use formula::{Clauses, LITERAL_PLACES};
+use clauses::InOrder;
+use formula::LITERAL_PLACES;
 
 #[derive(Clone, Copy)]
 pub(crate) struct Numbers {
@@ -41,7 +42,7 @@ pub(crate) fn fill_numbers(
     requires { Fillable ends.now words.now trues.old opens.old }
     ensures { Filled (status_in statuses.now) (clauses_from words.now 0 ends.now) trues.old opens.old trues.new opens.new }
 {
-    for (c, clause) in Clauses::of(ends, words).enumerate() {
+    for (c, clause) in InOrder::of(ends, words).enumerate() {
         let numbers = count_clause(clause, statuses);
         trues[c] = numbers.trues;
         opens[c] = numbers.opens;

@@ -40,6 +40,9 @@ module _ (c : After-place-p) where
   small : get_or c.loop-word.stops c.place-p.result 0 < length c.args.words.now
   small = word_small _ _ sizes _ _ _ _ _ _ c.loop-word.invariant c.loop-word-test.true _ place_is here
 
+pub of-requires : goal.of-requires
+of-requires c = c.requires.few.clauses.ends
+
 pub loop-c-init-derived : goal.loop-c-init-derived
 loop-c-init-derived c =
     let few = c.requires.few.few_clauses in

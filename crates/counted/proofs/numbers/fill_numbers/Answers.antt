@@ -8,6 +8,9 @@ use Rattle.counted.proofs.Filling.{fill_end, fill_turn}
 use Rattle.counted.proofs.Turns.{after_is, coming_few, coming_inside, coming_placed, none_more, one_inside, one_is}
 use Rattle.counted.proofs.numbers.fill_numbers.Goals as goal
 
+pub of-requires : goal.of-requires
+of-requires c = c.requires.few.clauses.ends
+
 pub loop-c-init-derived : goal.loop-c-init-derived
 loop-c-init-derived c =
     let few = c.requires.few.few_clauses in
